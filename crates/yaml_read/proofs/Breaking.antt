@@ -1,10 +1,9 @@
 -- Where bytes break off: at a word, behind words, and in a line.
 use Rattle.yaml_base.proofs.Common.{ℕ, ◌+◌, ◌*◌, ◌<◌, [], ◌∷◌, ◌++◌, ◌≡◌, ◌∙◌, zero, suc, None, List, refl, ap, subst, sym, inl, inr, arith, append_assoc}
 use Rattle.yaml_base.{proofs.Common.codes, proofs.Common.flat_map, proofs.Common.replicate, proofs.Common.space, specs.values.ValueText.line_at}
-use Rattle.std.specs.Prelude.{Result, Ok, Err, IfErr}
 use Rattle.std.proofs.lemmas.List.{replicate-append-replicate}
 use Rattle.yaml_read.specs.Grammar.{these_or_those, entry_end, levels_then, line_then, nothing, word_then}
-use Rattle.yaml_read.specs.Places.{BreaksAt, BreaksOff, IsHere, LacksLevel, LacksLine, no_level, no_line}
+use Rattle.yaml_read.specs.Places.{BreaksAt, BreaksOff, IsHere, LacksLine, no_level, no_line}
 use Rattle.yaml_read.{specs.Words.past_word, specs.declared.errors.Stop.Stop, proofs.Words.no_word}
 use Rattle.yaml_read.specs.declared.errors.Stop.TheVariants as stop
 
@@ -174,12 +173,6 @@ pub line_passed : (depth : ℕ) (bytes rest : List ℕ) (More : List (List ℕ) 
 line_passed depth bytes rest More error is breaks =
     behind_word (levels_then depth More) (codes "\n") bytes (replicate (depth * 2) space ++ rest) error is
     (levels_passed depth (replicate (depth * 2) space ++ rest) rest More error refl breaks)
-
--- a line that can't be read
-pub level_behind : {T : Type 0} (depth : ℕ) (text line : List ℕ) (result : Result T Stop) → text ≡ codes "\n" ++ line
-    → IfErr result (LacksLevel depth line) → IfErr result (LacksLine depth text)
-level_behind depth text line (Ok found) is lacks = tt
-level_behind depth text line (Err error) is lacks = no_level line is lacks
 
 -- ---- entries
 

@@ -1,10 +1,10 @@
 -- From the events of a node's text to the document of these bytes, and to why there is none.
 use Rattle.yaml_base.proofs.Common.{ℕ, ◌-◌, ◌==◌, Bool, true, false, None, List, [], ◌∷◌, ◌++◌, refl, ◌≡◌, ap, subst, sym, ◌∙◌, ◌⊎◌, inl, inr, All, codes}
-use Rattle.yaml_base.proofs.Common.{flat_map, length, map, encode_utf8_all, line_feed, Text, if◌then◌else◌}
+use Rattle.yaml_base.proofs.Common.{flat_map, length, encode_utf8_all, line_feed, Text, if◌then◌else◌}
 use Rattle.yaml_base.specs.graphs.Meetings.{Graph, document_event_list, graph_steps, step_events}
-use Rattle.yaml_base.{specs.Event.Event, specs.Event.document_end, specs.Seen.seen_event, specs.graphs.Documents.graph_of, specs.graphs.Isomorphic.Isomorphic}
-use Rattle.yaml_base.{specs.Event.document_start, specs.declared.documents.yaml_document_t.yaml_document_t, specs.declared.events.yaml_event_t.yaml_event_t}
-use Rattle.std.specs.{Prelude.IfErr, Prelude.IfOk, Prelude.Result, Prelude.Ok, Prelude.Err, Prelude.Vec, Str.IsUtf8, Str.IsValidUpTo}
+use Rattle.yaml_base.{specs.Event.Event, specs.Event.document_end, specs.graphs.Documents.graph_of, specs.graphs.Isomorphic.Isomorphic}
+use Rattle.yaml_base.{specs.Event.document_start, specs.declared.documents.yaml_document_t.yaml_document_t}
+use Rattle.std.specs.{Prelude.IfErr, Prelude.IfOk, Prelude.Result, Prelude.Ok, Prelude.Err, Str.IsUtf8, Str.IsValidUpTo}
 use Rattle.yaml_read.specs.DocumentPlaces.{AreEventsOf, AreRunBytes, ComposesNode, DocumentStops, IsDocumentPlaced}
 use Rattle.yaml_read.specs.DocumentTexts.{AreDumpedBytes, unstyled_graph}
 use Rattle.yaml_read.specs.{Errors.Tells, Places.HasPlaceOf, Places.IsHere, RunPlaces.RunStops, RunPlaces.in_document, Words.OrMemory, Words.past_word}
@@ -17,24 +17,20 @@ use Rattle.yaml_read.specs.declared.errors.Stop.TheVariants as stop
 -- ---- events
 
 -- what the events behind a document's first line tell
-pub events_sound : {A : Type 0} (text behind : List ℕ) (answer : Result (Vec (yaml_event_t A) A) Stop) → text ≡ codes "---\n" ++ behind
-    → IfOk answer (λ found. (events : List Event) × (node : Text) × (map seen_event found.items ≡ in_document events)
-    × HasRunText [] events node × All IsInNode events × (behind ≡ encode_utf8_all (node ++ line_feed ∷ [])))
-    → IfOk answer (λ found. AreEventsOf text (map seen_event found.items))
-events_sound text behind (Ok found) is (events, node, whole, run, in_node, parts) =
+pub events_sound : (text behind : List ℕ) (found : List Event) → text ≡ codes "---\n" ++ behind
+    → (events : List Event) × (node : Text) × (found ≡ in_document events) × HasRunText [] events node × All IsInNode events
+    × (behind ≡ encode_utf8_all (node ++ line_feed ∷ [])) → AreEventsOf text found
+events_sound text behind found is (events, node, whole, run, in_node, parts) =
     record {
       events = events;
       whole = whole;
       run = record { node = node; run = run; in_node = in_node; parts = is ∙ ap (λ t. codes "---\n" ++ t) parts };
     }
-events_sound text behind (Err error) is sound = tt
 
-pub events_stop : {T : Type 0} (text behind : List ℕ) (answer : Result T Stop) → text ≡ codes "---\n" ++ behind → IfErr answer (RunStops behind)
-    → IfErr answer (DocumentStops text)
-events_stop text behind (Ok found) is stops = tt
-events_stop text behind (Err (stop.Refused left)) is stops = inr (behind, is, stops)
-events_stop text behind (Err (stop.TooDeep left)) is stops = stops
-events_stop text behind (Err stop.Memory) is stops = tt
+pub events_stop : (text behind : List ℕ) (error : Stop) → text ≡ codes "---\n" ++ behind → RunStops behind error → DocumentStops text error
+events_stop text behind (stop.Refused left) is stops = inr (behind, is, stops)
+events_stop text behind (stop.TooDeep left) is stops = stops
+events_stop text behind stop.Memory is stops = tt
 
 -- a document's first line is missing
 pub first_line_stops : (text : List ℕ) (error : Stop) → past_word (codes "---\n") text ≡ None → IsHere text error → DocumentStops text error

@@ -17,6 +17,8 @@ pub mod CharactersRead
 pub mod DigitsRead
 pub mod HeadsRead
 pub mod Stepping
+pub mod Taken
+pub mod Begun
 pub mod WrittenValues
 pub mod Breaking
 pub mod Entries

@@ -1,12 +1,8 @@
 -- Levels of a program as they are seen.
-use Rattle.yaml_base.proofs.Common.{ℕ, ◌+◌, suc, List, [], ◌∷◌, ◌++◌, refl, ◌≡◌, ap, subst, ◌∙◌, arith, length, length-append}
-use Rattle.yaml_base.specs.values.TypedValues.{TypedValue}
-use Rattle.std.specs.Prelude.{Result}
-use Rattle.yaml_value.specs.OpenLevels.{OpenLevel, items_open, onto, pairs_open, seen_level, seen_levels, value_due, with_value}
+use Rattle.yaml_base.proofs.Common.{ℕ, ◌+◌, suc, List, [], ◌∷◌, ◌++◌, ◌≡◌, ap, ◌∙◌, arith, length, length-append}
+use Rattle.yaml_value.specs.OpenLevels.{OpenLevel, onto, seen_level, seen_levels}
 use Rattle.yaml_value.specs.declared.levels.Level.{Level}
 use Rattle.yaml_value.proofs.SeenLevels.{level_more}
-use Rattle.yaml_read.specs.Stepped.{LastTaken, ValueTaken}
-use Rattle.yaml_read.specs.{declared.errors.Stop.Stop, declared.levels.Turn.Turn}
 
 onto_length : {A : Type 0} (outer : List OpenLevel) (levels : List (Level A)) → length (onto outer levels) ≡ length outer + length levels
 onto_length outer [] = omega arith
@@ -28,13 +24,3 @@ pushed_on level old new items = (level_more old new level items, ap length items
   where
     one : (n : ℕ) → n + 1 ≡ suc n
     one n = omega arith
-
--- the value that a list or a map was given is the one that it took last
-pub took_last : {A : Type 0} (depth : ℕ) (level more : OpenLevel) (value : TypedValue) (text : List ℕ) (result : Result (Turn A) Stop)
-    → more ≡ with_value level value → LastTaken depth more text result → ValueTaken depth level value text result
-took_last depth level more value text result is last = by level value (subst (λ (taken : OpenLevel). LastTaken depth taken text result) is last)
-  where
-    by : (level : OpenLevel) (value : TypedValue) → LastTaken depth (with_value level value) text result → ValueTaken depth level value text result
-    by (items_open items) value taken = taken items value refl
-    by (pairs_open pairs) value taken = taken
-    by (value_due pairs key) value taken = taken pairs key value refl

@@ -302,12 +302,7 @@ document_sound tag suffix text inside rest cut some same read =
 
 -- ---- by its handle
 
--- what is known of a handle: its prefix and what ends its tag are ASCII, and no tag goes on with that
-pub handle_ascii : (text prefix end inside : List ℕ) → OpensTag text prefix end inside → are_ascii prefix ≡ true
-handle_ascii text _ _ inside (opens_whole _ cut) = refl
-handle_ascii text _ _ inside (opens_type _ none cut) = refl
-handle_ascii text _ _ inside (opens_document _ none also cut) = refl
-
+-- what is known of a handle: what ends its tag is ASCII, and no tag goes on with that
 pub end_ascii : (text prefix end inside : List ℕ) → OpensTag text prefix end inside → are_ascii end ≡ true
 end_ascii text _ _ inside (opens_whole _ cut) = refl
 end_ascii text _ _ inside (opens_type _ none cut) = refl

@@ -4,19 +4,17 @@ use Rattle.yaml_base.proofs.Common.{space, line_feed, Text, encode_utf8_all}
 use Rattle.yaml_base.specs.values.TypedValues.{TypedValue, list_value, map_value, TypedValues, no_values, values_and, TypedPairs, no_value_pairs}
 use Rattle.yaml_base.specs.values.TypedValues.{value_pairs_and, most_nested}
 use Rattle.yaml_base.specs.values.ValueText.{line_at, value_text, document_text}
-use Rattle.std.specs.Prelude.{Result, Ok, Err, Vec}
+use Rattle.std.specs.Prelude.{Result, Ok, Err}
 use Rattle.std.proofs.lemmas.List.{append_cancel_left, replicate-append-replicate}
-use Rattle.yaml_value.{specs.SeenValues.seen_value, specs.SeenValues.seen_values, specs.SeenValues.seen_pairs, specs.declared.value.Value.Value}
 use Rattle.yaml_value.specs.OpenLevels.{OpenLevel, items_open, pairs_open, seen_level, seen_levels, value_due}
 use Rattle.yaml_value.specs.declared.levels.Level.{Level}
-use Rattle.yaml_value.proofs.SeenLevels.{level_more, seen_list, seen_map}
+use Rattle.yaml_value.proofs.SeenLevels.{level_more}
 use Rattle.yaml_read.specs.Remaining.{column_in, Completes, text_ends, item_follows, list_ends, value_follows}
 use Rattle.yaml_read.specs.Remaining.{pair_follows, map_ends, IsDue, IsRead, TurnReached, Reached}
 use Rattle.yaml_read.proofs.Remaining.{Begins, items_begin, pairs_begin, items_behind, pairs_behind, readable_root}
 use Rattle.yaml_read.specs.{Entries.EntryFound, Readable.CanBeRead, Words.past_word, declared.errors.Stop.Stop}
 use Rattle.yaml_read.specs.{Readable.CanBeReadAt, declared.levels.Entry.Entry, declared.levels.Entry.TheVariants.Another, declared.levels.Entry.TheVariants.End}
 use Rattle.yaml_read.proofs.{Encoded.word_encoded, Encoded.line_encoded, HeadTexts.tail_of, HeadTexts.list_tail, HeadTexts.map_tail, Words.no_word}
-use Rattle.yaml_value.specs.declared.value.Value as declared
 use Rattle.yaml_read.specs.declared.errors.Stop.TheVariants as stop
 use Rattle.yaml_read.specs.declared.heads.Kind.TheVariants as kind
 
@@ -289,33 +287,24 @@ turn_error A root levels inner stop.Memory is = tt
 turn_error A root levels inner (stop.Refused n) is = is
 turn_error A root levels inner (stop.TooDeep n) is = is
 
--- what stands behind the last item of a program's list
-pub item_reached : {A : Type 0} (root : TypedValue) (levels : List OpenLevel) (before : TypedValues) (item : TypedValue) (new : Vec (Value A) A)
-    (depth : ℕ) (text : List ℕ) (entry : Result Entry Stop) → seen_values new.items ≡ values_and before item → depth ≡ length levels
-    → IsRead root (items_open before ∷ levels) item text
+-- what stands behind the last item of a list
+pub item_reached : (root : TypedValue) (levels : List OpenLevel) (items : TypedValues) (item : TypedValue) (depth : ℕ) (text : List ℕ)
+    (entry : Result Entry Stop) → depth ≡ length levels → IsRead root (items_open items ∷ levels) item text
     → ((tail : List ℕ) → text ≡ codes "," ++ (line_at (depth * 2) ++ tail) → EntryFound (codes "  ") (codes "]") tail entry)
-    → EntryReached (IsDue root (items_open (seen_values new.items) ∷ levels)) (IsRead root levels (seen_value (declared.List new))) entry
-item_reached root levels before item new depth text entry more is read found =
-    subst (λ value. EntryReached (IsDue root (items_open (seen_values new.items) ∷ levels)) (IsRead root levels value) entry)
-    (sym (seen_list new ∙ ap list_value more))
-    (subst (λ values. EntryReached (IsDue root (items_open values ∷ levels)) (IsRead root levels (list_value (values_and before item))) entry) (sym more)
-    (reached_at (codes "  ") (codes "]") (IsDue root (items_open (values_and before item) ∷ levels))
-    (IsRead root levels (list_value (values_and before item))) depth (length levels) text entry
-    (item_ends root levels before item text read) is found))
+    → EntryReached (IsDue root (items_open (values_and items item) ∷ levels)) (IsRead root levels (list_value (values_and items item))) entry
+item_reached root levels items item depth text entry is read found =
+    reached_at (codes "  ") (codes "]") (IsDue root (items_open (values_and items item) ∷ levels))
+    (IsRead root levels (list_value (values_and items item))) depth (length levels) text entry (item_ends root levels items item text read) is found
 
--- what stands behind the last pair of a program's map
-pub pair_reached : {A : Type 0} (root : TypedValue) (levels : List OpenLevel) (before : TypedPairs) (key value : TypedValue)
-    (new : Vec (Value A × Value A) A) (depth : ℕ) (text : List ℕ) (entry : Result Entry Stop)
-    → seen_pairs new.items ≡ value_pairs_and before key value → depth ≡ length levels → IsRead root (value_due before key ∷ levels) value text
+-- what stands behind the last pair of a map
+pub pair_reached : (root : TypedValue) (levels : List OpenLevel) (pairs : TypedPairs) (key value : TypedValue) (depth : ℕ) (text : List ℕ)
+    (entry : Result Entry Stop) → depth ≡ length levels → IsRead root (value_due pairs key ∷ levels) value text
     → ((tail : List ℕ) → text ≡ codes "," ++ (line_at (depth * 2) ++ tail) → EntryFound (codes "  ? ") (codes "}") tail entry)
-    → EntryReached (IsDue root (pairs_open (seen_pairs new.items) ∷ levels)) (IsRead root levels (seen_value (declared.Map new))) entry
-pair_reached root levels before key value new depth text entry more is read found =
-    subst (λ value. EntryReached (IsDue root (pairs_open (seen_pairs new.items) ∷ levels)) (IsRead root levels value) entry)
-    (sym (seen_map new ∙ ap map_value more))
-    (subst (λ pairs. EntryReached (IsDue root (pairs_open pairs ∷ levels)) (IsRead root levels (map_value (value_pairs_and before key value))) entry) (sym more)
-    (reached_at (codes "  ? ") (codes "}") (IsDue root (pairs_open (value_pairs_and before key value) ∷ levels))
-    (IsRead root levels (map_value (value_pairs_and before key value))) depth (length levels) text entry
-    (pair_ends root levels before key value text read) is found))
+    → EntryReached (IsDue root (pairs_open (value_pairs_and pairs key value) ∷ levels)) (IsRead root levels (map_value (value_pairs_and pairs key value))) entry
+pair_reached root levels pairs key value depth text entry is read found =
+    reached_at (codes "  ? ") (codes "}") (IsDue root (pairs_open (value_pairs_and pairs key value) ∷ levels))
+    (IsRead root levels (map_value (value_pairs_and pairs key value))) depth (length levels) text entry
+    (pair_ends root levels pairs key value text read) is found
 
 -- what stands behind a key
 pub key_bytes : (root : TypedValue) (levels : List OpenLevel) (pairs : TypedPairs) (key : TypedValue) (depth : ℕ) (text : List ℕ)

@@ -1,15 +1,12 @@
 -- What was read of the events of a document.
-use Rattle.std.specs.Prelude.{◌≡◌, true, Option, Result, Ok, Err, IfErr, IfOk, List, Vec, ℕ, [], ◌∷◌, ◌++◌, All, codes, map}
+use Rattle.std.specs.Prelude.{◌≡◌, true, Option, Result, Ok, Err, List, ℕ, [], ◌∷◌, ◌++◌, All, codes}
 use Rattle.std.specs.Borrow.{Bor}
 use Rattle.std.specs.Str.{encode_utf8_all}
 use Rattle.yaml_base.specs.Characters.{Text, line_feed}
 use Rattle.yaml_base.specs.Event.{Event, document_start, document_end}
-use Rattle.yaml_base.specs.Seen.{seen_event}
-use Rattle.yaml_base.specs.declared.events.yaml_event_t.{yaml_event_t}
 use Rattle.yaml_read.specs.EventSteps.{ReadsEvent, ReadsNode, text_behind_lead}
 use Rattle.yaml_read.specs.EventTexts.{Pending, BeginsNode, HasRunText, IsInNode, ends_name, event_text, may_come}
 use Rattle.yaml_read.specs.RunPlaces.{RunStops, StopsAmong, bare_start, in_document}
-use Rattle.yaml_read.specs.Words.{OrMemory}
 use Rattle.yaml_read.specs.declared.errors.Stop.{Stop}
 use Rattle.yaml_read.specs.declared.errors.Stop.TheVariants as stop
 
@@ -80,11 +77,3 @@ pub record IsEventRun (whole : List ℕ) (found : List Event) : Type 0 where
 abbrev pub RunAnswer : {T : Type 0} (whole : List ℕ) (found : List Event) → Result T Stop → Type 0
 RunAnswer whole found (Ok _) = IsEventRun whole found
 RunAnswer whole found (Err error) = RunFails whole error
-
--- the events of a document whose text, behind its first line, this is
-pub record EventsRead {A : Type 0} (whole : List ℕ) (result : Result (Vec (yaml_event_t A) A) Stop) : Type 0 where
-  pub reads : (events : List Event) (node : Text) → HasRunText [] events node → All IsInNode events
-      → whole ≡ encode_utf8_all (node ++ line_feed ∷ []) → OrMemory (λ found. map seen_event found.items ≡ in_document events) result
-  pub sound : IfOk result (λ found. (events : List Event) × (node : Text) × (map seen_event found.items ≡ in_document events)
-      × HasRunText [] events node × All IsInNode events × (whole ≡ encode_utf8_all (node ++ line_feed ∷ [])))
-  pub stops : IfErr result (RunStops whole)

@@ -5,7 +5,6 @@ use Rattle.std.specs.Fmt.{signed_decimal}
 use Rattle.std.specs.Int.Signed.{mag}
 use Rattle.std.specs.Str.{all_scalars, encode_utf8_all}
 use Rattle.yaml_base.specs.Characters.{Text, hex_digits}
-use Rattle.yaml_base.specs.reading.ReadDouble.{letter_meaning}
 use Rattle.yaml_base.specs.scalars.DoubleQuoted.{character_text, escape_after_backslash, letter_among, needs_escape, short_escapes}
 use Rattle.yaml_base.specs.values.TypedValues.{TypedValue, bool_text, bool_value, int_value}
 use Rattle.yaml_base.specs.values.ValueText.{in_quotes, value_text}
@@ -40,12 +39,6 @@ pub record IsCharacter (bytes : List ℕ) (c : ℕ) (rest : List ℕ) : Type 0 w
   pub text : bytes ≡ encode_utf8_all (character_text true c) ++ rest
 
 -- ---- the code's answers
-
--- a letter behind a backslash is one of an escape, and it is the only one; or it is none
-pub record LetterRead (letter : ℕ) (bytes : List ℕ) (result : Option (ℕ × Bor (List ℕ))) : Type 0 where
-  pub reads : (c : ℕ) → needs_escape true c ≡ true → letter_meaning letter ≡ Some c
-      → MatchOption result ⊥ (λ found. (found.0 ≡ c) × (found.1.now ≡ bytes))
-  pub sound : IfSome result (λ found. (letter_meaning letter ≡ Some found.0) × (needs_escape true found.0 ≡ true) × (found.1.now ≡ bytes))
 
 pub record EscapeRead (bytes : List ℕ) (result : Option (ℕ × Bor (List ℕ))) : Type 0 where
   pub reads : (c : ℕ) (rest : Text) → all_scalars (c ∷ []) ≡ true → needs_escape true c ≡ true

@@ -1,10 +1,10 @@
 -- What the reader of a node and of what follows a node answers.
-use Rattle.std.specs.Prelude.{ℕ, suc, ◌*◌, ◌<◌, ◌≤◌, ◌≡◌, None, Result, Ok, Err, IfErr, IfOk, List, ◌∷◌, ◌++◌, String, codes, length, true}
+use Rattle.std.specs.Prelude.{ℕ, suc, ◌*◌, ◌<◌, ◌≤◌, ◌≡◌, None, Result, Ok, Err, IfErr, IfOk, List, [], ◌∷◌, ◌++◌, String, codes, length, true}
 use Rattle.std.specs.Borrow.{Bor}
 use Rattle.std.specs.Str.{all_scalars, encode_utf8_all}
 use Rattle.yaml_base.specs.Characters.{Text}
 use Rattle.yaml_base.specs.Seen.{seen_text}
-use Rattle.yaml_base.specs.values.TypedValues.{TypedValue, TypedValues, values_and, TypedPairs, value_pairs_and, most_nested}
+use Rattle.yaml_base.specs.values.TypedValues.{TypedValue, list_value, map_value, most_nested, no_value_pairs, no_values}
 use Rattle.yaml_base.specs.values.ValueText.{document_text, in_quotes, line_at, value_text}
 use Rattle.yaml_value.specs.OpenLevels.{OpenLevel, items_open, pairs_open, value_due}
 use Rattle.yaml_value.specs.{SeenValues.seen_value, declared.value.Value.Value}
@@ -21,6 +21,7 @@ use Rattle.yaml_read.specs.Words.{Cuts, OrMemory, past_word}
 use Rattle.yaml_read.specs.declared.errors.Stop.{Stop}
 use Rattle.yaml_read.specs.declared.errors.Stop.TheVariants as stop
 use Rattle.yaml_read.specs.declared.heads.Kind.{Kind}
+use Rattle.yaml_read.specs.declared.heads.Kind.TheVariants as kind
 use Rattle.yaml_read.specs.declared.levels.Entry.{Entry}
 use Rattle.yaml_read.specs.declared.levels.Entry.TheVariants.{Another, End}
 use Rattle.yaml_read.specs.declared.levels.Next.{Next}
@@ -91,10 +92,6 @@ pub data BracketLacks (depth : ℕ) (bracket text behind : List ℕ) (error : St
   no_bracket : past_word bracket behind ≡ None → IsHere behind error → BracketLacks depth bracket text behind error
   no_room : (inside : List ℕ) → behind ≡ bracket ++ inside → most_nested ≤ depth → IsDeepHere text error → BracketLacks depth bracket text behind error
 
-abbrev pub BracketRead : (depth : ℕ) → (bracket text behind : List ℕ) → Result (Bor (List ℕ)) Stop → Type 0
-BracketRead depth bracket text behind (Ok inside) = (behind ≡ bracket ++ inside.now) × (depth < most_nested)
-BracketRead depth bracket text behind (Err error) = BracketLacks depth bracket text behind error
-
 -- behind an opening bracket no line of this depth stands, or no lead in it; or memory gave out
 pub data EntryLacks (depth : ℕ) (lead text : List ℕ) (error : Stop) : Type 0 where
   no_memory : error ≡ stop.Memory → EntryLacks depth lead text error
@@ -113,6 +110,11 @@ Entered level lead before after text (Ok (Done value)) = ⊥
 Entered level lead before after text (Ok (Node rest)) =
     (after ≡ level ∷ before) × (text ≡ line_at (suc (length before) * 2) ++ (lead ++ rest.now))
 Entered level lead before after text (Err error) = EntryLacks (suc (length before)) lead text error
+
+-- a list or a map without a node in it, by its kind: its brackets, and what leads to its first node
+pub data IsEmptyLevel : OpenLevel → Kind → (bracket end lead : List ℕ) → Type 0 where
+  empty_list_level : IsEmptyLevel (items_open no_values) kind.List (codes "[") (codes "]") []
+  empty_map_level : IsEmptyLevel (pairs_open no_value_pairs) kind.Map (codes "{") (codes "}") (codes "? ")
 
 -- ---- entries
 
@@ -139,13 +141,19 @@ pub record ValueTaken {A : Type 0} (depth : ℕ) (level : OpenLevel) (value : Ty
   pub breaks : IfErr result (BreaksAt (behind_in depth level) text)
   pub shorter : IfOk result (TurnShorter text)
 
--- behind the value that such a list or a map took last
-abbrev pub LastTaken : {A : Type 0} → (depth : ℕ) → OpenLevel → (text : List ℕ) → Result (Turn A) Stop → Type 0
-LastTaken depth (items_open items) text result =
-    (before : TypedValues) (item : TypedValue) → items ≡ values_and before item → ValueTaken depth (items_open before) item text result
-LastTaken depth (value_due pairs key) text result = ValueTaken depth (pairs_open pairs) key text result
-LastTaken depth (pairs_open pairs) text result =
-    (before : TypedPairs) (key value : TypedValue) → pairs ≡ value_pairs_and before key value → ValueTaken depth (value_due before key) value text result
+-- behind the value that such a list or a map took last: another node in it, or its end; a value follows a key
+abbrev pub BehindRead : (depth : ℕ) → OpenLevel → (text : List ℕ) → Result Entry Stop → Type 0
+BehindRead depth (items_open items) text result = EntryRead depth (codes "  ") (codes "]") text result
+BehindRead depth (pairs_open pairs) text result = EntryRead depth (codes "  ? ") (codes "}") text result
+BehindRead depth (value_due pairs key) text (Ok (Another rest)) = LeadCut depth (codes "  : ") text (Ok rest)
+BehindRead depth (value_due pairs key) text (Ok (End rest)) = ⊥
+BehindRead depth (value_due pairs key) text (Err error) = LeadCut depth (codes "  : ") text (Err error)
+
+-- a list or a map as a value; a key that awaits its value isn't in it
+abbrev pub closed_value : OpenLevel → TypedValue
+closed_value (items_open items) = list_value items
+closed_value (pairs_open pairs) = map_value pairs
+closed_value (value_due pairs key) = map_value pairs
 
 -- ---- documents
 

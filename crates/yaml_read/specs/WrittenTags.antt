@@ -48,11 +48,6 @@ abbrev pub ByteRead : (text : List ℕ) → Option (ℕ × Bor (List ℕ)) → T
 ByteRead text (Some found) = (text ≡ byte_in_tag found.0 ++ found.1.now) × (found.0 < 256)
 ByteRead text None = (byte : ℕ) (rest : Text) → byte < 256 → text ≢ encode_utf8_all (byte_in_tag byte ++ rest)
 
--- a handle, or none stands there
-abbrev pub HandleRead : (text : List ℕ) → Option (Bor (List ℕ) × Bor (List ℕ) × Bor (List ℕ)) → Type 0
-HandleRead text (Some found) = OpensTag text found.0.now found.1.now found.2.now
-HandleRead text None = past_word (codes "!") text ≡ None
-
 -- ---- nodes
 
 -- what stands behind a node's tag: a text between quotes, or the opening bracket of a collection

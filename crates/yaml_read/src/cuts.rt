@@ -1,9 +1,7 @@
 //! The rest of a text behind a word or a character at its beginning.
-ghost use Rattle.std.specs.Prelude.{◌≡◌, ◌++◌, ◌*◌, ◌≤◌, IfErr, IfOk, MatchOption, encode_utf8, length, replicate};
-ghost use Rattle.yaml_base.specs.Characters.{space};
-ghost use Rattle.yaml_read.specs.Places.{EndsText, IndentCut, LacksLevel, PastWord, WordCut};
+ghost use Rattle.std.specs.Prelude.{◌≡◌, ◌++◌, MatchOption, encode_utf8, length};
+ghost use Rattle.yaml_read.specs.Places.{EndsText, IndentCut, PastWord, WordCut};
 ghost use Rattle.yaml_read.specs.Stepped.{LeadCut};
-ghost use Rattle.yaml_read.specs.Words.{Cuts};
 
 use crate::errors::{Stop, refused_at};
 
@@ -54,13 +52,14 @@ pub(crate) fn end_text(text: &str) -> Result<(), Stop>
     }
 }
 
-/// Returns what follows the indentation of a depth.
-fn after_spaces(text: &str, depth: usize) -> Result<&str, Stop>
-    ensures cut { Cuts (replicate (depth * 2) space) text.now result }
-    ensures lacks { IfErr result (LacksLevel depth text.now) }
-    ensures shorter { IfOk result (λ rest. length rest.now ≤ length text.now) }
+/// Returns what follows a line's end and the indentation of a depth.
+pub(crate) fn after_indent(text: &str, depth: usize) -> Result<&str, Stop>
+    ensures { IndentCut depth text.now result }
 {
-    let mut rest = text;
+    let mut rest = match after(text, "\n") {
+        Ok(line) => line,
+        Err(stop) => return Err(stop),
+    };
     for _level in 0..depth {
         match after(rest, "  ") {
             Ok(next) => rest = next,
@@ -68,16 +67,6 @@ fn after_spaces(text: &str, depth: usize) -> Result<&str, Stop>
         }
     }
     Ok(rest)
-}
-
-/// Returns what follows a line's end and the indentation of a depth.
-pub(crate) fn after_indent(text: &str, depth: usize) -> Result<&str, Stop>
-    ensures { IndentCut depth text.now result }
-{
-    match after(text, "\n") {
-        Ok(line) => after_spaces(line, depth),
-        Err(stop) => Err(stop),
-    }
 }
 
 /// Returns what follows a line's end, the indentation of a depth, and a word.

@@ -6,30 +6,16 @@ ghost use Rattle.yaml_base.specs.graphs.Documents.{graph_of};
 ghost use Rattle.yaml_base.specs.graphs.Isomorphic.{Isomorphic};
 ghost use Rattle.yaml_base.specs.graphs.Meetings.{Graph};
 ghost use Rattle.yaml_dump.specs.InOrder.{in_order};
-ghost use Rattle.yaml_read.specs.DocumentPlaces.{ComposesNode, DocumentEventsRead, IsDocumentPlaced};
+ghost use Rattle.yaml_read.specs.DocumentPlaces.{ComposesNode, IsDocumentPlaced};
 ghost use Rattle.yaml_read.specs.DocumentTexts.{AreDumpedBytes, unstyled_graph};
 ghost use Rattle.yaml_read.specs.RunPlaces.{in_document};
 
-use crate::cuts::after;
-use crate::errors::{ReadError, Stop};
+use crate::errors::ReadError;
 use crate::reading::{error_of, not_canonical};
 use crate::runs::read_events;
 use std::alloc::Allocator;
 use yaml_base::{yaml_document_t, yaml_event_t};
 use yaml_dump::{ComposeError, document_of_events};
-
-/// Returns the events of a document of this text.
-fn events_of_text<A: Allocator + Copy>(
-    alloc: A,
-    text: &str,
-) -> Result<Vec<yaml_event_t<A>, A>, Stop>
-    ensures { DocumentEventsRead text.now result }
-{
-    match after(text, "---\n") {
-        Ok(node) => read_events(alloc, node),
-        Err(stop) => Err(stop),
-    }
-}
 
 /// Returns the document that has these events.
 fn composed<A: Allocator + Copy>(
@@ -71,7 +57,7 @@ pub fn read_document<A: Allocator + Copy>(
     ensures placed { IfErr result (IsDocumentPlaced bytes.now) }
 {
     match std::str::from_utf8(bytes) {
-        Ok(text) => match events_of_text(alloc, text) {
+        Ok(text) => match read_events(alloc, text) {
             Ok(events) => composed(alloc, events.as_slice()),
             Err(stop) => Err(error_of(bytes, stop)),
         },

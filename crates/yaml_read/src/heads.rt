@@ -39,19 +39,6 @@ fn read_integer<A: Allocator + Copy>(alloc: A, text: &str) -> Result<(Value<A>, 
     }
 }
 
-/// Reads a truth value between quotes.
-fn read_truth<A: Allocator>(text: &str) -> Result<(Value<A>, &str), Stop>
-    ensures { ScalarRead kind.Bool text.now result }
-{
-    match past(text, "\"true\"") {
-        Some(rest) => Ok((Value::Bool(true), rest)),
-        None => match after(text, "\"false\"") {
-            Ok(rest) => Ok((Value::Bool(false), rest)),
-            Err(stop) => Err(stop),
-        },
-    }
-}
-
 /// The kinds of nodes, by their tags.
 #[derive(Clone, Copy)]
 pub(crate) enum Kind {
@@ -102,7 +89,13 @@ pub(crate) fn read_scalar<A: Allocator + Copy>(
             Ok(rest) => Ok((Value::Null, rest)),
             Err(stop) => Err(stop),
         },
-        Kind::Bool => read_truth(text),
+        Kind::Bool => match past(text, "\"true\"") {
+            Some(rest) => Ok((Value::Bool(true), rest)),
+            None => match after(text, "\"false\"") {
+                Ok(rest) => Ok((Value::Bool(false), rest)),
+                Err(stop) => Err(stop),
+            },
+        },
         Kind::Int => read_integer(alloc, text),
         _ => match read_quoted(alloc, text) {
             Ok((value, rest)) => Ok((Value::Text(value), rest)),

@@ -1,7 +1,7 @@
 //! The text before an event of a document.
-ghost use Rattle.std.specs.Prelude.{◌≡◌, ◌∷◌, ◌++◌, ◌*◌, [], List, MatchOption, length};
+ghost use Rattle.std.specs.Prelude.{◌≡◌, ◌++◌, ◌*◌, [], List, MatchOption, length};
 ghost use Rattle.yaml_base.specs.values.ValueText.{line_at};
-ghost use Rattle.yaml_read.specs.Awaits.{EntryStands, IsInnermostAwait, IsLastAwait, LeadStands, seen_await};
+ghost use Rattle.yaml_read.specs.Awaits.{EntryStands, IsInnermostAwait, IsLastAwait, LeadStands};
 ghost use Rattle.yaml_read.specs.EventTexts.{Pending};
 ghost use Rattle.yaml_read.specs.Stepped.{LineEntryRead};
 
@@ -66,22 +66,6 @@ pub(crate) fn another_entry<'a>(
     }
 }
 
-/// Returns what follows the lead of a node in a collection that lies so deep, or its end.
-fn lead_in<'a>(awaited: Await, depth: usize, text: &'a str) -> Result<Entry<'a>, Stop>
-    ensures { (outer : List Pending) → depth ≡ length outer → LeadStands (seen_await awaited ∷ outer) text.now result }
-{
-    match awaited {
-        Await::FirstItem => first_entry(text, depth, "  ", "]"),
-        Await::Item => another_entry(text, depth, "  ", "]"),
-        Await::FirstKey => first_entry(text, depth, "  ? ", "}"),
-        Await::Key => another_entry(text, depth, "  ? ", "}"),
-        Await::Value => match after_lead(text, depth, "  : ") {
-            Ok(rest) => Ok(Entry::Another(rest)),
-            Err(stop) => Err(stop),
-        },
-    }
-}
-
 /// Returns what follows the lead of a node, or the end of the innermost collection, where so many are open.
 pub(crate) fn read_lead<'a>(
     innermost: Option<Await>,
@@ -90,8 +74,18 @@ pub(crate) fn read_lead<'a>(
 ) -> Result<Entry<'a>, Stop>
     ensures { (levels : List Pending) → IsInnermostAwait levels innermost → count ≡ length levels → LeadStands levels text.now result }
 {
+    let depth = count.saturating_sub(1);
     match innermost {
         None => Ok(Entry::Another(text)),
-        Some(awaited) => lead_in(awaited, count.saturating_sub(1), text),
+        Some(awaited) => match awaited {
+            Await::FirstItem => first_entry(text, depth, "  ", "]"),
+            Await::Item => another_entry(text, depth, "  ", "]"),
+            Await::FirstKey => first_entry(text, depth, "  ? ", "}"),
+            Await::Key => another_entry(text, depth, "  ? ", "}"),
+            Await::Value => match after_lead(text, depth, "  : ") {
+                Ok(rest) => Ok(Entry::Another(rest)),
+                Err(stop) => Err(stop),
+            },
+        },
     }
 }

@@ -1,10 +1,10 @@
 //! The lists and maps that are open.
-ghost use Rattle.std.specs.Prelude.{◌≡◌, ◌++◌, [], List, length};
+ghost use Rattle.std.specs.Prelude.{◌≡◌, ◌++◌};
 ghost use Rattle.yaml_read.specs.Heads.{tag_word};
-ghost use Rattle.yaml_read.specs.Stepped.{BracketRead, Entered, EntryRead, LastTaken, NodeStepped, ValueSettled, ValueTaken};
-ghost use Rattle.yaml_read.specs.declared.heads.Kind.TheVariants as kind;
-ghost use Rattle.yaml_value.specs.OpenLevels.{OpenLevel, items_open, pairs_open, seen_level, seen_levels, value_due};
-ghost use Rattle.yaml_value.specs.SeenValues.{seen_pairs, seen_value, seen_values};
+ghost use Rattle.yaml_read.specs.Stepped.{BehindRead, Entered, EntryRead, IsEmptyLevel, NodeStepped, ValueSettled, ValueTaken, closed_value};
+ghost use Rattle.yaml_read.specs.declared.heads.Kind.{Kind};
+ghost use Rattle.yaml_value.specs.OpenLevels.{seen_level, seen_levels};
+ghost use Rattle.yaml_value.specs.SeenValues.{seen_value};
 
 use crate::cuts::{after, after_lead, end_text, past};
 use crate::errors::Stop;
@@ -46,50 +46,34 @@ fn next_entry<'a>(text: &'a str, depth: usize, lead: &str, end: &str) -> Result<
     }
 }
 
-/// Reads what follows the last item of a list.
-fn behind_item<'a, A: Allocator>(
-    items: Vec<Value<A>, A>,
+/// Returns what follows the value that a list or a map took last: what leads to another node in it, or the end.
+fn behind_value<'a, A: Allocator>(
+    level: &Level<A>,
     text: &'a str,
     depth: usize,
-) -> Result<Turn<'a, A>, Stop>
-    ensures { LastTaken depth (items_open (seen_values items.items)) text.now result }
+) -> Result<Entry<'a>, Stop>
+    ensures { BehindRead depth (seen_level level.now) text.now result }
 {
-    match next_entry(text, depth, "  ", "]") {
-        Ok(Entry::Another(rest)) => Ok(Turn::Continues(Level::Items(items), rest)),
-        Ok(Entry::End(rest)) => Ok(Turn::Ends(Value::List(items), rest)),
-        Err(stop) => Err(stop),
+    match level {
+        Level::Items(_) => next_entry(text, depth, "  ", "]"),
+        Level::Pairs(_) => next_entry(text, depth, "  ? ", "}"),
+        Level::PairsAndKey(_, _) => match after_lead(text, depth, "  : ") {
+            Ok(rest) => Ok(Entry::Another(rest)),
+            Err(stop) => Err(stop),
+        },
     }
 }
 
-/// Reads what follows the last pair of a map.
-fn behind_pair<'a, A: Allocator>(
-    pairs: Vec<(Value<A>, Value<A>), A>,
-    text: &'a str,
-    depth: usize,
-) -> Result<Turn<'a, A>, Stop>
-    ensures { LastTaken depth (pairs_open (seen_pairs pairs.items)) text.now result }
+/// Returns a list or a map that ends as a value. A key that awaits its value isn't in it.
+fn closed_value<A: Allocator>(level: Level<A>) -> Value<A>
+    ensures { seen_value result ≡ closed_value (seen_level level) }
 {
-    match next_entry(text, depth, "  ? ", "}") {
-        Ok(Entry::Another(rest)) => Ok(Turn::Continues(Level::Pairs(pairs), rest)),
-        Ok(Entry::End(rest)) => Ok(Turn::Ends(Value::Map(pairs), rest)),
-        Err(stop) => Err(stop),
-    }
-}
-
-/// Reads what follows a key of a map.
-fn behind_key<'a, A: Allocator>(
-    pairs: Vec<(Value<A>, Value<A>), A>,
-    key: Value<A>,
-    text: &'a str,
-    depth: usize,
-) -> Result<Turn<'a, A>, Stop>
-    ensures { LastTaken depth (value_due (seen_pairs pairs.items) (seen_value key)) text.now result }
-{
-    match after_lead(text, depth, "  : ") {
-        Ok(rest) => Ok(Turn::Continues(Level::PairsAndKey(pairs, key), rest)),
-        Err(stop) => {
+    match level {
+        Level::Items(items) => Value::List(items),
+        Level::Pairs(pairs) => Value::Map(pairs),
+        Level::PairsAndKey(pairs, key) => {
             drop(key);
-            Err(stop)
+            Value::Map(pairs)
         }
     }
 }
@@ -104,40 +88,29 @@ fn take_value<'a, A: Allocator>(
     ensures { ValueTaken depth (seen_level level) (seen_value value) text.now result }
 {
     match level.with(value) {
-        Ok(more) => match more {
-            Level::Items(items) => behind_item(items, text, depth),
-            Level::Pairs(pairs) => behind_pair(pairs, text, depth),
-            Level::PairsAndKey(pairs, key) => behind_key(pairs, key, text, depth),
+        Ok(more) => match behind_value(&more, text, depth) {
+            Ok(Entry::Another(rest)) => Ok(Turn::Continues(more, rest)),
+            Ok(Entry::End(rest)) => Ok(Turn::Ends(closed_value(more), rest)),
+            Err(stop) => {
+                drop(more);
+                Err(stop)
+            }
         },
         Err(_) => Err(Stop::Memory),
     }
 }
 
-/// Ends the text: behind the outermost value comes a line's end, and nothing else.
-fn finish<'a, A: Allocator>(value: Value<A>, text: &'a str) -> Result<Next<'a, A>, Stop>
-    ensures { (levels : List OpenLevel) → ValueSettled [] levels (seen_value value) text.now result }
-{
-    match end_text(text) {
-        Ok(()) => Ok(Next::Done(value)),
-        Err(stop) => {
-            drop(value);
-            Err(stop)
-        }
-    }
-}
-
-/// Gives a value to the innermost list or map, and each that ends with it to the one around it.
+/// Gives a value to the innermost list or map, and each that ends with it to the one around it. Behind the outermost value comes a
+/// line's end, and nothing else.
 pub(crate) fn settle<'a, A: Allocator>(
     levels: &mut Vec<Level<A>, A>,
-    value: Value<A>,
-    text: &'a str,
+    mut value: Value<A>,
+    mut text: &'a str,
 ) -> Result<Next<'a, A>, Stop>
     ensures { ValueSettled (seen_levels levels.old.items) (seen_levels levels.new.items) (seen_value value) text.now result }
 {
-    let mut value = value;
-    let mut rest = text;
     while let Some(level) = levels.pop() {
-        match take_value(level, value, rest, levels.len()) {
+        match take_value(level, value, text, levels.len()) {
             Ok(turn) => match turn {
                 Turn::Continues(level, next) => {
                     return match push(levels, level) {
@@ -147,33 +120,18 @@ pub(crate) fn settle<'a, A: Allocator>(
                 }
                 Turn::Ends(whole, next) => {
                     value = whole;
-                    rest = next;
+                    text = next;
                 }
             },
             Err(stop) => return Err(stop),
         }
     }
-    finish(value, rest)
-}
-
-/// Returns what follows the opening bracket behind a tag, where one more list or map may lie within the open ones.
-fn open<'a, A: Allocator>(
-    levels: &Vec<Level<A>, A>,
-    text: &str,
-    behind: &'a str,
-    bracket: &str,
-) -> Result<&'a str, Stop>
-    ensures { BracketRead (length levels.now.items) bracket.now text.now behind.now result }
-{
-    match after(behind, bracket) {
-        Ok(inside) => {
-            if levels.len() >= MOST_NESTED {
-                Err(Stop::TooDeep(text.len()))
-            } else {
-                Ok(inside)
-            }
+    match end_text(text) {
+        Ok(()) => Ok(Next::Done(value)),
+        Err(stop) => {
+            drop(value);
+            Err(stop)
         }
-        Err(stop) => Err(stop),
     }
 }
 
@@ -195,40 +153,39 @@ fn enter<'a, A: Allocator>(
     }
 }
 
-/// Reads a list behind its tag, up to its first item or to what follows an empty one.
-pub(crate) fn begin_list<'a, A: Allocator + Copy>(
-    alloc: A,
-    levels: &mut Vec<Level<A>, A>,
-    text: &'a str,
-    behind: &'a str,
-) -> Result<Next<'a, A>, Stop>
-    requires { text.now ≡ tag_word kind.List ++ behind.now }
-    ensures { NodeStepped (seen_levels levels.old.items) (seen_levels levels.new.items) text.now result }
-{
-    match open(levels, text, behind, "[") {
-        Ok(inside) => match past(inside, "]") {
-            Some(rest) => settle(levels, Value::List(Vec::new(alloc)), rest),
-            None => enter(levels, Level::Items(Vec::new(alloc)), inside, ""),
-        },
-        Err(stop) => Err(stop),
-    }
+/// The words of a list or a map: its brackets, and what leads to its first node.
+pub(crate) struct Words {
+    pub(crate) bracket: &'static str,
+    pub(crate) end: &'static str,
+    pub(crate) lead: &'static str,
 }
 
-/// Reads a map behind its tag, up to its first key or to what follows an empty one.
-pub(crate) fn begin_map<'a, A: Allocator + Copy>(
-    alloc: A,
+/// Reads a list or a map behind its tag, from its bracket on: up to its first item or key, or to what follows an empty one. It lies
+/// too deep where as many are open as may be.
+pub(crate) fn begin<'a, A: Allocator>(
     levels: &mut Vec<Level<A>, A>,
+    level: Level<A>,
     text: &'a str,
     behind: &'a str,
+    words: &Words,
 ) -> Result<Next<'a, A>, Stop>
-    requires { text.now ≡ tag_word kind.Map ++ behind.now }
-    ensures { NodeStepped (seen_levels levels.old.items) (seen_levels levels.new.items) text.now result }
+    ensures { (kind : Kind) → IsEmptyLevel (seen_level level) kind words.now.bracket.now words.now.end.now words.now.lead.now
+        → text.now ≡ tag_word kind ++ behind.now → NodeStepped (seen_levels levels.old.items) (seen_levels levels.new.items) text.now result }
 {
-    match open(levels, text, behind, "{") {
-        Ok(inside) => match past(inside, "}") {
-            Some(rest) => settle(levels, Value::Map(Vec::new(alloc)), rest),
-            None => enter(levels, Level::Pairs(Vec::new(alloc)), inside, "? "),
-        },
-        Err(stop) => Err(stop),
+    match after(behind, words.bracket) {
+        Ok(inside) => {
+            if levels.len() >= MOST_NESTED {
+                drop(level);
+                return Err(Stop::TooDeep(text.len()));
+            }
+            match past(inside, words.end) {
+                Some(rest) => settle(levels, closed_value(level), rest),
+                None => enter(levels, level, inside, words.lead),
+            }
+        }
+        Err(stop) => {
+            drop(level);
+            Err(stop)
+        }
     }
 }

@@ -77,21 +77,29 @@ fn read_tagged<'a, A: Allocator + Copy>(
 ) -> Result<(yaml_event_t<A>, &'a str), Stop>
     ensures { ReadOr (λ found. IsTaggedRead (option_map seen_text anchor) text.now (seen_event found.0) found.1.now) (NoTagged text.now) result }
 {
-    let (tag, behind) = match read_written_tag(alloc, text) {
-        Ok(found) => found,
-        Err(reason) => return Err(refused_whole(reason, text)),
-    };
-    match past(behind, "[") {
-        Some(rest) => return Ok((sequence_start(anchor, tag), rest)),
-        None => {}
-    }
-    match past(behind, "{") {
-        Some(rest) => return Ok((mapping_start(anchor, tag), rest)),
-        None => {}
-    }
-    match read_quoted(alloc, behind) {
-        Ok((value, rest)) => Ok((scalar(anchor, tag, value), rest)),
-        Err(stop) => Err(stop),
+    match read_written_tag(alloc, text) {
+        Ok((tag, behind)) => {
+            match past(behind, "[") {
+                Some(rest) => return Ok((sequence_start(anchor, tag), rest)),
+                None => {}
+            }
+            match past(behind, "{") {
+                Some(rest) => return Ok((mapping_start(anchor, tag), rest)),
+                None => {}
+            }
+            match read_quoted(alloc, behind) {
+                Ok((value, rest)) => Ok((scalar(anchor, tag, value), rest)),
+                Err(stop) => {
+                    drop(tag);
+                    drop(anchor);
+                    Err(stop)
+                }
+            }
+        }
+        Err(reason) => {
+            drop(anchor);
+            Err(refused_whole(reason, text))
+        }
     }
 }
 

@@ -5,7 +5,7 @@ ghost use Rattle.yaml_base.specs.Characters.{hex_digit, hex_digits};
 ghost use Rattle.yaml_base.specs.reading.ReadDouble.{digit_meaning, letter_meaning};
 ghost use Rattle.yaml_base.specs.scalars.DoubleQuoted as double;
 ghost use Rattle.yaml_read.specs.Digits.{DigitsRead};
-ghost use Rattle.yaml_read.specs.Sound.{CharacterRead, EscapeRead, LetterRead, NumberRead};
+ghost use Rattle.yaml_read.specs.Sound.{CharacterRead, EscapeRead, NumberRead};
 ghost use Rattle.yaml_read.specs.Stepped.{QuotedRead};
 
 use crate::cuts::{after, first, past};
@@ -142,22 +142,6 @@ fn read_number<'a>(found: Option<(u32, &'a str)>, least: u32) -> Option<(char, &
     }
 }
 
-/// Returns the character of a letter after a backslash, and the text that follows it.
-fn read_letter(letter: char, text: &str) -> Option<(char, &str)>
-    ensures { LetterRead letter text.now result }
-{
-    match meaning_of(letter) {
-        Some(c) => {
-            if needs_escape(c) {
-                Some((c, text))
-            } else {
-                None
-            }
-        }
-        None => None,
-    }
-}
-
 /// Returns the character of what follows a backslash.
 fn read_escape(text: &str) -> Option<(char, &str)>
     ensures { EscapeRead text.now result }
@@ -169,7 +153,16 @@ fn read_escape(text: &str) -> Option<(char, &str)>
             } else if letter == 'u' {
                 read_number(read_four_digits(rest), 0x100)
             } else {
-                read_letter(letter, rest)
+                match meaning_of(letter) {
+                    Some(c) => {
+                        if needs_escape(c) {
+                            Some((c, rest))
+                        } else {
+                            None
+                        }
+                    }
+                    None => None,
+                }
             }
         }
         None => None,
@@ -198,24 +191,22 @@ fn read_character(text: &str) -> Option<(char, &str)>
 pub(crate) fn read_quoted<A: Allocator>(alloc: A, text: &str) -> Result<(String<A>, &str), Stop>
     ensures { QuotedRead text.now result }
 {
-    let mut value = String::new(alloc);
     let mut rest = match after(text, "\"") {
         Ok(rest) => rest,
         Err(stop) => return Err(stop),
     };
+    let mut value = String::new(alloc);
     'characters: loop {
         match past(rest, "\"") {
             Some(end) => return Ok((value, end)),
             None => {}
         }
-        let (c, next) = match read_character(rest) {
-            Some(found) => found,
+        match read_character(rest) {
+            Some((c, next)) => match value.push(c) {
+                Ok(()) => rest = next,
+                Err(_) => return Err(Stop::Memory),
+            },
             None => return Err(refused_at(rest)),
-        };
-        match value.push(c) {
-            Ok(()) => {}
-            Err(_) => return Err(Stop::Memory),
         }
-        rest = next;
     }
 }

@@ -14,10 +14,22 @@ ghost use Rattle.yaml_value.specs.SeenValues.{seen_value};
 use crate::cuts::after;
 use crate::errors::{ReadError, Stop};
 use crate::heads::{Kind, read_scalar, read_tag};
-use crate::levels::{Next, begin_list, begin_map, settle};
+use crate::levels::{Next, Words, begin, settle};
 use std::alloc::Allocator;
 use yaml_base::place_of;
 use yaml_value::{Level, Value};
+
+const LIST_WORDS: Words = Words {
+    bracket: "[",
+    end: "]",
+    lead: "",
+};
+
+const MAP_WORDS: Words = Words {
+    bracket: "{",
+    end: "}",
+    lead: "? ",
+};
 
 /// Reads the next node, from its tag on.
 fn step<'a, A: Allocator + Copy>(
@@ -29,8 +41,14 @@ fn step<'a, A: Allocator + Copy>(
 {
     match read_tag(text) {
         Ok((kind, behind)) => match kind {
-            Kind::List => begin_list(alloc, levels, text, behind),
-            Kind::Map => begin_map(alloc, levels, text, behind),
+            Kind::List => {
+                let level = Level::Items(Vec::new(alloc));
+                begin(levels, level, text, behind, &LIST_WORDS)
+            }
+            Kind::Map => {
+                let level = Level::Pairs(Vec::new(alloc));
+                begin(levels, level, text, behind, &MAP_WORDS)
+            }
             _ => match read_scalar(alloc, kind, behind) {
                 Ok((value, rest)) => settle(levels, value, rest),
                 Err(stop) => Err(stop),

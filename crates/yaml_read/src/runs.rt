@@ -3,10 +3,11 @@ ghost use Rattle.std.specs.Prelude.{◌≡◌, ◌∷◌, [], map};
 ghost use Rattle.yaml_base.specs.Event.{document_start};
 ghost use Rattle.yaml_base.specs.Seen.{seen_event};
 ghost use Rattle.yaml_read.specs.Awaits.{seen_awaits};
-ghost use Rattle.yaml_read.specs.EventReads.{EndRead, EventsRead, RootRead, RunAnswer};
+ghost use Rattle.yaml_read.specs.DocumentPlaces.{DocumentEventsRead};
+ghost use Rattle.yaml_read.specs.EventReads.{RootRead, RunAnswer};
 ghost use Rattle.yaml_read.specs.RunPlaces.{bare_start};
 
-use crate::cuts::end_text;
+use crate::cuts::{after, end_text};
 use crate::errors::{Stop, stopped_within};
 use crate::leads::Await;
 use crate::steps::{Progress, push, read_event};
@@ -21,19 +22,6 @@ fn start_event<A: Allocator>(alloc: A) -> yaml_event_t<A>
         version_directive: None,
         tag_directives: Vec::new(alloc),
         implicit: true,
-    }
-}
-
-/// Ends a document behind its root, which a line's end follows, and nothing else.
-fn end_events<A: Allocator>(events: &mut Vec<yaml_event_t<A>, A>, text: &str) -> Result<(), Stop>
-    ensures { EndRead (map seen_event events.old.items) text.now (map seen_event events.new.items) result }
-{
-    match end_text(text) {
-        Ok(()) => push(
-            events,
-            yaml_event_t::YAML_DOCUMENT_END_EVENT { implicit: true },
-        ),
-        Err(stop) => Err(stop),
     }
 }
 
@@ -73,24 +61,35 @@ fn read_run<A: Allocator + Copy>(
 {
     match push(events, start_event(alloc)) {
         Ok(()) => match read_root(alloc, events, awaits, text) {
-            Ok(end) => end_events(events, end),
+            Ok(end) => match end_text(end) {
+                Ok(()) => push(
+                    events,
+                    yaml_event_t::YAML_DOCUMENT_END_EVENT { implicit: true },
+                ),
+                Err(stop) => Err(stop),
+            },
             Err(stop) => Err(stop),
         },
         Err(stop) => Err(stop),
     }
 }
 
-/// Returns the events of a document whose text, behind its first line, this is.
+/// Returns the events of a document of this text.
 pub(crate) fn read_events<A: Allocator + Copy>(
     alloc: A,
     text: &str,
 ) -> Result<Vec<yaml_event_t<A>, A>, Stop>
-    ensures { EventsRead text.now result }
+    ensures { DocumentEventsRead text.now result }
 {
-    let mut events = Vec::new(alloc);
-    let mut awaits = Vec::new(alloc);
-    match read_run(alloc, &mut events, &mut awaits, text) {
-        Ok(()) => Ok(events),
+    match after(text, "---\n") {
+        Ok(node) => {
+            let mut events = Vec::new(alloc);
+            let mut awaits = Vec::new(alloc);
+            match read_run(alloc, &mut events, &mut awaits, node) {
+                Ok(()) => Ok(events),
+                Err(stop) => Err(stop),
+            }
+        }
         Err(stop) => Err(stop),
     }
 }

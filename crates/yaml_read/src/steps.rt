@@ -5,7 +5,7 @@ ghost use Rattle.yaml_read.specs.Awaits.{IsInnermostAwait, closing_event, seen_a
 ghost use Rattle.yaml_read.specs.Beginnings.{ReadOr};
 ghost use Rattle.yaml_read.specs.EventReads.{IsEventRead, IsNodeRead, NoNode};
 ghost use Rattle.yaml_read.specs.EventSteps.{GoesTo, await_opened, bytes_behind, open_behind_opening, open_now, trail_behind_opening};
-ghost use Rattle.yaml_read.specs.EventTexts.{Pending, next_awaited, left_open, outside, trail_text};
+ghost use Rattle.yaml_read.specs.EventTexts.{Pending, next_awaited, left_open, trail_text};
 ghost use Rattle.yaml_read.specs.RunPlaces.{NoEventBegins};
 ghost use Rattle.yaml_read.specs.Words.{OrMemory, past_word};
 
@@ -100,26 +100,15 @@ fn opened_by<A: Allocator>(event: &yaml_event_t<A>) -> Option<Await>
     }
 }
 
-/// Returns the event with which a collection ends.
-fn collection_end<A: Allocator>(awaited: Await) -> yaml_event_t<A>
-    ensures { (outer : List Pending) → seen_event result ≡ closing_event (seen_await awaited ∷ outer) }
-{
-    match awaited {
-        Await::FirstItem => yaml_event_t::YAML_SEQUENCE_END_EVENT,
-        Await::Item => yaml_event_t::YAML_SEQUENCE_END_EVENT,
-        Await::FirstKey => yaml_event_t::YAML_MAPPING_END_EVENT,
-        Await::Key => yaml_event_t::YAML_MAPPING_END_EVENT,
-        Await::Value => yaml_event_t::YAML_MAPPING_END_EVENT,
-    }
-}
-
 /// Returns the event with which the innermost collection ends.
 fn end_event<A: Allocator>(innermost: Option<Await>) -> yaml_event_t<A>
     ensures { (levels : List Pending) → IsInnermostAwait levels innermost → seen_event result ≡ closing_event levels }
 {
     match innermost {
-        Some(awaited) => collection_end(awaited),
-        None => yaml_event_t::YAML_SEQUENCE_END_EVENT,
+        Some(Await::FirstKey) => yaml_event_t::YAML_MAPPING_END_EVENT,
+        Some(Await::Key) => yaml_event_t::YAML_MAPPING_END_EVENT,
+        Some(Await::Value) => yaml_event_t::YAML_MAPPING_END_EVENT,
+        _ => yaml_event_t::YAML_SEQUENCE_END_EVENT,
     }
 }
 
@@ -156,25 +145,6 @@ fn read_node<'a, A: Allocator + Copy>(
     }
 }
 
-/// Reads the event with which the innermost collection ends, behind its closing bracket, and says what follows it.
-fn read_end<'a, A: Allocator>(
-    events: &mut Vec<yaml_event_t<A>, A>,
-    awaits: &mut Vec<Await, A>,
-    innermost: Option<Await>,
-    text: &'a str,
-) -> Result<Progress<'a>, Stop>
-    ensures { IsInnermostAwait (seen_awaits awaits.old.items) innermost → ReadOr (λ found.
-        (map seen_event events.new.items ≡ map seen_event events.old.items ++ closing_event (seen_awaits awaits.old.items) ∷ [])
-        × GoesTo (left_open (outside (seen_awaits awaits.old.items))) (trail_text (outside (seen_awaits awaits.old.items))) text.now
-        (seen_awaits awaits.new.items) found) (past_word (trail_text (outside (seen_awaits awaits.old.items))) text.now ≡ None) result }
-{
-    let _last = awaits.pop();
-    match push(events, end_event(innermost)) {
-        Ok(()) => leave_node(awaits, text),
-        Err(stop) => Err(stop),
-    }
-}
-
 /// Reads the next event, and says what follows it.
 pub(crate) fn read_event<'a, A: Allocator + Copy>(
     alloc: A,
@@ -189,7 +159,13 @@ pub(crate) fn read_event<'a, A: Allocator + Copy>(
     match read_lead(last, awaits.len(), text) {
         Ok(lead) => match lead {
             Entry::Another(rest) => read_node(alloc, events, awaits, rest),
-            Entry::End(rest) => read_end(events, awaits, last, rest),
+            Entry::End(rest) => {
+                let _last = awaits.pop();
+                match push(events, end_event(last)) {
+                    Ok(()) => leave_node(awaits, rest),
+                    Err(stop) => Err(stop),
+                }
+            }
         },
         Err(stop) => Err(stop),
     }

@@ -5,7 +5,7 @@ ghost use Rattle.yaml_base.specs.Percent.{is_tag_character};
 ghost use Rattle.yaml_base.specs.Seen.{seen_text};
 ghost use Rattle.yaml_base.specs.Tags.{behind};
 ghost use Rattle.yaml_read.specs.Beginnings.{IsEscapedRead, IsTagRead, NoEscaped, NoTag, ReadOr};
-ghost use Rattle.yaml_read.specs.WrittenTags.{ByteRead, HandleRead, OpensTag, is_spelled_by};
+ghost use Rattle.yaml_read.specs.WrittenTags.{ByteRead, OpensTag, is_spelled_by};
 
 use crate::cuts::{after, first, past};
 use crate::errors::{Stop, refused_at};
@@ -27,26 +27,27 @@ fn is_tag_character(c: char) -> bool
 fn read_byte(text: &str) -> Option<(u8, &str)>
     ensures { ByteRead text.now result }
 {
-    let (c, rest) = match first(text) {
-        Some(found) => found,
-        None => return None,
-    };
-    if c == '%' {
-        match read_two_digits(rest) {
-            Some((number, behind)) => {
-                let byte = number as u8;
-                if is_tag_character(byte as char) {
-                    None
-                } else {
-                    Some((byte, behind))
+    match first(text) {
+        Some((c, rest)) => {
+            if c == '%' {
+                match read_two_digits(rest) {
+                    Some((number, behind)) => {
+                        let byte = number as u8;
+                        if is_tag_character(byte as char) {
+                            None
+                        } else {
+                            Some((byte, behind))
+                        }
+                    }
+                    None => None,
                 }
+            } else if is_tag_character(c) {
+                Some((c as u8, rest))
+            } else {
+                None
             }
-            None => None,
         }
-    } else if is_tag_character(c) {
-        Some((c as u8, rest))
-    } else {
-        None
+        None => None,
     }
 }
 
@@ -65,16 +66,15 @@ fn read_escaped<'a, A: Allocator>(
     };
     let mut rest = text;
     'bytes: loop {
-        let (byte, next) = match read_byte(rest) {
-            Some(found) => found,
+        match read_byte(rest) {
+            Some((byte, next)) => match bytes.push(byte) {
+                Ok(()) => rest = next,
+                Err(_) => return Err(Stop::Memory),
+            },
             None => match String::from_utf8(bytes) {
                 Ok(value) => return Ok((value, rest)),
                 Err(_) => return Err(refused_at(text)),
             },
-        };
-        match bytes.push(byte) {
-            Ok(()) => rest = next,
-            Err(_) => return Err(Stop::Memory),
         }
     }
 }
@@ -108,25 +108,6 @@ fn is_spelled_by(tag: &str, prefix: &'static str) -> bool
     !goes_on(tag, "tag:yaml.org,2002:")
 }
 
-/// Returns the prefix that a tag's handle stands for, what stands behind the tag, and what follows the handle. Where it is written as a
-/// whole, no prefix.
-fn read_handle(text: &str) -> Option<(&'static str, &'static str, &str)>
-    ensures { HandleRead text.now result }
-{
-    match past(text, "!<") {
-        Some(inside) => return Some(("", "> ", inside)),
-        None => {}
-    }
-    match past(text, "!!") {
-        Some(inside) => return Some(("tag:yaml.org,2002:", " ", inside)),
-        None => {}
-    }
-    match past(text, "!") {
-        Some(inside) => Some(("!", " ", inside)),
-        None => None,
-    }
-}
-
 /// Returns a tag behind the handle that stands for a prefix, which is ASCII, and what follows the tag's end.
 fn read_spelled<'a, A: Allocator>(
     alloc: A,
@@ -154,14 +135,22 @@ fn read_spelled<'a, A: Allocator>(
 }
 
 /// Returns a tag and what follows the space behind it.
-pub(crate) fn read_written_tag<A: Allocator>(
+pub(crate) fn read_written_tag<A: Allocator + Copy>(
     alloc: A,
     text: &str,
 ) -> Result<(String<A>, &str), Stop>
     ensures { ReadOr (λ found. IsTagRead text.now (seen_text found.0) found.1.now) (NoTag text.now) result }
 {
-    match read_handle(text) {
-        Some((prefix, end, inside)) => read_spelled(alloc, prefix, end, inside),
-        None => Err(refused_at(text)),
+    match past(text, "!<") {
+        Some(inside) => return read_spelled(alloc, "", "> ", inside),
+        None => {}
+    }
+    match past(text, "!!") {
+        Some(inside) => return read_spelled(alloc, "tag:yaml.org,2002:", " ", inside),
+        None => {}
+    }
+    match after(text, "!") {
+        Ok(inside) => read_spelled(alloc, "!", " ", inside),
+        Err(stop) => Err(stop),
     }
 }

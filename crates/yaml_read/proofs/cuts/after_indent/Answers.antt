@@ -1,8 +1,7 @@
-use Rattle.std.proofs.Common.{◌*◌, arith, replicate, codes}
-use Rattle.std.proofs.lemmas.Result.{IfOk-weaker}
-use Rattle.yaml_base.{specs.Characters.space}
-use Rattle.yaml_read.{proofs.Words.cuts_behind, proofs.Words.first_none}
-use Rattle.yaml_read.{proofs.Breaking.level_behind, specs.Places.no_line}
+use Rattle.std.proofs.Common.{◌*◌, ◌++◌, ◌∷◌, ◌∙◌, Err, ap, arith, codes, refl, replicate, rules}
+use Rattle.yaml_base.specs.Characters.{line_feed, space}
+use Rattle.yaml_read.proofs.Words.{cuts_behind, first_none, spaces_lack, spaces_more}
+use Rattle.yaml_read.specs.Places.{no_level, no_line}
 use Rattle.yaml_read.proofs.cuts.after_indent.Goals as goal
 
 pub returns-in-Err : goal.returns-in-Err
@@ -13,13 +12,34 @@ returns-in-Err c =
       shorter = tt;
     }
 
-pub returns-in-Ok : goal.returns-in-Ok
-returns-in-Ok c =
+pub loop-level-init : goal.loop-level-init
+loop-level-init c = (search rules, omega (arith, c.in-Ok.ensures.shorter), c.in-Ok.ensures.cut)
+
+pub loop-level-preserved : goal.loop-level-preserved
+loop-level-preserved c =
+    let line = replicate (c.loop-level._level * 2) space ++ c.loop-level.rest.now in (
+      search rules,
+      omega (arith, c.loop-level.invariant.1, c.in-Ok-after.ensures.shorter),
+      c.loop-level.invariant.2
+          ∙ ap (λ t. line_feed ∷ t) (spaces_more c.loop-level._level line c.loop-level.rest.now c.in-Ok-after.next.now refl c.in-Ok-after.ensures.cut),
+    )
+
+pub returns-in-Err-after : goal.returns-in-Err-after
+returns-in-Err-after c =
+    let line = replicate (c.loop-level._level * 2) space ++ c.loop-level.rest.now in
     record {
       cut =
-          cuts_behind (codes "\n") (replicate (c.args.depth * 2) space) c.args.text.now c.in-Ok.line.now c.after_spaces.result c.in-Ok.ensures.cut
-          c.after_spaces.ensures.cut;
+          cuts_behind (codes "\n") (replicate (c.args.depth * 2) space) c.args.text.now line (Err c.in-Err-after.stop) c.loop-level.invariant.2
+          (spaces_lack c.loop-level._level c.args.depth line c.loop-level.rest.now refl (omega arith) c.in-Err-after.ensures.cut);
       lacks =
-          level_behind c.args.depth c.args.text.now c.in-Ok.line.now c.after_spaces.result c.in-Ok.ensures.cut c.after_spaces.ensures.lacks;
-      shorter = IfOk-weaker c.after_spaces.result _ _ (λ rest is. omega (arith, is, c.in-Ok.ensures.shorter)) c.after_spaces.ensures.shorter;
+          no_level line c.loop-level.invariant.2
+          (record {
+            level = c.loop-level._level;
+            below = omega arith;
+            rest = c.loop-level.rest.now;
+            text = refl;
+            none = c.in-Err-after.ensures.cut;
+            place = c.in-Err-after.ensures.placed;
+          });
+      shorter = tt;
     }

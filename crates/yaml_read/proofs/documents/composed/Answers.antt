@@ -1,5 +1,6 @@
-use Rattle.std.proofs.Common.{◌∙◌, sym}
+use Rattle.std.proofs.Common.{◌≡◌, ◌∙◌, sym}
 use Rattle.yaml_base.specs.graphs.Documents.{graph_of}
+use Rattle.yaml_dump.specs.declared.composing.ComposeError.TheVariants as compose
 use Rattle.yaml_read.proofs.DocumentsRead.{has_nodes}
 use Rattle.yaml_read.proofs.documents.composed.Goals as goal
 
@@ -11,7 +12,9 @@ returns-in-Ok g c node is =
       λ graph whole list. c.in-Ok.ensures.composes graph whole (list ∙ sym is),
     )
 
+not_memory : compose.NotDumped ≡ compose.Memory → ⊥
+not_memory is = cc
+
 pub returns-in-Err-NotDumped : goal.returns-in-Err-NotDumped
 returns-in-Err-NotDumped g c node is graph whole has =
-    let memory = c.in-Err-NotDumped.ensures.composes graph whole (has ∙ sym is) in
-    cc
+    not_memory (sym c.in-Err-NotDumped.field-0-is ∙ c.in-Err-NotDumped.ensures.composes graph whole (has ∙ sym is))

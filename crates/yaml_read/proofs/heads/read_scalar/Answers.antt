@@ -1,6 +1,10 @@
-use Rattle.std.proofs.Common.{◌≡◌, List, ℕ, Bor, String, encode_utf8_all}
+use Rattle.std.proofs.Common.{◌≡◌, ◌∙◌, ◌++◌, List, ℕ, Bor, String, Ok, Err, true, false, ap, arith, codes, encode_utf8_all, refl, sym}
+use Rattle.yaml_value.specs.declared.value.Value as declared
+use Rattle.yaml_value.proofs.SeenLevels.{seen_truth}
+use Rattle.yaml_read.proofs.HeadsRead.{false_there, no_truth_there, true_there, word_bytes}
 use Rattle.yaml_base.specs.Seen.{seen_text}
-use Rattle.yaml_read.proofs.Stepping.{no_null, no_text, null_found, of_kind, text_found, text_kind}
+use Rattle.yaml_read.proofs.Stepping.{no_null, no_text, null_found, of_kind, text_found, text_kind, truth_scalar}
+use Rattle.yaml_read.proofs.Breaking.{neither}
 use Rattle.yaml_read.specs.declared.heads.Kind.TheVariants as kind
 use Rattle.yaml_read.proofs.heads.read_scalar.Goals as goal
 
@@ -14,8 +18,37 @@ returns-in-Err g c =
     of_kind kind.Null c.args.kind c.in-Null.is
     (no_null g.row.A.Denot c.args.text.now c.in-Err.stop c.in-Err.ensures.cut c.in-Err.ensures.placed)
 
-pub returns-in-Bool : goal.returns-in-Bool
-returns-in-Bool g c = of_kind kind.Bool c.args.kind c.in-Bool.is c.read_truth.ensures
+pub returns-in-Some : goal.returns-in-Some
+returns-in-Some g c =
+    of_kind kind.Bool c.args.kind c.in-Bool.is
+    (truth_scalar c.args.text.now (Ok (declared.Bool true, c.in-Some.rest))
+    (λ b rest is. true_there g.row.A.Denot c.args.text.now c.in-Some.rest.now b rest c.in-Some.ensures.cut is)
+    (record {
+      truth = true;
+      is = seen_truth g.row.A.Denot true;
+      text = c.in-Some.ensures.cut ∙ ap (λ w. w ++ c.in-Some.rest.now) (sym (word_bytes (codes "\"true\"") refl));
+    })
+    tt (omega (arith, c.in-Some.ensures.shorter)))
+
+pub returns-in-Ok-after : goal.returns-in-Ok-after
+returns-in-Ok-after g c =
+    of_kind kind.Bool c.args.kind c.in-Bool.is
+    (truth_scalar c.args.text.now (Ok (declared.Bool false, c.in-Ok-after.rest))
+    (λ b rest is. false_there g.row.A.Denot c.args.text.now c.in-Ok-after.rest.now b rest c.in-None.ensures.cut c.in-Ok-after.ensures.cut is)
+    (record {
+      truth = false;
+      is = seen_truth g.row.A.Denot false;
+      text = c.in-Ok-after.ensures.cut ∙ ap (λ w. w ++ c.in-Ok-after.rest.now) (sym (word_bytes (codes "\"false\"") refl));
+    })
+    tt (omega (arith, c.in-Ok-after.ensures.shorter)))
+
+pub returns-in-Err-after : goal.returns-in-Err-after
+returns-in-Err-after g c =
+    of_kind kind.Bool c.args.kind c.in-Bool.is
+    (truth_scalar {A = g.row.A.Denot} c.args.text.now (Err c.in-Err-after.stop)
+    (λ b rest is. absurd (no_truth_there c.args.text.now b rest c.in-None.ensures.cut c.in-Err-after.ensures.cut is)) tt
+    (neither (codes "\"true\"") (codes "\"false\"") c.args.text.now c.in-Err-after.stop c.in-None.ensures.cut c.in-Err-after.ensures.cut
+    c.in-Err-after.ensures.placed) tt)
 
 pub returns-in-Int : goal.returns-in-Int
 returns-in-Int g c = of_kind kind.Int c.args.kind c.in-Int.is c.read_integer.ensures

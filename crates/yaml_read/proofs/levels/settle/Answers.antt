@@ -1,11 +1,10 @@
-use Rattle.std.proofs.Common.{◌≡◌, ◌<◌, ℕ, List, subst, sym, ◌∙◌, rules, arith, Ok, length}
+use Rattle.std.proofs.Common.{◌≡◌, ◌<◌, List, subst, sym, ◌∙◌, rules, arith, Ok, length}
 use Rattle.yaml_value.specs.{OpenLevels.OpenLevel, OpenLevels.seen_level, OpenLevels.seen_levels, SeenValues.seen_value}
 use Rattle.yaml_value.proofs.SeenLevels.{no_levels}
 use Rattle.yaml_read.specs.Remaining.{IsDue, IsRead, TurnReached}
 use Rattle.yaml_read.specs.Opened.{HasRead, IsOpen, TurnRead}
-use Rattle.yaml_read.proofs.BreakingNodes.{value_stops}
-use Rattle.yaml_read.proofs.Stepping.{next_less}
-use Rattle.std.proofs.lemmas.Result.{IfOk-weaker}
+use Rattle.yaml_read.proofs.BreakingNodes.{end_lacks, value_stops}
+use Rattle.yaml_read.proofs.Opening.{end_there, root_ends, value_out}
 use Rattle.yaml_read.specs.{declared.levels.Turn.Turn, Stepped.TurnShorter}
 use Rattle.yaml_read.proofs.{SeenLevels.levels_length, SeenLevels.pushed_on, Turns.popped, Turns.turn_error, Opening.taken}
 use Rattle.yaml_read.proofs.levels.settle.Goals as goal
@@ -17,7 +16,7 @@ returns-in-Err g c =
           let inner = seen_levels c.pop.new.self.items in
           let depth : c.len.result ≡ length inner = c.len.ensures ∙ c.pop.new.self.ok.0 ∙ sym (levels_length c.pop.new.self.items) in
           let taken = popped (seen_levels c.args.levels.now.items) (seen_value c.args.value) (seen_value c.loop-level.value) c.args.text.now
-          c.loop-level.rest.now
+          c.loop-level.text.now
           c.loop-level.levels.items c.pop.new.self.items c.in-Some.level root c.loop-level.invariant.2 c.in-Some.ensures.items read in
           turn_error g.row.A.Denot root inner inner c.in-Err.stop (c.in-Err.ensures.reached root inner depth taken);
       read = λ whole read. tt;
@@ -25,8 +24,8 @@ returns-in-Err g c =
           let inner = seen_levels c.pop.new.self.items in
           let depth : c.len.result ≡ length inner = c.len.ensures ∙ c.pop.new.self.ok.0 ∙ sym (levels_length c.pop.new.self.items) in
           let before = taken (seen_levels c.args.levels.now.items) (seen_value c.args.value) (seen_value c.loop-level.value) c.args.text.now
-          c.loop-level.rest.now c.loop-level.levels.items c.pop.new.self.items c.in-Some.level whole c.loop-level.invariant.3 c.in-Some.ensures.items read in
-          value_stops whole inner (seen_level c.in-Some.level) (seen_value c.loop-level.value) c.loop-level.rest.now c.len.result c.in-Err.stop depth
+          c.loop-level.text.now c.loop-level.levels.items c.pop.new.self.items c.in-Some.level whole c.loop-level.invariant.3 c.in-Some.ensures.items read in
+          value_stops whole inner (seen_level c.in-Some.level) (seen_value c.loop-level.value) c.loop-level.text.now c.len.result c.in-Err.stop depth
           before c.in-Err.ensures.breaks;
       shorter = tt;
     }
@@ -38,7 +37,7 @@ returns-in-Ok-push g c =
           let inner = seen_levels c.pop.new.self.items in
           let depth : c.len.result ≡ length inner = c.len.ensures ∙ c.pop.new.self.ok.0 ∙ sym (levels_length c.pop.new.self.items) in
           let taken = popped (seen_levels c.args.levels.now.items) (seen_value c.args.value) (seen_value c.loop-level.value) c.args.text.now
-          c.loop-level.rest.now
+          c.loop-level.text.now
           c.loop-level.levels.items c.pop.new.self.items c.in-Some.level root c.loop-level.invariant.2 c.in-Some.ensures.items read in
           let reached : TurnReached root inner (Ok c.in-Ok.turn) = c.in-Ok.ensures.reached root inner depth taken in
           let due = subst (λ (t : Turn g.row.A.Denot). TurnReached root inner (Ok t)) c.in-Continues.is reached in
@@ -48,46 +47,62 @@ returns-in-Ok-push g c =
           let inner = seen_levels c.pop.new.self.items in
           let depth : c.len.result ≡ length inner = c.len.ensures ∙ c.pop.new.self.ok.0 ∙ sym (levels_length c.pop.new.self.items) in
           let before = taken (seen_levels c.args.levels.now.items) (seen_value c.args.value) (seen_value c.loop-level.value) c.args.text.now
-          c.loop-level.rest.now c.loop-level.levels.items c.pop.new.self.items c.in-Some.level whole c.loop-level.invariant.3 c.in-Some.ensures.items read in
+          c.loop-level.text.now c.loop-level.levels.items c.pop.new.self.items c.in-Some.level whole c.loop-level.invariant.3 c.in-Some.ensures.items read in
           let turn : TurnRead whole inner c.in-Ok.turn = c.in-Ok.ensures.read whole inner depth before in
           let opened = subst (λ (t : Turn g.row.A.Denot). TurnRead whole inner t) c.in-Continues.is turn in
           subst (λ (levels : List OpenLevel). IsOpen whole levels c.in-Continues.next.now)
           (sym (pushed_on c.in-Continues.level c.pop.new.self.items c.push.new.list.items c.in-Ok-push.ensures).0) opened;
       stops = λ whole read. tt;
-      shorter = let less : length c.in-Continues.next.now < length c.loop-level.rest.now =
-          subst (λ (t : Turn g.row.A.Denot). TurnShorter c.loop-level.rest.now t) c.in-Continues.is c.in-Ok.ensures.shorter in
+      shorter = let less : length c.in-Continues.next.now < length c.loop-level.text.now =
+          subst (λ (t : Turn g.row.A.Denot). TurnShorter c.loop-level.text.now t) c.in-Continues.is c.in-Ok.ensures.shorter in
           omega (arith, less, c.loop-level.invariant.1);
     }
 
-pub returns : goal.returns
-returns g c =
+pub returns-in-Ok-end_text : goal.returns-in-Ok-end_text
+returns-in-Ok-end_text g c =
+    let value = seen_value c.loop-level.value in
+    let text = c.loop-level.text.now in
     let none = no_levels c.loop-level.levels.items (omega (arith, c.in_default.ensures.cases.0, c.loop-level.levels.ok.0)) in
-    let settled = c.finish.ensures (seen_levels c.pop.new.self.items) in
-    let whole_read = λ (whole : List ℕ) (read : HasRead whole (seen_levels c.args.levels.now.items) (seen_value c.args.value) c.args.text.now).
-    subst (λ (levels : List OpenLevel). HasRead whole levels (seen_value c.loop-level.value) c.loop-level.rest.now) none
-    (c.loop-level.invariant.3.read whole read) in
     record {
       reached = λ root read.
-          settled.reached root
-          (subst (λ (levels : List OpenLevel). IsRead root levels (seen_value c.loop-level.value) c.loop-level.rest.now) none
-          (c.loop-level.invariant.2.read root read));
-      read = λ whole read. settled.read whole (whole_read whole read);
-      stops = λ whole read. settled.stops whole (whole_read whole read);
-      shorter =
-          IfOk-weaker c.finish.result _ _
-          (λ next is. next_less c.args.text.now c.loop-level.rest.now next c.loop-level.invariant.1 is) settled.shorter;
+          (root_ends root value text (subst (λ (levels : List OpenLevel). IsRead root levels value text) none (c.loop-level.invariant.2.read root read))).0;
+      read = λ whole read.
+          let out = subst (λ (levels : List OpenLevel). HasRead whole levels value text) none (c.loop-level.invariant.3.read whole read) in
+          (value_out whole value text out c.in-Ok-end_text.ensures, out.readable);
+      stops = λ whole read. tt;
+      shorter = tt;
+    }
+
+pub returns-in-Err-end_text : goal.returns-in-Err-end_text
+returns-in-Err-end_text g c =
+    let value = seen_value c.loop-level.value in
+    let text = c.loop-level.text.now in
+    let none = no_levels c.loop-level.levels.items (omega (arith, c.in_default.ensures.cases.0, c.loop-level.levels.ok.0)) in
+    record {
+      reached = λ root read.
+          let ends = root_ends root value text
+          (subst (λ (levels : List OpenLevel). IsRead root levels value text) none (c.loop-level.invariant.2.read root read)) in
+          absurd (end_there text c.in-Err-end_text.stop c.in-Err-end_text.ensures ends.1);
+      read = λ whole read. tt;
+      stops = λ whole read.
+          end_lacks whole value text c.in-Err-end_text.stop
+          (subst (λ (levels : List OpenLevel). HasRead whole levels value text) none (c.loop-level.invariant.3.read whole read))
+          c.in-Err-end_text.ensures;
+      shorter = tt;
     }
 
 pub loop-level-preserved : goal.loop-level-preserved
 loop-level-preserved g c =
     let inner = seen_levels c.pop.new.self.items in
-    let depth : c.len.result ≡ length inner = c.len.ensures ∙ c.pop.new.self.ok.0 ∙ sym (levels_length c.pop.new.self.items) in (
+    let depth : c.len.result ≡ length inner = c.len.ensures ∙ c.pop.new.self.ok.0 ∙ sym (levels_length c.pop.new.self.items) in
+    let less : length c.in-Ends.next.now < length c.loop-level.text.now =
+    subst (λ (t : Turn g.row.A.Denot). TurnShorter c.loop-level.text.now t) c.in-Ends.is c.in-Ok.ensures.shorter in (
       search rules,
-      search rules,
+      omega (arith, less, c.loop-level.invariant.1),
       record {
         read = λ root read.
             let taken = popped (seen_levels c.args.levels.now.items) (seen_value c.args.value) (seen_value c.loop-level.value) c.args.text.now
-            c.loop-level.rest.now
+            c.loop-level.text.now
             c.loop-level.levels.items c.pop.new.self.items c.in-Some.level root c.loop-level.invariant.2 c.in-Some.ensures.items read in
             let reached : TurnReached root inner (Ok c.in-Ok.turn) = c.in-Ok.ensures.reached root inner depth taken in
             subst (λ (t : Turn g.row.A.Denot). TurnReached root inner (Ok t)) c.in-Ends.is reached;
@@ -95,7 +110,7 @@ loop-level-preserved g c =
       record {
         read = λ whole read.
             let before = taken (seen_levels c.args.levels.now.items) (seen_value c.args.value) (seen_value c.loop-level.value) c.args.text.now
-            c.loop-level.rest.now c.loop-level.levels.items c.pop.new.self.items c.in-Some.level whole c.loop-level.invariant.3 c.in-Some.ensures.items read in
+            c.loop-level.text.now c.loop-level.levels.items c.pop.new.self.items c.in-Some.level whole c.loop-level.invariant.3 c.in-Some.ensures.items read in
             let turn : TurnRead whole inner c.in-Ok.turn = c.in-Ok.ensures.read whole inner depth before in
             subst (λ (t : Turn g.row.A.Denot). TurnRead whole inner t) c.in-Ends.is turn;
       },

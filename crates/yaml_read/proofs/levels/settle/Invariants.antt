@@ -6,9 +6,9 @@ use Rattle.yaml_read.proofs.levels.settle.Given as goal
 
 abbrev pub invariant-loop-level : goal.invariant-loop-level
 invariant-loop-level g l =
-    shadow (Utf8 l.rest) × (length l.rest ≤ length l.fn.text)
-    × GoesOn (seen_levels l.fn.levels.items) (seen_value l.fn.value) l.fn.text (seen_levels l.levels.items) (seen_value l.value) l.rest
-    × ReadsOn (seen_levels l.fn.levels.items) (seen_value l.fn.value) l.fn.text (seen_levels l.levels.items) (seen_value l.value) l.rest
+    shadow (Utf8 l.text) × (length l.text ≤ length l.fn.text)
+    × GoesOn (seen_levels l.fn.levels.items) (seen_value l.fn.value) l.fn.text (seen_levels l.levels.items) (seen_value l.value) l.text
+    × ReadsOn (seen_levels l.fn.levels.items) (seen_value l.fn.value) l.fn.text (seen_levels l.levels.items) (seen_value l.value) l.text
 
 abbrev pub decreases-loop-level : goal.decreases-loop-level
 decreases-loop-level g l = vec_len l.levels

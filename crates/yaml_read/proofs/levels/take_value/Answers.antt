@@ -1,20 +1,22 @@
-use Rattle.std.proofs.Common.{ap, sym, ◌∙◌}
-use Rattle.yaml_value.specs.OpenLevels.{items_open, pairs_open, seen_level, value_due}
-use Rattle.yaml_value.specs.SeenValues.{seen_pairs, seen_value, seen_values}
-use Rattle.yaml_read.proofs.SeenLevels.{took_last}
+use Rattle.std.proofs.Common.{Ok, subst}
+use Rattle.yaml_value.specs.{OpenLevels.seen_level, SeenValues.seen_value}
+use Rattle.yaml_read.specs.{Stepped.BehindRead, declared.levels.Entry.Entry}
+use Rattle.yaml_read.proofs.Taken.{taken_lacks, taken_goes_on, taken_ends}
 use Rattle.yaml_read.proofs.levels.take_value.Goals as goal
 
-pub returns-in-Items : goal.returns-in-Items
-returns-in-Items g c =
-    took_last c.args.depth (seen_level c.args.level) (items_open (seen_values c.in-Items.items.items)) (seen_value c.args.value) c.args.text.now
-    c.behind_item.result (sym (ap seen_level c.in-Items.is) ∙ c.in-Ok.ensures) c.behind_item.ensures
+pub returns-in-Ok-Another : goal.returns-in-Ok-Another
+returns-in-Ok-Another g c =
+    taken_goes_on c.args.depth (seen_level c.args.level) (seen_value c.args.value) c.in-Ok.more c.args.text.now c.in-Ok-Another.rest c.in-Ok.ensures
+    (subst (λ (e : Entry). BehindRead c.args.depth (seen_level c.in-Ok.more) c.args.text.now (Ok e)) c.in-Ok-Another.field-0-is c.in-Ok-Another.ensures)
 
-pub returns-in-Pairs : goal.returns-in-Pairs
-returns-in-Pairs g c =
-    took_last c.args.depth (seen_level c.args.level) (pairs_open (seen_pairs c.in-Pairs.pairs.items)) (seen_value c.args.value) c.args.text.now
-    c.behind_pair.result (sym (ap seen_level c.in-Pairs.is) ∙ c.in-Ok.ensures) c.behind_pair.ensures
+pub returns-in-Ok-End : goal.returns-in-Ok-End
+returns-in-Ok-End g c =
+    taken_ends c.args.depth (seen_level c.args.level) (seen_value c.args.value) c.in-Ok.more c.closed_value.result c.args.text.now c.in-Ok-End.rest
+    c.in-Ok.ensures c.closed_value.ensures
+    (subst (λ (e : Entry). BehindRead c.args.depth (seen_level c.in-Ok.more) c.args.text.now (Ok e)) c.in-Ok-End.field-0-is c.in-Ok-End.ensures)
 
-pub returns-in-PairsAndKey : goal.returns-in-PairsAndKey
-returns-in-PairsAndKey g c =
-    took_last c.args.depth (seen_level c.args.level) (value_due (seen_pairs c.in-PairsAndKey.pairs.items) (seen_value c.in-PairsAndKey.key))
-    (seen_value c.args.value) c.args.text.now c.behind_key.result (sym (ap seen_level c.in-PairsAndKey.is) ∙ c.in-Ok.ensures) c.behind_key.ensures
+pub returns-in-Err-behind_value : goal.returns-in-Err-behind_value
+returns-in-Err-behind_value g c =
+    taken_lacks g.row.A.Denot c.args.depth (seen_level c.args.level) (seen_level c.in-Ok.more) (seen_value c.args.value)
+    c.args.text.now c.in-Err-behind_value.stop
+    c.in-Ok.ensures c.in-Err-behind_value.ensures

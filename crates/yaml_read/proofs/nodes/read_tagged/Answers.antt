@@ -17,7 +17,7 @@ returns-in-Err g c =
 
 pub returns-in-Some : goal.returns-in-Some
 returns-in-Some g c =
-    tagged_read c.in-Ok.found.0 (option_map seen_text c.args.anchor) c.args.text.now c.in-Ok.found.1.now c.in-Some.rest.now _
+    tagged_read c.in-Ok.tag (option_map seen_text c.args.anchor) c.args.text.now c.in-Ok.behind.now c.in-Some.rest.now _
     (c.in-Ok.ensures.sound, c.in-Ok.ensures.parts) c.in-Ok.ensures.only
     (record {
       held = sequence_held [] any_layout;
@@ -25,12 +25,12 @@ returns-in-Some g c =
       has = sequence_opened;
       is = c.sequence_start.ensures;
       parts = c.in-Some.ensures.cut ∙ ap (λ w. w ++ c.in-Some.rest.now) (sym (word_bytes (codes "[") refl));
-      only = λ other written after has is. at_bracket other written after c.in-Ok.found.1.now c.in-Some.rest.now has is c.in-Some.ensures.cut;
+      only = λ other written after has is. at_bracket other written after c.in-Ok.behind.now c.in-Some.rest.now has is c.in-Some.ensures.cut;
     })
 
 pub returns-in-Some-past : goal.returns-in-Some-past
 returns-in-Some-past g c =
-    tagged_read c.in-Ok.found.0 (option_map seen_text c.args.anchor) c.args.text.now c.in-Ok.found.1.now c.in-Some-past.rest.now _
+    tagged_read c.in-Ok.tag (option_map seen_text c.args.anchor) c.args.text.now c.in-Ok.behind.now c.in-Some-past.rest.now _
     (c.in-Ok.ensures.sound, c.in-Ok.ensures.parts) c.in-Ok.ensures.only
     (record {
       held = mapping_held [] any_layout;
@@ -38,14 +38,14 @@ returns-in-Some-past g c =
       has = mapping_opened;
       is = c.mapping_start.ensures;
       parts = c.in-Some-past.ensures.cut ∙ ap (λ w. w ++ c.in-Some-past.rest.now) (sym (word_bytes (codes "{") refl));
-      only = λ other written after has is. at_brace other written after c.in-Ok.found.1.now c.in-Some-past.rest.now has is c.in-Some-past.ensures.cut;
+      only = λ other written after has is. at_brace other written after c.in-Ok.behind.now c.in-Some-past.rest.now has is c.in-Some-past.ensures.cut;
     })
 
 pub returns-in-Ok-read_quoted : goal.returns-in-Ok-read_quoted
 returns-in-Ok-read_quoted g c =
-    tagged_read c.in-Ok.found.0 (option_map seen_text c.args.anchor) c.args.text.now c.in-Ok.found.1.now c.in-Ok-read_quoted.rest.now _
+    tagged_read c.in-Ok.tag (option_map seen_text c.args.anchor) c.args.text.now c.in-Ok.behind.now c.in-Ok-read_quoted.rest.now _
     (c.in-Ok.ensures.sound, c.in-Ok.ensures.parts) c.in-Ok.ensures.only
-    (held_read (option_map seen_text c.args.anchor) (seen_text c.in-Ok.found.0) c.in-Ok.found.1.now _ c.in-Ok-read_quoted.rest.now
+    (held_read (option_map seen_text c.args.anchor) (seen_text c.in-Ok.tag) c.in-Ok.behind.now _ c.in-Ok-read_quoted.rest.now
     c.in-None.ensures.cut c.in-None-past.ensures.cut
     (record {
       value = seen_text c.in-Ok-read_quoted.value;
@@ -60,7 +60,7 @@ returns-in-Err-read_quoted g c =
     none_read (NoTagged c.args.text.now) c.in-Err-read_quoted.stop
     (λ other tag held written rest sound scalars has is.
     let read = c.in-Ok.ensures.only tag (written ++ rest) sound scalars is in
-    let at = at_quote held written rest c.in-Ok.found.1.now has read.1 c.in-None.ensures.cut c.in-None-past.ensures.cut in
+    let at = at_quote held written rest c.in-Ok.behind.now has read.1 c.in-None.ensures.cut c.in-None-past.ensures.cut in
     other
     (memory_only (λ (found : String g.row.A.Denot × Bor (List ℕ)). (seen_text found.0 ≡ at.value) × (found.1.now ≡ encode_utf8_all rest))
     c.in-Err-read_quoted.stop (c.in-Err-read_quoted.ensures.reads at.value rest at.scalars at.stands)))

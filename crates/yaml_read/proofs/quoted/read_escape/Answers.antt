@@ -1,5 +1,6 @@
-use Rattle.std.proofs.Common.{◌++◌, ◌<◌, ap, sym, ◌∙◌, arith}
-use Rattle.std.{specs.Prelude.encode_utf8, proofs.lemmas.Option.IfSome_then}
+use Rattle.std.proofs.Common.{◌<◌, ◌∙◌, Some, ap, arith, refl, sym, true, true≢false}
+use Rattle.std.proofs.lemmas.Option.{IfSome_then, none-some, same_Some}
+use Rattle.yaml_base.specs.scalars.DoubleQuoted.{needs_escape}
 use Rattle.yaml_read.proofs.FirstCharacters.{escape_there, four_digits_follow, letter_follows, read_on, two_digits_follow}
 use Rattle.yaml_base.specs.Characters.{hex_digits}
 use Rattle.yaml_read.proofs.DigitsRead.{digits_reads, digits_sound}
@@ -50,16 +51,41 @@ returns-then-letter-eq117 c =
           c.if-letter-eq117.true);
     }
 
-pub returns-else-letter-eq117 : goal.returns-else-letter-eq117
-returns-else-letter-eq117 c =
+pub returns-then-needs_escape : goal.returns-then-needs_escape
+returns-then-needs_escape c =
+    let letter = c.in-Some.letter in
+    let means = sym c.in-Some-meaning_of.ensures in
     record {
       reads =
           λ d rest scalar needs is.
-          let letter = letter_follows d rest c.in-Some.letter c.args.text.now c.in-Some.rest.now scalar needs is c.in-Some.ensures.cut
+          let follows = letter_follows d rest letter c.args.text.now c.in-Some.rest.now scalar needs is c.in-Some.ensures.cut
           c.if-letter-eq120.false c.if-letter-eq117.false in
-          read_on c.read_letter.result d rest c.in-Some.rest.now letter.1 (c.read_letter.ensures.reads d needs letter.0);
+          read_on (Some (c.in-Some-meaning_of.c, c.in-Some.rest)) d rest c.in-Some.rest.now follows.1
+          (same_Some c.in-Some-meaning_of.c d (c.in-Some-meaning_of.ensures ∙ follows.0), refl);
       sound =
-          IfSome_then c.read_letter.result c.read_letter.ensures.sound
-          (λ found is. letter_read c.args.text.now found.1.now c.in-Some.letter found.0 (letter_scalar c.in-Some.letter found.0 is.0) is.0 is.1
-          (c.in-Some.ensures.cut ∙ ap (λ t. encode_utf8 c.in-Some.letter ++ t) (sym is.2)));
+          letter_read c.args.text.now c.in-Some.rest.now letter c.in-Some-meaning_of.c (letter_scalar letter c.in-Some-meaning_of.c means) means
+          (sym c.needs_escape.ensures ∙ c.if-needs_escape.true) c.in-Some.ensures.cut;
+    }
+
+pub returns-else-needs_escape : goal.returns-else-needs_escape
+returns-else-needs_escape c =
+    record {
+      reads =
+          λ d rest scalar needs is.
+          let follows = letter_follows d rest c.in-Some.letter c.args.text.now c.in-Some.rest.now scalar needs is c.in-Some.ensures.cut
+          c.if-letter-eq120.false c.if-letter-eq117.false in
+          let same = same_Some c.in-Some-meaning_of.c d (c.in-Some-meaning_of.ensures ∙ follows.0) in
+          true≢false (sym needs ∙ ap (needs_escape true) (sym same) ∙ sym c.needs_escape.ensures ∙ c.if-needs_escape.false);
+      sound = tt;
+    }
+
+pub returns-in-None-meaning_of : goal.returns-in-None-meaning_of
+returns-in-None-meaning_of c =
+    record {
+      reads =
+          λ d rest scalar needs is.
+          let follows = letter_follows d rest c.in-Some.letter c.args.text.now c.in-Some.rest.now scalar needs is c.in-Some.ensures.cut
+          c.if-letter-eq120.false c.if-letter-eq117.false in
+          absurd (none-some d (c.in-None-meaning_of.ensures ∙ follows.0));
+      sound = tt;
     }

@@ -66,7 +66,7 @@ characters-init g c = (
 
 pub characters-smaller : goal.characters-smaller
 characters-smaller g c =
-    character_shorter c.characters.rest.now c.in-Some-read_character.found.0 c.in-Some-read_character.found.1.now c.in-Some-read_character.ensures.sound
+    character_shorter c.characters.rest.now c.in-Some-read_character.c c.in-Some-read_character.next.now c.in-Some-read_character.ensures.sound
 
 pub characters-preserved : goal.characters-preserved
 characters-preserved g c = (
@@ -74,18 +74,19 @@ characters-preserved g c = (
   omega (
     arith,
     c.characters.invariant.1,
-    character_shorter c.characters.rest.now c.in-Some-read_character.found.0
-        c.in-Some-read_character.found.1.now c.in-Some-read_character.ensures.sound,
+    character_shorter c.characters.rest.now c.in-Some-read_character.c
+        c.in-Some-read_character.next.now c.in-Some-read_character.ensures.sound,
   ),
-  subst (λ (value : List ℕ). ReadsOn c.args.text.now value c.in-Some-read_character.found.1.now) (sym c.in-Ok-push.ensures.bytes)
+  subst (λ (value : List ℕ). ReadsOn c.args.text.now value c.in-Some-read_character.next.now) (sym c.in-Ok-push.ensures.bytes)
       (record {
         left = λ value rest scalars is.
-            reads_more c.args.text.now (string_bytes c.characters.value) c.characters.rest.now (Some c.in-Some-read_character.found)
+            reads_more c.args.text.now (string_bytes c.characters.value) c.characters.rest.now
+            (Some (c.in-Some-read_character.c, c.in-Some-read_character.next))
             c.characters.invariant.2 c.in-None.ensures.cut c.in-Some-read_character.ensures.reads value rest scalars is;
       }),
-  subst (λ (value : List ℕ). ReadSoFar c.args.text.now value c.in-Some-read_character.found.1.now) (sym c.in-Ok-push.ensures.bytes)
-      (one_more c.args.text.now (string_bytes c.characters.value) c.characters.rest.now c.in-Some-read_character.found.1.now
-      c.in-Some-read_character.found.0 c.characters.invariant.3 c.in-Some-read_character.ensures.sound),
-  passes_character c.args.text.now c.characters.rest.now c.in-Some-read_character.found.1.now c.in-Some-read_character.found.0
+  subst (λ (value : List ℕ). ReadSoFar c.args.text.now value c.in-Some-read_character.next.now) (sym c.in-Ok-push.ensures.bytes)
+      (one_more c.args.text.now (string_bytes c.characters.value) c.characters.rest.now c.in-Some-read_character.next.now
+      c.in-Some-read_character.c c.characters.invariant.3 c.in-Some-read_character.ensures.sound),
+  passes_character c.args.text.now c.characters.rest.now c.in-Some-read_character.next.now c.in-Some-read_character.c
       c.characters.invariant.4 c.in-None.ensures.cut c.in-Some-read_character.ensures.sound,
 )

@@ -3,7 +3,7 @@ use Rattle.yaml_value.{specs.SeenValues.seen_value}
 use Rattle.yaml_read.proofs.Opening.{TextOpen, text_open, text_read}
 use Rattle.yaml_read.{specs.Remaining.Reached, proofs.Turns.root_due, proofs.Turns.text_due, proofs.Placing.text_stops}
 use Rattle.yaml_value.specs.{OpenLevels.seen_levels, declared.levels.Level.Level}
-use Rattle.yaml_read.{proofs.Placing.marker_stops, specs.declared.levels.Next.Next}
+use Rattle.yaml_read.{proofs.Placing.marker_stops, specs.declared.levels.Next.Next, specs.Stepped.NextShorter}
 use Rattle.yaml_read.{proofs.Turns.TextDue, proofs.Words.no_word, specs.Opened.NextRead}
 use Rattle.yaml_read.proofs.reading.read_text.Goals as goal
 
@@ -70,3 +70,7 @@ nodes-preserved g c = (
         (c.in-Ok-step.ensures.read c.nodes.invariant.2.whole c.nodes.invariant.2.opened);
   },
 )
+
+pub nodes-smaller : goal.nodes-smaller
+nodes-smaller g c =
+    subst (λ (next : Next g.row.A.Denot). NextShorter c.nodes.rest.now next) c.in-Node.is c.in-Ok-step.ensures.shorter

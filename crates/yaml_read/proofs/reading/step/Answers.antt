@@ -1,12 +1,28 @@
-use Rattle.yaml_value.specs.{OpenLevels.seen_levels, SeenValues.seen_value}
-use Rattle.yaml_read.proofs.Stepping.{no_scalar_steps, no_tag_steps, scalar_steps}
+use Rattle.std.proofs.Common.{◌++◌, ◌∙◌, List, [], ap, codes, subst, sym}
+use Rattle.yaml_value.specs.OpenLevels.{items_open, pairs_open, seen_levels}
+use Rattle.yaml_value.specs.{SeenValues.seen_pairs, SeenValues.seen_value, SeenValues.seen_values, declared.value.Value.Value}
+use Rattle.yaml_read.specs.Stepped.{IsEmptyLevel, empty_list_level, empty_map_level}
+use Rattle.yaml_read.specs.declared.heads.Kind.TheVariants as kind
+use Rattle.yaml_read.proofs.Stepping.{no_scalar_steps, no_tag_steps, scalar_kind, scalar_steps}
+use Rattle.yaml_read.specs.Heads.{tag_word}
 use Rattle.yaml_read.proofs.reading.step.Goals as goal
 
+pub read_scalar-requires : goal.read_scalar-requires
+read_scalar-requires g c = scalar_kind c.in-Ok.kind c.in_default.not-List c.in_default.not-Map
+
 pub returns-in-List : goal.returns-in-List
-returns-in-List g c = c.begin_list.ensures
+returns-in-List g c =
+    c.begin.ensures kind.List
+    (subst (λ (items : List (Value g.row.A.Denot)). IsEmptyLevel (items_open (seen_values items)) kind.List (codes "[") (codes "]") [])
+    (sym c.new.ensures.items) empty_list_level)
+    (c.in-Ok.ensures ∙ ap (λ k. tag_word k ++ c.in-Ok.behind.now) c.in-List.is)
 
 pub returns-in-Map : goal.returns-in-Map
-returns-in-Map g c = c.begin_map.ensures
+returns-in-Map g c =
+    c.begin-in-Map.ensures kind.Map
+    (subst (λ (pairs : List (Value g.row.A.Denot × Value g.row.A.Denot)). IsEmptyLevel (pairs_open (seen_pairs pairs)) kind.Map (codes "{") (codes "}")
+    (codes "? ")) (sym c.new-in-Map.ensures.items) empty_map_level)
+    (c.in-Ok.ensures ∙ ap (λ k. tag_word k ++ c.in-Ok.behind.now) c.in-Map.is)
 
 pub returns-in-Ok-read_scalar : goal.returns-in-Ok-read_scalar
 returns-in-Ok-read_scalar g c =

@@ -1,18 +1,40 @@
-use Rattle.std.proofs.Common.{◌≡◌, map, Vec}
-use Rattle.yaml_base.{specs.Seen.seen_event, specs.declared.events.yaml_event_t.yaml_event_t}
-use Rattle.yaml_read.{specs.RunPlaces.in_document, proofs.Words.memory_is}
+use Rattle.std.proofs.Common.{◌≡◌, ◌++◌, ◌∷◌, [], codes, encode_utf8_all, map, Vec}
+use Rattle.yaml_base.{specs.Characters.line_feed, specs.Seen.seen_event, specs.declared.events.yaml_event_t.yaml_event_t}
+use Rattle.yaml_read.{specs.RunPlaces.in_document, proofs.Turns.cut_is, proofs.Words.memory_is, proofs.Words.no_word}
+use Rattle.yaml_read.proofs.DocumentsRead.{events_sound, events_stop, first_line_stops}
 use Rattle.yaml_read.proofs.runs.read_events.Goals as goal
-
-pub returns-in-Ok : goal.returns-in-Ok
-returns-in-Ok g c = record { reads = c.in-Ok.ensures.only; sound = c.in-Ok.ensures.sound; stops = tt }
 
 pub returns-in-Err : goal.returns-in-Err
 returns-in-Err g c =
     record {
       reads =
-          λ events node run in_node is.
-          memory_is (λ (found : Vec (yaml_event_t g.row.A.Denot) g.row.A.Denot). map seen_event found.items ≡ in_document events) c.in-Err.stop
-          (c.in-Err.ensures.reads events node run in_node is);
+          λ events run.
+          absurd (no_word (codes "---\n") c.args.text.now (encode_utf8_all (run.node ++ line_feed ∷ [])) c.in-Err.ensures.cut run.parts);
       sound = tt;
-      stops = c.in-Err.ensures.stops;
+      stops = first_line_stops c.args.text.now c.in-Err.stop c.in-Err.ensures.cut c.in-Err.ensures.placed;
+    }
+
+pub returns-in-Ok-read_run : goal.returns-in-Ok-read_run
+returns-in-Ok-read_run g c =
+    record {
+      reads =
+          λ events run.
+          c.in-Ok-read_run.ensures.only events run.node run.run run.in_node
+          (cut_is (codes "---\n") c.args.text.now c.in-Ok.node.now (encode_utf8_all (run.node ++ line_feed ∷ [])) c.in-Ok.ensures.cut run.parts);
+      sound =
+          events_sound c.args.text.now c.in-Ok.node.now (map seen_event c.read_run.new.events.items) c.in-Ok.ensures.cut
+          c.in-Ok-read_run.ensures.sound;
+      stops = tt;
+    }
+
+pub returns-in-Err-read_run : goal.returns-in-Err-read_run
+returns-in-Err-read_run g c =
+    record {
+      reads =
+          λ events run.
+          memory_is (λ (found : Vec (yaml_event_t g.row.A.Denot) g.row.A.Denot). map seen_event found.items ≡ in_document events) c.in-Err-read_run.stop
+          (c.in-Err-read_run.ensures.reads events run.node run.run run.in_node
+          (cut_is (codes "---\n") c.args.text.now c.in-Ok.node.now (encode_utf8_all (run.node ++ line_feed ∷ [])) c.in-Ok.ensures.cut run.parts));
+      sound = tt;
+      stops = events_stop c.args.text.now c.in-Ok.node.now c.in-Err-read_run.stop c.in-Ok.ensures.cut c.in-Err-read_run.ensures.stops;
     }

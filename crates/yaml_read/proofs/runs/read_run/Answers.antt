@@ -1,6 +1,6 @@
-use Rattle.std.proofs.Common.{◌++◌, ◌∷◌, [], ap, map, ◌∙◌, List}
+use Rattle.std.proofs.Common.{◌++◌, ◌∷◌, [], ap, map, ◌∙◌, List, Err, refl}
 use Rattle.yaml_base.specs.{Event.Event, Seen.seen_event, declared.events.yaml_event_t.yaml_event_t}
-use Rattle.yaml_read.proofs.EventRuns.{memory_fails, run_ends}
+use Rattle.yaml_read.proofs.EventRuns.{end_answer, end_lacking, memory_fails, run_ends}
 use Rattle.yaml_read.proofs.NodeTexts.{memory_only}
 use Rattle.yaml_read.specs.Awaits.{seen_awaits}
 use Rattle.yaml_read.proofs.runs.read_run.Goals as goal
@@ -13,10 +13,20 @@ read_root-requires-clause-begun g c =
 pub read_root-requires-clause-none_open : goal.read_root-requires-clause-none_open
 read_root-requires-clause-none_open g c = ap seen_awaits c.requires.none_open
 
-pub returns-in-Ok-read_root : goal.returns-in-Ok-read_root
-returns-in-Ok-read_root g c =
-    run_ends c.args.text.now (map seen_event c.read_root.new.events.items) (map seen_event c.end_events.new.events.items) c.in-Ok-read_root.end
-    c.end_events.result c.in-Ok-read_root.ensures c.end_events.ensures
+pub returns-in-Ok-end_text : goal.returns-in-Ok-end_text
+returns-in-Ok-end_text g c =
+    let end = c.in-Ok-read_root.end in
+    let found = c.read_root.new.events.items in
+    let new = c.push-in-Ok-end_text.new.list.items in
+    run_ends c.args.text.now (map seen_event found) (map seen_event new) end c.push-in-Ok-end_text.result c.in-Ok-read_root.ensures
+    (end_answer seen_event end.now found new _ c.push-in-Ok-end_text.result refl c.in-Ok-end_text.ensures c.push-in-Ok-end_text.ensures)
+
+pub returns-in-Err-end_text : goal.returns-in-Err-end_text
+returns-in-Err-end_text g c =
+    let end = c.in-Ok-read_root.end in
+    let found = map seen_event c.read_root.new.events.items in
+    run_ends {T = Unit {0}} c.args.text.now found found end (Err c.in-Err-end_text.stop) c.in-Ok-read_root.ensures
+    (end_lacking end.now c.in-Err-end_text.stop c.in-Err-end_text.ensures)
 
 pub returns-in-Err : goal.returns-in-Err
 returns-in-Err g c =

@@ -1,11 +1,14 @@
-use Rattle.std.proofs.Common.{sym, ◌∙◌, encode_utf8_all, refl}
-use Rattle.yaml_read.specs.EventSteps.{bytes_behind, open_now}
-use Rattle.yaml_read.specs.EventTexts.{outside, trail_text}
+use Rattle.std.proofs.Common.{◌++◌, ◌∷◌, ◌∙◌, [], List, ap, encode_utf8_all, map, refl, subst, sym}
+use Rattle.std.proofs.lemmas.List.{map-append}
+use Rattle.yaml_base.specs.{Event.Event, Seen.seen_event}
+use Rattle.yaml_read.specs.EventSteps.{GoesTo, bytes_behind, open_now}
+use Rattle.yaml_read.specs.EventTexts.{Pending, left_open, outside, trail_text}
 use Rattle.yaml_read.specs.RunPlaces.{NoEventBegins}
 use Rattle.yaml_read.specs.{declared.levels.Entry.TheVariants.Another, declared.levels.Entry.TheVariants.End, Awaits.closing_event, Awaits.seen_awaits}
-use Rattle.yaml_read.proofs.Awaits.{awaits_length, lead_at, innermost_is}
+use Rattle.yaml_read.proofs.Awaits.{awaits_length, innermost_is, lead_at, taken_off}
 use Rattle.yaml_read.proofs.EventSteps.{end_due, end_read, event_read, it_comes, node_due, none_comes}
-use Rattle.yaml_read.proofs.{NodeTexts.none_read, NodeTexts.read_or_then, Words.no_word}
+use Rattle.yaml_read.proofs.{NodeTexts.memory_reads, NodeTexts.none_read, NodeTexts.read_or_then, Words.no_word}
+use Rattle.yaml_read.specs.Words.{past_word}
 use Rattle.yaml_read.proofs.steps.read_event.Goals as goal
 
 pub returns-in-Another : goal.returns-in-Another
@@ -30,26 +33,35 @@ returns-in-Another g c =
     none other tail due.0 ends due.1)
     c.read_node.ensures
 
-pub returns-in-End : goal.returns-in-End
-returns-in-End g c =
+pub returns-in-Ok-push : goal.returns-in-Ok-push
+returns-in-Ok-push g c =
     let levels = seen_awaits c.args.awaits.now.items in
-    let now = seen_awaits c.read_end.new.awaits.items in
+    let now = seen_awaits c.leave_node.new.awaits.items in
     let text = c.args.text.now in
     let rest = c.in-End.rest.now in
     let stands = lead_at c.args.awaits.now.items c.innermost-last.result c.len.result c.args.text.now c.in-Ok.lead (End c.in-End.rest)
     c.innermost-last.ensures (c.len.ensures ∙ c.args.awaits.now.ok.0) c.in-End.is c.in-Ok.ensures in
-    read_or_then _ _ c.read_end.result
-    (λ found ends. record {
+    let off = taken_off c.args.awaits.now c.pop-last.new.self c.pop-last.result c.pop-last.ensures.items c.pop-last.ensures.cases in
+    read_or_then _ _ c.leave_node.result
+    (λ found goes.
+    let ends = subst (λ (l : List Pending). GoesTo (left_open l) (trail_text l) rest now found) off goes in
+    record {
       event = closing_event levels;
-      pushed = ends.0;
-      read = end_read levels text rest (bytes_behind found) (open_now now found) (closing_event levels) stands.0 stands.1 refl ends.1.0 ends.1.1;
+      pushed =
+          ap (map seen_event) c.in-Ok-push.ensures ∙ map-append seen_event c.args.events.now.items (c.end_event.result ∷ [])
+          ∙ ap (λ (e : Event). map seen_event c.args.events.now.items ++ e ∷ [])
+          (c.end_event.ensures levels (innermost_is c.args.awaits.now.items c.innermost-last.result c.innermost-last.ensures));
+      read = end_read levels text rest (bytes_behind found) (open_now now found) (closing_event levels) stands.0 stands.1 refl ends.0 ends.1;
       only = λ other tail in_node comes ends is.
           (end_due levels other tail text rest (it_comes levels other tail text in_node comes is) stands.0 stands.1).0;
     })
     (λ none other tail in_node comes ends is.
     let due = end_due levels other tail text rest (it_comes levels other tail text in_node comes is) stands.0 stands.1 in
-    no_word (trail_text (outside levels)) rest (encode_utf8_all tail) none due.1)
-    (c.read_end.ensures (innermost_is c.args.awaits.now.items c.innermost-last.result c.innermost-last.ensures))
+    no_word (trail_text (outside levels)) rest (encode_utf8_all tail) (ap (λ (l : List Pending). past_word (trail_text l) rest) (sym off) ∙ none) due.1)
+    c.leave_node.ensures
+
+pub returns-in-Err-push : goal.returns-in-Err-push
+returns-in-Err-push g c = memory_reads (NoEventBegins (seen_awaits c.args.awaits.now.items) c.args.text.now) c.in-Err-push.stop c.in-Err-push.ensures
 
 pub returns-in-Err : goal.returns-in-Err
 returns-in-Err g c =

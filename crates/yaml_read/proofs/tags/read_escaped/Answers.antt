@@ -11,13 +11,13 @@ bytes-init g c = (
 )
 
 pub bytes-smaller : goal.bytes-smaller
-bytes-smaller g c = byte_shorter c.bytes.rest.now c.in-Some.found.1.now c.in-Some.found.0 c.in-Some.ensures.0
+bytes-smaller g c = byte_shorter c.bytes.rest.now c.in-Some.next.now c.in-Some.byte c.in-Some.ensures.0
 
 pub bytes-preserved : goal.bytes-preserved
 bytes-preserved g c = (
   search rules,
-  omega (arith, c.bytes.invariant.1, byte_shorter c.bytes.rest.now c.in-Some.found.1.now c.in-Some.found.0 c.in-Some.ensures.0),
-  word_more c.args.prefix.now c.args.text.now c.bytes.bytes.items c.push.new.self.items c.bytes.rest.now c.in-Some.found.1.now c.in-Some.found.0
+  omega (arith, c.bytes.invariant.1, byte_shorter c.bytes.rest.now c.in-Some.next.now c.in-Some.byte c.in-Some.ensures.0),
+  word_more c.args.prefix.now c.args.text.now c.bytes.bytes.items c.push.new.self.items c.bytes.rest.now c.in-Some.next.now c.in-Some.byte
       c.bytes.invariant.2 c.in-Ok-push.ensures.items c.in-Some.ensures.0 c.in-Some.ensures.1,
 )
 
