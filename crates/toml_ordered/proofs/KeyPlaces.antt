@@ -1,13 +1,14 @@
 -- The keys of a table and their index beside the keys and values that they stand for.
-use Rattle.std.proofs.Common.{◌≡◌, ℕ, zero, suc, ◌+◌, ◌<◌, ◌≤◌, ◌==◌, true, false, Bool, List, [], ◌∷◌, ◌++◌, length, Option, Some, None, cond}
+use Rattle.std.proofs.Common.{◌≡◌, ℕ, zero, suc, ◌+◌, ◌<◌, ◌≤◌, ◌==◌, true, false, Bool, List, [], ◌∷◌, ◌++◌, length, drop, drop-cons, Option, Some, None, cond}
 use Rattle.std.proofs.Common.{string_bytes, bytes_eq, refl, sym, ap, subst, ◌∙◌}
 use Rattle.std.proofs.Common.{inl, inr, arith, set, get_or}
 use Rattle.std.proofs.lemmas.Bool.{cases_Bool, eq-eqb, eqb-true, false≢true}
+use Rattle.std.proofs.lemmas.List.{drop_all}
 use Rattle.std.proofs.lemmas.Slice.Eq.{bytes_eq-Decides}
 use Rattle.std.specs.BTreeMap.{get_by_text}
 use Rattle.std.specs.Map.{update}
 use Rattle.toml_ordered.proofs.Trees.{Entry, Places}
-use Rattle.toml_ordered.specs.Data.{TomlNode, TomlNodes, is_place, kept, nodes_from, node_view}
+use Rattle.toml_ordered.specs.Data.{TomlNode, TomlNodes, no_nodes, is_place, kept, nodes_from, node_view}
 use Rattle.toml_ordered.specs.Keys.{entries_view, keys_view, HasKey, IsIndexedAt}
 use Rattle.toml_ordered.specs.Tables.{get_node, append, replace}
 
@@ -185,6 +186,20 @@ absent_other k place es d index is other =
     is_place_only (get_by_text index k) place (0 + at) is λ same.
     let here : at ≡ place = omega (arith, same) in
     false≢true (sym other ∙ subst (λ (p : ℕ). bytes_eq k (string_bytes (get_or es p d).0) ≡ true) here (has_here k at es d has))
+
+-- the keys from a place on, of which the first counts or not
+pub at_place : (index : Places) (n next : ℕ) (es : List Entry) (e : Entry) (b : Bool) → n < length es → e ≡ get_or es n e → next ≡ suc n
+    → b ≡ is_place (get_by_text index (string_bytes e.0)) n → nodes_from index n (entries_view (drop n es))
+    ≡ kept b (string_bytes e.0) (node_view e.1) (nodes_from index next (entries_view (drop next es)))
+at_place index n next es e b within is more place =
+    ap (λ (ds : List Entry). nodes_from index n (entries_view ds))
+    (drop-cons es n e within ∙ ap (λ (d : Entry). d ∷ drop (suc n) es) (sym is))
+    ∙ ap (λ (m : ℕ). kept (is_place (get_by_text index (string_bytes e.0)) n) (string_bytes e.0) (node_view e.1)
+    (nodes_from index m (entries_view (drop m es)))) (sym more)
+    ∙ ap (λ (c : Bool). kept c (string_bytes e.0) (node_view e.1) (nodes_from index next (entries_view (drop next es)))) (sym place)
+
+pub past_all : (index : Places) (n : ℕ) (es : List Entry) → length es ≤ n → nodes_from index n (entries_view (drop n es)) ≡ no_nodes
+past_all index n es past = ap (λ (ds : List Entry). nodes_from index n (entries_view ds)) (drop_all n es past)
 
 -- ---- a key that goes last
 
