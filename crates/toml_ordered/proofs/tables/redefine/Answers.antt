@@ -12,8 +12,10 @@ use Rattle.toml_ordered.specs.declared.tree.Origin.TheVariants.{Implicit, Dotted
 use Rattle.toml_ordered.specs.declared.tree.Node.{Node as CodeNode, the_lemmas}
 use Rattle.toml_ordered.specs.declared.tree.Table.{Table as CodeTable}
 use Rattle.toml_ordered.proofs.tables.redefine.Goals as goal
-use Rattle.toml_ordered.proofs.tables.redefine.Goals.{in_default-via-in-Table+then-eq+else-matches, in-Table-matches, in_default-matches, in_default-via-in-Table+else-eq}
-use Rattle.toml_ordered.proofs.tables.redefine.Goals.{in_default-via-in-Tables+else-matches-2, in-Tables-matches, in_default-matches-2, in_default-via-in_default}
+use Rattle.toml_ordered.proofs.tables.redefine.Goals.{in_default-via-in-Table+then-eq+else-matches, in-Table-matches, in_default-matches}
+use Rattle.toml_ordered.proofs.tables.redefine.Goals.{in_default-via-in-Table+else-eq}
+use Rattle.toml_ordered.proofs.tables.redefine.Goals.{in_default-via-in-Tables+else-matches-2, in-Tables-matches, in_default-matches-2}
+use Rattle.toml_ordered.proofs.tables.redefine.Goals.{in_default-via-in_default}
 
 pub returns-in_ok-begin_table-in-Tables-clause-value : goal.returns-in_ok-begin_table-in-Tables-clause-value
 returns-in_ok-begin_table-in-Tables-clause-value c =

@@ -8,31 +8,35 @@ use Rattle.yaml_read.proofs.levels.begin.Goals as goal
 pub returns-in-Some : goal.returns-in-Some
 returns-in-Some g c =
     λ kind empty tagged.
+    let words = c.args.words.now in
     let before = seen_levels c.args.levels.now.items in
     let room : length before < most_nested = omega (arith, c.len.ensures, c.args.levels.now.ok.0, levels_length c.args.levels.now.items) in
-    closed_steps before (seen_levels c.settle.new.levels.items) (seen_level c.args.level) kind c.args.words.now.bracket.now c.args.words.now.end.now c.args.words.now.lead.now
+    closed_steps before (seen_levels c.settle.new.levels.items) (seen_level c.args.level) kind words.bracket.now words.end.now words.lead.now
     c.args.text.now c.args.behind.now c.in-Ok.inside.now c.in-Some.rest.now (seen_value c.closed_value.result) c.settle.result empty tagged
     (c.in-Ok.ensures.cut, room) c.in-Some.ensures.cut c.closed_value.ensures c.settle.ensures
 
 pub returns-in-None : goal.returns-in-None
 returns-in-None g c =
     λ kind empty tagged.
+    let words = c.args.words.now in
     let before = seen_levels c.args.levels.now.items in
     let room : length before < most_nested = omega (arith, c.len.ensures, c.args.levels.now.ok.0, levels_length c.args.levels.now.items) in
-    opened_steps before (seen_levels c.enter.new.levels.items) (seen_level c.args.level) kind c.args.words.now.bracket.now c.args.words.now.end.now c.args.words.now.lead.now
+    opened_steps before (seen_levels c.enter.new.levels.items) (seen_level c.args.level) kind words.bracket.now words.end.now words.lead.now
     c.args.text.now c.args.behind.now c.in-Ok.inside.now c.enter.result empty tagged (c.in-Ok.ensures.cut, room) c.in-None.ensures.cut c.enter.ensures
 
 pub returns-then-len-ge-MOST_NESTED : goal.returns-then-len-ge-MOST_NESTED
 returns-then-len-ge-MOST_NESTED g c =
     λ kind empty tagged.
+    let words = c.args.words.now in
     let before = seen_levels c.args.levels.now.items in
     let many : most_nested ≤ length before = omega (arith, c.len.ensures, c.args.levels.now.ok.0, levels_length c.args.levels.now.items) in
-    unopened_steps g.row.A.Denot before before (seen_level c.args.level) kind c.args.words.now.bracket.now c.args.words.now.end.now c.args.words.now.lead.now c.args.text.now
+    unopened_steps g.row.A.Denot before before (seen_level c.args.level) kind words.bracket.now words.end.now words.lead.now c.args.text.now
     c.args.behind.now _ empty tagged (no_room c.in-Ok.inside.now c.in-Ok.ensures.cut many refl)
 
 pub returns-in-Err : goal.returns-in-Err
 returns-in-Err g c =
     λ kind empty tagged.
+    let words = c.args.words.now in
     let before = seen_levels c.args.levels.now.items in
-    unopened_steps g.row.A.Denot before before (seen_level c.args.level) kind c.args.words.now.bracket.now c.args.words.now.end.now c.args.words.now.lead.now c.args.text.now
+    unopened_steps g.row.A.Denot before before (seen_level c.args.level) kind words.bracket.now words.end.now words.lead.now c.args.text.now
     c.args.behind.now c.in-Err.stop empty tagged (no_bracket c.in-Err.ensures.cut c.in-Err.ensures.placed)
