@@ -15,7 +15,7 @@ use Rattle.toml_ordered.specs.Data.{Items, TomlNode, TomlNodes, array, no_items,
 use Rattle.toml_ordered.specs.Keys.{table_view}
 use Rattle.toml_ordered.specs.Firsts.{AddsFirsts, IsAgain, keys_firsts, table_firsts}
 use Rattle.toml_ordered.specs.Grammar.{val}
-use Rattle.toml_ordered.specs.Inside.{ArrayUpTo, BracesUpTo, Finds, GoesOnInside, IsFoundHere, IsNextInside, IsValueRead, IsValueRefused, NextPair}
+use Rattle.toml_ordered.specs.Inside.{ArrayUpTo, BracesUpTo, FindsHere, GoesOnInside, IsFoundHere, IsNextInside, IsValueRead, IsValueRefused, NextPair}
 use Rattle.toml_ordered.specs.Nesting.{NestsPast}
 use Rattle.toml_ordered.specs.Places.{EndsWith, PairAt, key_parts}
 use Rattle.toml_ordered.specs.Reading.{IsMemory}
@@ -150,7 +150,7 @@ module _ (depth : ℕ) (text : List ℕ) (found : CodeTable) (rest : List ℕ) (
 
 -- what `next_pair` reads, at the beginning of a table in braces, and behind a pair
 pub pair_begins : (depth less : ℕ) (text from : List ℕ) (found : CodeTable) (r : Result (Found × Bor (List ℕ)) Fault) → suc less ≡ depth
-    → BracesUpTo less text found from → length from < length text → NextPair found from r → Finds depth text r
+    → BracesUpTo less text found from → length from < length text → NextPair found from r → FindsHere depth text r
 pair_begins depth less text from found (Ok p) is known shorter next =
     let within = next.1 in
     (subst (λ (n : ℕ). IsFoundHere n text p.0 p.1.now) is (next.0 less text known), omega (arith, within, shorter))

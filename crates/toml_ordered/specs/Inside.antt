@@ -68,8 +68,8 @@ abbrev pub IsValueRefused : (depth : ℕ) (text : List ℕ) → Fault → Type 0
 IsValueRefused depth text fault = IsGrammarRefusal (val depth text) (ValueTells depth text) fault
 
 -- what is read of the value that begins the text
-abbrev pub Finds : (depth : ℕ) (text : List ℕ) → Result (Found × Bor (List ℕ)) Fault → Type 0
-Finds depth text r = MatchResult r (λ p. IsFoundHere depth text p.0 p.1.now × (length p.1.now < length text)) (IsValueRefused depth text)
+abbrev pub FindsHere : (depth : ℕ) (text : List ℕ) → Result (Found × Bor (List ℕ)) Fault → Type 0
+FindsHere depth text r = MatchResult r (λ p. IsFoundHere depth text p.0 p.1.now × (length p.1.now < length text)) (IsValueRefused depth text)
 
 -- of the value of each text in which one inside of it is read as this one
 abbrev pub Went : Open → Node → (rest : List ℕ) → ((depth : ℕ) (text : List ℕ) → Type 0) → Type 0

@@ -6,7 +6,7 @@ ghost use Rattle.toml_ordered.specs.Data.{items_view, node_view};
 ghost use Rattle.toml_ordered.specs.Keys.{sealed, table_view};
 ghost use Rattle.toml_ordered.specs.Firsts.{IsOther};
 ghost use Rattle.toml_ordered.specs.Grammar as spec;
-ghost use Rattle.toml_ordered.specs.Inside.{Finds, GoesOnInside, NextItem, NextPair};
+ghost use Rattle.toml_ordered.specs.Inside.{FindsHere, GoesOnInside, NextItem, NextPair};
 ghost use Rattle.toml_ordered.specs.Nesting.{ValueTells};
 ghost use Rattle.toml_ordered.specs.Places.{key_parts};
 ghost use Rattle.toml_ordered.specs.Reading.{Defines, ReadsExpected, ReadsPast};
@@ -75,7 +75,7 @@ pub(crate) fn value(alloc: Global, s: &str, depth: usize) -> Result<(Node, &str)
 
 /// Reads the beginning of a value: a string or a scalar, or up to the first value in an array or a table in braces.
 fn begin(alloc: Global, s: &str, depth: usize) -> Result<(Found, &str), Fault>
-    ensures { Finds depth s.now result }
+    ensures { FindsHere depth s.now result }
 {
     let byte = first(s);
     if byte != b'[' && byte != b'{' {
