@@ -1,4 +1,4 @@
--- An event is refused exactly where no accepted list goes on with it.
+-- An event is refused exactly if no accepted list continues with it.
 use Rattle.yaml_base.proofs.Common.{ℕ, ◌+◌, ◌<◌, ◌≤◌, count_by, is_none, option_and_then, Option, None, Some, nat_lt, length, Bool, cond, false, not, true}
 use Rattle.yaml_base.proofs.Common.{◌&&◌, List, [], ◌++◌, ◌∷◌, refl, ◌≡◌, lt-ltb, ltb-true, append-nil, append_assoc, ap, sym, ◌∙◌, arith, list_all-append}
 use Rattle.yaml_base.proofs.Common.{sum_by-append, list_all, option_or, Event, stream_end, document_end, sequence_end, mapping_end, Level, at_item, at_key}
@@ -23,7 +23,7 @@ pub record Stands (canonical : Bool) (events : List Event) : Type 0 where
   pub sound : list_all (is_sound canonical) events ≡ true
   pub shallow : IsShallow events
 
--- What begins an accepted list stands.
+-- A list that begins an accepted list has a tree, and its events are sound and shallow (`Stands`).
 pub stands_from_begins : (canonical : Bool) (events : List Event) → IsAcceptedPrefix canonical events → Stands canonical events
 stands_from_begins canonical events given =
     let rest = given.rest in
@@ -113,7 +113,7 @@ shallow_more : (events more : List Event) → IsShallow events → open_count ev
 shallow_more events more shallow few prefix rest is =
     shallow_cut events more prefix rest shallow few (cut_at prefix rest events more is)
 
--- What stands begins an accepted list: its completion.
+-- Such a list begins an accepted list: its completion.
 pub begins_from_stands : (canonical : Bool) (events : List Event) → Stands canonical events → IsAcceptedPrefix canonical events
 begins_from_stands canonical events stands =
     let p = stands.partial in

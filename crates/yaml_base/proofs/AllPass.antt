@@ -1,8 +1,8 @@
--- What passes a test passes what follows from it, also item by item.
+-- If one test implies another, items that pass it pass the other; also for whole lists.
 use Rattle.std.proofs.lemmas.List.Sums.{AllPass-from_list_all}
 use Rattle.yaml_base.proofs.Common.{Bool, false, true, List, [], ◌∷◌, refl, ◌≡◌, and_parts, and_from, or_parts, or_from, list_all, list_any, All}
 
--- where all pass a test, all pass another
+-- if all pass a test, all pass another
 pub all_pass : {X : Type 0} (test other : X → Bool) → ((x : X) → test x ≡ true → other x ≡ true) → (xs : List X)
     → list_all test xs ≡ true → list_all other xs ≡ true
 all_pass test other follows [] h = refl
@@ -18,7 +18,7 @@ none_pass test other follows (x ∷ xs) h =
     let both = and_parts (test x) (list_all test xs) h in
     or_from (other x) (list_any other xs) (follows x both.0) (none_pass test other follows xs both.1)
 
--- where none passes a test, none passes a stronger one
+-- if none passes a test, none passes a stronger one
 pub fewer_pass : {X : Type 0} (test other : X → Bool) → ((x : X) → test x ≡ false → other x ≡ false) → (xs : List X)
     → list_any test xs ≡ false → list_any other xs ≡ false
 fewer_pass test other follows [] h = refl
@@ -26,7 +26,7 @@ fewer_pass test other follows (x ∷ xs) h =
     let both = or_parts (test x) (list_any test xs) h in
     or_from (other x) (list_any other xs) (follows x both.0) (fewer_pass test other follows xs both.1)
 
--- so a cut where the other passes is none
+-- so a cut at the items that pass the other is no cut
 pub uncut_by : {X : Type 0} (test other : X → Bool) → ((x : X) → test x ≡ true → other x ≡ false) → (xs : List X)
     → list_all test xs ≡ true → All (λ x. other x ≡ false) xs
 uncut_by test other follows xs h k d within = follows _ (AllPass-from_list_all test xs h k d within)

@@ -1,4 +1,4 @@
--- A text is a word of ASCII by its bytes where it is by its characters.
+-- A text is a word of ASCII by its bytes if it is one by its characters.
 use Rattle.yaml_base.proofs.Common.{suc, zero, ℕ, bytes_eq, nat_lt, Bool, false, true, List, [], ◌∷◌, refl, ◌≡◌, ltb-true, ap, sym, ◌∙◌, arith, and_parts}
 use Rattle.yaml_base.proofs.Common.{bytes_eq-Decides, chars-IsAscii, list_all, chars, encode_utf8_all}
 use Rattle.std.{proofs.lemmas.Str.encodes-IsAscii, proofs.lemmas.Str.encodes-chars, specs.Str.IsAscii, specs.Str.IsUtf8}
@@ -7,13 +7,13 @@ use Rattle.std.{proofs.lemmas.Str.encodes-IsAscii, proofs.lemmas.Str.encodes-cha
 abbrev pub is_ascii_text : List ℕ → Bool
 is_ascii_text bytes = list_all (λ byte. nat_lt byte 128) bytes
 
--- what the test tells
+-- the fact of which this is the test
 pub ascii_of : (bytes : List ℕ) → is_ascii_text bytes ≡ true → IsAscii bytes
 ascii_of [] h i = omega arith
 ascii_of (b ∷ bytes) h zero = ltb-true b 128 (and_parts (nat_lt b 128) (is_ascii_text bytes) h).0
 ascii_of (b ∷ bytes) h (suc i) = ascii_of bytes (and_parts (nat_lt b 128) (is_ascii_text bytes) h).1 i
 
--- the characters are the word where the bytes are
+-- the characters are the word if the bytes are
 pub same_word : (bytes word : List ℕ) → IsUtf8 bytes → IsAscii word → bytes_eq bytes word ≡ bytes_eq (chars bytes) word
 same_word bytes word is ascii = by (bytes_eq bytes word) (bytes_eq (chars bytes) word) refl refl
   where

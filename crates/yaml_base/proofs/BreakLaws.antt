@@ -28,12 +28,12 @@ break-read setting after (c ∷ rest) k h =
     let p = rendered-cons c rest h in
     break-step setting after c rest (c == line_feed) k refl p.0 p.1 (λ next j. break-read setting next rest j p.2)
 
--- a rendered text is what its line breaks read as, however they are written
+-- a rendered text is the reading of its line breaks, in whatever form they are written
 pub breaks-round : (setting : LineBreak) (text : Text) → is_rendered_text text ≡ true
     → with_line_breaks_read (with_breaks_written setting text) ≡ text
 breaks-round setting text h = grind (arith, nat_tests, break-read)
 
--- joined texts are rendered where both are
+-- joined texts are rendered texts if both are
 pub rendered-append : (a b : Text) → is_rendered_text a ≡ true → is_rendered_text b ≡ true → is_rendered_text (a ++ b) ≡ true
 rendered-append [] b h k = k
 rendered-append (c ∷ a) b h k =

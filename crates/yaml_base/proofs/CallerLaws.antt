@@ -42,7 +42,7 @@ plain_holds_no_indicator breaks12 flow [] c rest value h = inside_here breaks12 
 plain_holds_no_indicator breaks12 flow (x ∷ before) c rest value h =
     inside_here breaks12 flow (x ∷ before) c rest (read_holds breaks12 flow x (before ++ c ∷ rest) value h)
 
--- a scalar's piece after what its place puts, with its body
+-- a scalar's piece after the text of its place, with its body
 abbrev lead_after : Effective → List TagDirective → Place → ChosenStyle → Scalar → Rendered → Rendered
 lead_after s directives place choice content placed =
     render_then
@@ -56,7 +56,7 @@ scalar_made place choice content open_ended lead body =
       standing = record { cursor = body.cursor; open_ended = open_ended_after choice.style content.value open_ended };
     }
 
--- No layout goes by the encoding or the limit, and none by the line breaks but for which characters they make special.
+-- No layout depends on the encoding or the limit; it depends on the line breaks only by the characters that they make special.
 module _ (s : Effective) (e : Encoding) (limit : ℕ) (breaks12 : Bool) (same : (breaks12 || s.portable) ≡ escapes_separators s) where
   abbrev other : Effective
   other = record s { encoding = e; limit = limit; breaks12 = breaks12 }

@@ -1,5 +1,5 @@
--- What a value may be written in where U+2028 and U+2029 are special, it may be written in where they needn't be; and what block
--- styles take, literal takes where blanks are literal.
+-- A style that a value allows if U+2028 and U+2029 are special, it allows also if they needn't be; and if a value allows block styles, it allows
+-- literal with literal blanks.
 use Rattle.yaml_base.proofs.Common.{ℕ, ◌==◌, Bool, false, not, true, ◌&&◌, ◌||◌, [], ◌∷◌, refl, ◌≡◌, ap, and_parts, and_from, or_parts, or_from, not-true}
 use Rattle.yaml_base.proofs.Common.{sym, ◌∙◌, if◌then◌else◌, eqb-true, and_right, true≢false, false≢true, tab, space, is_space, is_blank, is_break}
 use Rattle.yaml_base.proofs.Common.{Text, line_separator, paragraph_separator, is_ascii, is_printable, Charset, somewhere, is_empty, is_special, bars_block}
@@ -8,7 +8,7 @@ use Rattle.yaml_base.proofs.Common.{allows_block, Effective, Scalar, charset_of,
 use Rattle.yaml_base.specs.scalars.Analysis.{begins_unlike_plain, bars_plain, bars_single_quoted, allows_plain, allows_single_quoted}
 use Rattle.yaml_base.specs.scalars.Analysis.{begins_with, is_trailing_space}
 
--- an alternative that holds where another one does
+-- an alternative that holds if another one does
 or_fewer : (a b rest : Bool) → (a ≡ false → b ≡ false) → (a || rest) ≡ false → (b || rest) ≡ false
 or_fewer a b rest implies h = let parts = or_parts a rest h in or_from b rest (implies parts.0) parts.1
 
@@ -25,7 +25,7 @@ somewhere_fewer test fewer implies (c ∷ rest) h =
     let parts = or_parts (test c rest) (somewhere test rest) h in
     or_from (fewer c rest) (somewhere fewer rest) (implies c rest parts.0) (somewhere_fewer test fewer implies rest parts.1)
 
--- what one reason makes special, two do
+-- a character that is special for one reason is special for two
 module _ (unicode one other : Bool) where
   abbrev fewer : Charset
   fewer = record { unicode = unicode; breaks12 = one }
@@ -69,7 +69,7 @@ module _ (unicode one other : Bool) where
       ap not (or_from (is_empty value) (somewhere (bars_block fewer) value) bars.0
       (somewhere_fewer (bars_block more) (bars_block fewer) (λ c rest. or_fewer _ _ _ (or_fewer _ _ _ (special_fewer c))) value bars.1))
 
-  -- literal, where blanks are literal
+  -- literal, if blanks are literal
   pub literal_still : (value : Text) → allows_literal more value ≡ true → allows_literal fewer value ≡ true
   literal_still value h =
       let bars = or_parts (is_empty value || begins_with_blanks_alone value) (somewhere (bars_literal more) value) (not-true _ h) in
@@ -78,10 +78,10 @@ module _ (unicode one other : Bool) where
       (somewhere_fewer (bars_literal more) (bars_literal fewer)
       (λ c rest. or_fewer _ _ _ (and_fewer (not (c == tab)) _ _ (special_fewer c))) value bars.1))
 
--- What block styles take
+-- Values that allow block styles
 
 module _ (charset : Charset) where
-  -- what isn't special is no tab
+  -- a character that isn't special is no tab
   pub special_tab : (c : ℕ) → is_special charset c ≡ false → (c == tab) ≡ false
   special_tab c h = by (c == tab) refl
     where
@@ -89,7 +89,7 @@ module _ (charset : Charset) where
       by false e = refl
       by true e = absurd (true≢false (sym (ap (is_special charset) (eqb-true c tab e)) ∙ h))
 
-  -- behind a blank that no block text bars comes a character that is no break
+  -- after a blank that no block text bars comes a character that is no break
   blank_inside : (c : ℕ) (rest : Text) → bars_block charset c rest ≡ false → is_blank c ≡ true
       → (begins_with is_break rest ≡ false) × (is_empty rest ≡ false)
   blank_inside c rest h blank =
@@ -124,7 +124,7 @@ module _ (charset : Charset) where
       by true e = blank_goes_on c rest h e
       by false e = refl
 
-  -- what bars literal text bars block text
+  -- a character that bars literal text bars block text
   literal_bars : (value : Text) → somewhere (bars_block charset) value ≡ false → somewhere (bars_literal charset) value ≡ false
   literal_bars [] h = refl
   literal_bars (c ∷ rest) h =
@@ -138,7 +138,7 @@ module _ (charset : Charset) where
       (and_right (is_break c) (begins_with_blanks_alone rest) (none_of_blanks rest bars.1)))
       (literal_bars rest bars.1)
 
-  -- what block styles take, literal takes where blanks are literal
+  -- if a value allows block styles, it allows literal with literal blanks
   pub literal_of_block : (value : Text) → allows_block charset value ≡ true → allows_literal charset value ≡ true
   literal_of_block value h =
       let bars = or_parts (is_empty value) (somewhere (bars_block charset) value) (not-true _ h) in
@@ -146,7 +146,7 @@ module _ (charset : Charset) where
       (or_from (is_empty value || begins_with_blanks_alone value) (somewhere (bars_literal charset) value)
       (or_from (is_empty value) (begins_with_blanks_alone value) bars.0 (none_of_blanks value bars.1)) (literal_bars value bars.1))
 
--- what a scalar's value allows as a block style, literal takes where blanks are literal
+-- if a scalar's value allows a block style, it allows literal with literal blanks
 pub literal_allowed : (s : Effective) (content : Scalar) → (allowed_under s content).block ≡ true
     → allows_literal (charset_of s) content.value ≡ true
 literal_allowed s content = by (is_literal content.style && s.literal_blanks)

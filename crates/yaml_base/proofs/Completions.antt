@@ -67,6 +67,6 @@ pub completion_pushed : (events : List Event) (p : Partial) → partial_of event
     → partial_of (completion events) ≡ Some (after_stream (stream_completed p))
 completion_pushed events p begins = grind (arith, pushed-append, missing_pushed)
 
--- Where a list begins one that is a whole stream's, it begins a stream.
+-- If a list begins a list that is a whole stream's, it begins a stream.
 pub prefix_is_partial : (a b : List Event) (q : Partial) → partial_of (a ++ b) ≡ Some q → (p : Partial) × (partial_of a ≡ Some p)
 prefix_is_partial a b q whole = grind (arith, pushed-append)

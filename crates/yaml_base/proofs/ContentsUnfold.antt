@@ -81,7 +81,7 @@ mutual
   content_pairs_fit graph (pairs_and pairs key value) (placed_and (placed_and before other) last) fit =
       ((content_pairs_fit graph pairs before fit.0.0, content_fits graph key other fit.0.1), content_fits graph value last fit.1)
 
--- a tree's content unfolds what the tree does
+-- a tree's content unfolds the graph that the tree unfolds
 pub content_unfolds : (graph : Graph) (tree : Node) → TreeUnfolds graph tree → ContentUnfolds graph (node_content tree)
 content_unfolds graph tree unfolds = grind (arith, content_fits)
 

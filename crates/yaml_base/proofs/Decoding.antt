@@ -41,7 +41,7 @@ pub text_bytes-utf8 : (text : Text) → text_bytes utf8 text ≡ encode_utf8_all
 text_bytes-utf8 [] = refl
 text_bytes-utf8 (c ∷ rest) = ap (λ l. encode_utf8 c ++ l) (text_bytes-utf8 rest)
 
--- no surrogate stands alone
+-- no surrogate is alone
 not_a_surrogate : (c : ℕ) → IsScalar c → (nat_le 0xD800 c && nat_lt c 0xDC00) ≡ false
 not_a_surrogate c s = grind (arith, lt-leb, le-leb, le-ltb)
 

@@ -1,4 +1,4 @@
--- What scalars and aliases write under the settings of canonical values.
+-- The text of scalars and aliases under the settings of canonical values.
 use Rattle.yaml_base.proofs.Common.{ℕ, Bool, true, false, not, ◌&&◌, Option, None, Some, List, [], ◌∷◌, ◌++◌, refl, ◌≡◌, subst, sym, append_assoc, append-nil}
 use Rattle.yaml_base.proofs.Common.{and-false, codes, true≢false, Text, space, is_some, flat_map-append, flat_map, Cursor, Rendered, Standing, RenderedPieces}
 use Rattle.yaml_base.proofs.Common.{Piece, text_of, piece_text, one_piece, then_pieces, Place, render_place, Effective, effective, directives_in_force}
@@ -15,7 +15,7 @@ s = effective typed_settings None
 abbrev pub force : List TagDirective
 force = directives_in_force []
 
--- a node leaves the cursor neither behind white space nor in indentation
+-- the state after a node: the cursor is neither after white space nor in indentation
 abbrev pub standing_at : (column open_ended : ℕ) → Standing
 standing_at column open_ended = record { cursor = record { column = column; whitespace = false; indention = false }; open_ended = open_ended }
 
@@ -31,14 +31,14 @@ writes_text {open_ended} {rendered} a b e w = subst (λ t. Writes t open_ended r
 pub text_of-append : (a b : List Piece) → text_of (a ++ b) ≡ text_of a ++ text_of b
 text_of-append a b = flat_map-append piece_text a b
 
--- pieces behind pieces
+-- pieces after pieces
 pub writes_then : {open_ended : ℕ} {a b : Text} (first : RenderedPieces) (next : Standing → RenderedPieces) → (before : Writes a open_ended first)
     → Writes b open_ended (next (standing_at before.column open_ended)) → Writes (a ++ b) open_ended (then_pieces first next)
 writes_then {open_ended} {a} {b} first next before after = grind (arith, text_of-append)
 
 -- ---- anchors and tags
 
--- rendered at a cursor, and then a space where none stands, it is this text, a space before it where none stands
+-- the rendered text, and a space if none precedes, are this text, with a space before it if none precedes the cursor
 abbrev pub IsProperty : Text → Cursor → Rendered → Type 0
 IsProperty text cursor rendered = rendered.text ++ space_if true rendered.cursor ≡ space_if true cursor ++ text
 
@@ -63,15 +63,15 @@ inside_is indent before [] cursor = refl
 inside_is indent before (c ∷ rest) cursor =
     grind (arith, and-false, true≢false, inside_is indent (Some c) rest (render_text (character_text true c) cursor).cursor)
 
--- what stands before a node at its place
+-- the text before a node at its place
 abbrev pub lead : Place → Standing → Rendered
 lead place standing = render_place s place false standing.cursor
 
--- a node's text behind that
+-- a node's text after that
 abbrev pub led : Rendered → Text → Text
 led before text = before.text ++ (space_if true before.cursor ++ text)
 
--- where the bare tag stands
+-- true if the bare tag is written
 abbrev is_bare : Scalar → Bool
 is_bare content = not (is_some content.tag) && not content.quoted_implicit && true
 

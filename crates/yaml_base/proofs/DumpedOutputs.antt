@@ -48,7 +48,7 @@ layout_is : (encoding : Option Encoding) (implicit : Bool) (root : Node)
 layout_is encoding true root = ap (λ t. codes "---\n" ++ t) (rest_is root)
 layout_is encoding false root = ap (λ t. codes "---\n" ++ t) (rest_is root)
 
--- LF stands for itself
+-- LF means itself
 breaks_same : (text : Text) → with_breaks_written line_feed_break text ≡ text
 breaks_same [] = refl
 breaks_same (c ∷ rest) = grind (arith, eqb-true, breaks_same rest)

@@ -13,7 +13,7 @@ use Rattle.yaml_base.specs.graphs.DumpedText.{scalar_properties, collection_prop
 
 -- ---- collections
 
--- a bracket, a space before it where none stands
+-- a bracket, a space before it if none precedes
 opening_is : (bracket : Text) (cursor : Cursor)
     → render_indicator (opening_bracket bracket) cursor
     ≡ record {
@@ -31,7 +31,7 @@ empty_writes : (brackets : Brackets) (column : Option ℕ) (from : Standing)
     → Writes (space_if true from.cursor ++ (brackets.opening ++ brackets.closing)) from.open_ended (one_piece (end_piece s brackets true true column from))
 empty_writes brackets column from = grind (arith, and-false, append_assoc, append-nil)
 
--- behind the last entry a comma, and the closing bracket on a line of its own
+-- after the last entry a comma, and the closing bracket on a line of its own
 closing_writes : (brackets : Brackets) (column : Option ℕ) (at open_ended : ℕ)
     → Writes (codes "," ++ (line_at (line_column column) ++ brackets.closing)) open_ended
     (one_piece (end_piece s brackets true false column (standing_at at open_ended)))
@@ -39,7 +39,7 @@ closing_writes brackets column at open_ended =
     let lead = (end_piece s brackets true false column (standing_at at open_ended)).piece.lead in
     record { is = append-nil (lead ++ []) ∙ append-nil lead; column = _; stands = refl }
 
--- properties, and then what a collection's entries and its end write
+-- properties, and then the pieces of a collection's entries and its end
 collection_writes : (brackets : Brackets) (start : Collection) (place : Place) (undented empty : Bool)
     (entries : ℕ → Standing → RenderedPieces) (text : Text) (standing : Standing)
     → ((from : Standing) → Writes (space_if true from.cursor ++ text) from.open_ended
@@ -68,7 +68,7 @@ collection_writes brackets start place undented empty entries text standing goes
 
 -- ---- entries
 
--- a bracket, a space before it where none stands, and the line of the first item
+-- a bracket, a space before it if none precedes, and the line of the first item
 item_first : (bracket : Text) (column : ℕ) (cursor : Cursor) (text : Text)
     → led (render_then (opening_or_comma bracket true cursor) (flow_break s (Some column))) text
     ≡ space_if true cursor ++ (bracket ++ (line_at column ++ text))
@@ -82,7 +82,7 @@ key_first column cursor text =
     ap (λ r. led (render_then (render_then r (flow_break s (Some column))) (key_indicator false false)) text) (opening_is (codes "{") cursor)
     ∙ simp append_assoc
 
--- behind a node
+-- after a node
 item_next : (column at open_ended : ℕ) (text : Text)
     → led (lead (entry_place true (as_item false) column) (standing_at at open_ended)) text ≡ codes "," ++ (line_at column ++ text)
 item_next column at open_ended text = refl
@@ -111,7 +111,7 @@ in_flow spot start empty = grind (arith, nat_tests)
 no_key_is_simple : (key : Node) → is_simple true force key ≡ false
 no_key_is_simple key = grind (arith, nat_tests)
 
--- what stands between a collection's brackets but for the last comma, where there are entries
+-- the text between a collection's brackets but for the last comma, if there are entries
 abbrev WritesItems : ℕ → Nodes → Standing → RenderedPieces → Type 0
 WritesItems column no_nodes from rendered = Unit {0}
 WritesItems column (nodes_and items item) from rendered =
@@ -125,7 +125,7 @@ WritesPairs column no_pairs from rendered = Unit {0}
 WritesPairs column (pairs_and pairs key value) from rendered =
     Writes (space_if true from.cursor ++ (codes "{" ++ (node_pairs_text column pairs ++ pair_text column key value))) from.open_ended rendered
 
--- with the end behind them
+-- with the end after them
 items_end : (items : Nodes) (column : Option ℕ) (from : Standing)
     → WritesItems (deeper 2 column) items from (render_nodes items s force true (deeper 2 column) from)
     → Writes
@@ -153,7 +153,7 @@ pairs_end (pairs_and pairs key value) column from entries =
     (λ after. one_piece (end_piece s curly true false column after))
     entries (closing_writes curly column entries.column from.open_ended))
 
--- a value behind its key
+-- a value after its key
 value_behind : (key value : Node) (column open_ended : ℕ) {text : Text} (first : RenderedPieces) → (before : Writes text open_ended first)
     → ((at : ℕ) → Writes (led (lead (entry_place true (as_value false) column) (standing_at at open_ended)) (node_text column value)) open_ended
     (render_node value s force (entry_place true (as_value false) column) (standing_at at open_ended)))

@@ -1,4 +1,4 @@
--- What a number of JSON is spelled as is the same number.
+-- The spelling of a JSON number means the same number.
 use Rattle.yaml_base.proofs.Common.{nat_tests, ℕ, ◌*◌, ◌+◌, Option, neg_ℤ, negsuc, pos, ℤ, ◌+ℤ◌, Bool, false, true, ◌≡◌, append-nil, arith, Decides-int_eq}
 use Rattle.yaml_base.proofs.Common.{Text, JsonExponent, JsonNumber, json_value, number_meant, means_number, signed}
 use Rattle.std.{proofs.lemmas.Int.ints, proofs.lemmas.Int.Digits.digits_value_push, specs.Ordering.int_eq, specs.Prelude.◌*ℤ◌, specs.Prelude.◌-ℤ◌}
@@ -23,12 +23,12 @@ rise gap = elim gap as (λ _. ℕ) [
   | negsuc n ↦ 0
 ]
 
--- what a number's spelling means is the number, by its parts
+-- the meaning of a number's spelling is the number, by its parts
 keeps : (negative : Bool) (whole : Text) (fraction : Option Text) (exponent : Option JsonExponent)
     → means_number (json_value (record { negative = negative; whole = whole; fraction = fraction; exponent = exponent }))
     (number_meant (record { negative = negative; whole = whole; fraction = fraction; exponent = exponent })) ≡ true
 keeps negative whole fraction exponent = grind (arith, nat_tests, one_below, digits_value_push, tenfold, one_above, same_integer, append-nil)
 
--- what a number's spelling means is the number
+-- the meaning of a number's spelling is the number
 pub spelling_keeps_value : (number : JsonNumber) → means_number (json_value number) (number_meant number) ≡ true
 spelling_keeps_value number = keeps number.negative number.whole number.fraction number.exponent

@@ -1,7 +1,7 @@
--- What it says that no fault is returned.
+-- Facts that follow if no fault is returned.
 use Rattle.yaml_base.proofs.Common.{is_none, Option, None, Some, Bool, cond, false, true, refl, ◌≡◌, option_or}
 
--- neither of two options has a value where the first of them that has one is none
+-- neither of two options has a value if their first value is none
 pub neither : {A : Type 0} (x y : Option A) → option_or x y ≡ None → (x ≡ None) × (y ≡ None)
 neither None y e = (refl, e)
 neither (Some x) y e = absurd (cc)

@@ -1,4 +1,4 @@
--- A number's spelling, cut where the schemas cut it: past its sign, at its point, at its exponent.
+-- A number's spelling, cut as the schemas cut it: after its sign, at its point, at its exponent.
 use Rattle.yaml_base.proofs.Common.{suc, ℕ, if◌then◌else◌, ⊤, ◌==◌, Option, None, Some, codes, length, Bool, false, not, true, ◌||◌, List, [], ◌++◌, ◌∷◌, refl}
 use Rattle.yaml_base.proofs.Common.{◌≡◌, eqb-true, ne_eqb, append-nil, ap, ◌∙◌, arith, and_parts, and_from, and_left, or_from, or_left, not_from_false}
 use Rattle.yaml_base.proofs.Common.{false≢true, slice_split-cons_yes, take_while-cons, list_all, slice_split, take_while, Text, named, JsonExponent, minus}
@@ -65,12 +65,12 @@ at_point whole fraction h g =
 abbrev pub mantissa_of : (whole fraction : Text) → Text
 mantissa_of whole fraction = whole ++ (codes "." ++ fraction)
 
--- what stands after the `e`
+-- the text after the `e`
 abbrev pub exponent_parts : Option JsonExponent → List Text
 exponent_parts None = []
 exponent_parts (Some exponent) = ((if exponent_negative exponent then codes "-" else codes "+") ++ exponent.digits) ∷ []
 
--- digits stand after the `e`, where there is one
+-- digits follow the `e`, if there is one
 abbrev pub HasDigits : Option JsonExponent → Type 0
 HasDigits None = ⊤
 HasDigits (Some exponent) = are_digits 10 exponent.digits ≡ true
@@ -123,7 +123,7 @@ minus_read false c rest h = digit_no_hyphen c h
 
 -- Words and dates
 
--- a digit stands first, past a sign
+-- no digit is first, after a sign or none
 abbrev begins_otherwise : Text → Bool
 begins_otherwise text = not (first_meets is_decimal (past_sign text))
 
@@ -139,7 +139,7 @@ no_word_of_core negative c rest h = no_word words_of_core negative c rest refl h
 pub no_word_of_11 : (negative : Bool) (c : ℕ) (rest : Text) → is_decimal c ≡ true → named words_of_11 (minus negative ++ (c ∷ rest)) ≡ None
 no_word_of_11 negative c rest h = no_word words_of_11 negative c rest refl h
 
--- digits and what can't stand in a date: these digits are its prefix
+-- if digits are followed by a character that no date holds, these digits are its date part
 date_prefix : (digits rest : Text) → list_all is_decimal digits ≡ true → first_meets in_date rest ≡ false → take_while in_date (digits ++ rest) ≡ digits
 date_prefix [] [] h g = refl
 date_prefix [] (c ∷ rest) h g = take_while-cons in_date c rest ∙ ap (λ x. if x then c ∷ take_while in_date rest else []) g

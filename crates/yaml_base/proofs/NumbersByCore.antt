@@ -62,7 +62,7 @@ pub integer_by_core : (negative : Bool) (c : ℕ) (digits : Text) → list_all i
     → resolved_by_core (minus negative ++ (c ∷ digits)) ≡ meant_integer (signed negative (digits_value 10 (c ∷ digits)))
 integer_by_core negative c digits h = grind (arith, passed, no_word_of_core, and_parts, found, past_minus, minus_read, given, some_digits)
 
--- what follows the whole part of a number that is no integer
+-- the text after the whole part of a number that is no integer
 abbrev pub after_whole : (fraction : Text) → Option JsonExponent → Text
 after_whole fraction exponent = codes "." ++ fraction ++ exponent_spelled exponent
 
@@ -74,7 +74,7 @@ core_integer_none : (negative : Bool) (c : ℕ) (rest : Text) → is_decimal c �
     → core_integer (minus negative ++ (c ∷ rest)) ≡ None
 core_integer_none negative c rest digit h = grind (arith, withheld, past_minus)
 
--- no letter begins what follows a digit
+-- no letter begins the text after a digit
 pub no_letter : (letter : ℕ) (digits rest : Text) → is_decimal letter ≡ false → list_all is_decimal digits ≡ true → first_meets (λ c. c == letter) rest ≡ false
     → first_meets (λ c. c == letter) (digits ++ rest) ≡ false
 no_letter letter [] rest other h g = g
@@ -92,7 +92,7 @@ cut_read c whole fraction exponent h g e =
     ap (slice_split is_exponent_letter) (sym (append_assoc (c ∷ whole) (codes "." ++ fraction) (exponent_spelled exponent)))
     ∙ at_exponent (c ∷ whole) fraction exponent h g e
 
--- what such a number means
+-- the meaning of such a number
 abbrev pub scientific_of : (negative : Bool) → (whole fraction : Text) → Option JsonExponent → Resolved
 scientific_of negative whole fraction exponent = meant_decimal (record {
   digits = signed negative (digits_value 10 (whole ++ fraction));

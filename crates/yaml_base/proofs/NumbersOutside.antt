@@ -8,12 +8,12 @@ use Rattle.std.{proofs.lemmas.List.Folds.find-append, proofs.lemmas.List.drop_al
 use Rattle.std.proofs.Common.{add-one, drop-cons, IsTrue}
 use Rattle.yaml_base.proofs.Common.{slice_index_or as get_or, Bool, cond, false, not, true, ◌&&◌, List, [], map, ◌∷◌, refl, ◌≡◌, ap, sym, ◌∙◌, length-map}
 
--- a search from a place on finds what stands there
+-- a search from a place on finds the item there
 pub found_at : {X : Type 0} (test : X → Bool) (items : List X) (i : ℕ) (d : X) → i < length items → test (get_or items i d) ≡ true
     → find test (drop i items) ≡ Some (get_or items i d)
 found_at test items i d within passes = grind (arith, drop-cons)
 
--- or goes on behind it
+-- or goes on after it
 pub passed_at : {X : Type 0} (test : X → Bool) (items : List X) (i : ℕ) (d : X) → i < length items → test (get_or items i d) ≡ false
     → find test (drop i items) ≡ find test (drop (i + 1) items)
 passed_at test items i d within fails = grind (arith, drop-cons, add-one)
@@ -40,7 +40,7 @@ pub pair_within : (count i : ℕ) (pairs : List yaml_node_pair_t) (d : yaml_node
     → first_outside count (numbers_of_pairs (drop i pairs)) ≡ first_outside count (numbers_of_pairs (drop (i + 1) pairs))
 pair_within count i pairs d within key value = grind (arith, nat_tests, pair_at)
 
--- at a place of the list: the node's numbers, and then those behind it
+-- at a place of the list: the node's numbers, and then those of the nodes after it
 at_place : {A : Type 0} (count i : ℕ) (nodes : List (yaml_node_t A)) (node : yaml_node_t A) → i < length nodes → node ≡ get_or nodes i node
     → first_outside count (all_numbers (drop i nodes))
     ≡ option_or (first_outside count (numbers_of node.contents)) (first_outside count (all_numbers (drop (i + 1) nodes)))
@@ -59,7 +59,7 @@ held_outside count i nodes node None within is gives some = cc
 held_outside count i nodes node (Some number) within is gives some =
     at_place count i nodes node within is ∙ ap (λ (first : Option ℤ). option_or first (first_outside count (all_numbers (drop (i + 1) nodes)))) (sym gives)
 
--- a node that holds none leaves it to those behind it
+-- after a node without one, the nodes after it are searched
 pub none_held : {A : Type 0} (count i : ℕ) (nodes : List (yaml_node_t A)) (node : yaml_node_t A) (found : Option ℤ) → i < length nodes
     → node ≡ get_or nodes i node
     → found ≡ first_outside count (numbers_of node.contents) → is_some found ≡ false
@@ -109,6 +109,6 @@ whole_graph version directives nodes start_implicit end_implicit none =
     ap (λ (count : ℕ). list_all (λ node. list_all (within_count count) (numbers_held node.held)) (map seen_node nodes)) (length-map nodes seen_node)
     ∙ nodes_within (length nodes) nodes none
 
--- what the test of a document's numbers tells
+-- the fact of which the test of a document's numbers is the test
 pub none_of_test : {X : Type 0} (found : Option X) → IsTrue (is_none found) → found ≡ None
 none_of_test found is = grind (arith, nat_tests)

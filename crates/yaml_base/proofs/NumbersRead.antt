@@ -52,7 +52,7 @@ pub integer_without_sign : (negative : Bool) (c : ℕ) (digits : Text) → list_
 integer_without_sign negative c digits h whole =
     grind (arith, passed, float_11_none, based_11_none, whole_no_octal, found, decimal_11_read, append-nil, no_letter, and_parts)
 
--- a number's reading by 1.1 is that of what follows its sign
+-- a number's reading by 1.1 is that of the text after its sign
 past_sign_11 : (negative : Bool) (c : ℕ) (whole rest : Text) (meant : Resolved) → list_all is_decimal (c ∷ whole) ≡ true → first_meets in_date rest ≡ false
     → first_reading (numbers_11 negative ((c ∷ whole) ++ rest)) ≡ meant → resolved_by_11 (minus negative ++ ((c ∷ whole) ++ rest)) ≡ meant
 past_sign_11 negative c whole rest meant h g reads =
@@ -125,7 +125,7 @@ exponent_digits : (exponent : Option JsonExponent) → elim exponent as (λ _. B
 exponent_digits None h = tt
 exponent_digits (Some exponent) h = h
 
--- the spelling of a number means by both schemas what it is to mean
+-- the spelling of a number has by both schemas the meaning that it is to have
 pub spelling_read : (number : JsonNumber) → is_json_number number ≡ true → ReadAs (yaml_number number) (number_meant number)
 spelling_read number h =
     let whole_fraction : Bool = is_whole_part number.whole && elim number.fraction as (λ _. Bool) [ None ↦ true | Some digits ↦ are_digits 10 digits ] in

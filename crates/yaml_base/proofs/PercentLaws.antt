@@ -1,4 +1,4 @@
--- Percent decoding undoes escaping, and what a written text holds.
+-- Percent decoding undoes escaping; and the characters that a written text holds.
 use Rattle.yaml_base.proofs.Common.{ℕ, ◌%◌, ◌/◌, ◌<◌, ◌==◌, Some, codes, nat_lt, length, Bool, cond, false, not, true, ◌&&◌, ◌||◌, List, [], ◌++◌, ◌∷◌, refl}
 use Rattle.yaml_base.proofs.Common.{◌≡◌, eqb-true, ltb-true, ap, ◌∙◌, arith, and_parts, and_from, or_from, agree_below_at, not-true, nat_tests}
 use Rattle.yaml_base.proofs.Common.{list_all-append, list_any-append, chars-encodes, length-encode, len_utf8_bounds, len_utf8, flat_map, list_all, list_any}
@@ -38,13 +38,13 @@ scalar_below c e = ⊎_elim (λ h. omega arith) (λ h. omega arith) (scalar_case
 tag_character_is_no_percent : (c : ℕ) → is_tag_character c ≡ true → (c == percent_sign) ≡ false
 tag_character_is_no_percent c h = grind (arith, nat_tests)
 
--- a character that stands as itself only where it is no `%` reads as its bytes
+-- a character that is written as itself only if it is no `%` reads as its bytes
 character_read : (stands : Bool) (c : ℕ) (rest : Text) → (stands ≡ true → (c == percent_sign) ≡ false) → scalar c ≡ true
     → form_bytes between_forms (character_written stands c ++ rest) ≡ encode c ++ form_bytes between_forms rest
 character_read true c rest k h = rw (k refl) refl
 character_read false c rest k h = forms_read (encode c) rest (encode_is_bytes c (scalar_below c h))
 
--- so does a text, whichever of its characters stand as themselves
+-- so does a text, whichever of its characters are written as themselves
 text_read_by : (stands : ℕ → Bool) → ((c : ℕ) → stands c ≡ true → (c == percent_sign) ≡ false) → (text : Text) → scalars text ≡ true
     → form_bytes between_forms (flat_map (λ c. character_written (stands c) c) text) ≡ encodes text
 text_read_by stands k [] h = refl
@@ -56,7 +56,7 @@ text_read_by stands k (c ∷ text) h =
 pub text_read : (text : Text) → scalars text ≡ true → form_bytes between_forms (percent_escaped text) ≡ encodes text
 text_read text h = text_read_by is_tag_character tag_character_is_no_percent text h
 
--- what stands after a handle is among what stands in tags
+-- a character that may come after a handle may be in a tag
 suffix_in_tags : (portable : Bool) (c : ℕ) → is_suffix_character portable c ≡ true → is_tag_character c ≡ true
 suffix_in_tags portable c h = (and_parts (not (portable && is_among (codes ",[]") c)) (is_tag_character c) h).1
 
@@ -65,7 +65,7 @@ suffix_read : (portable : Bool) (text : Text) → scalars text ≡ true → form
 suffix_read portable text h =
     text_read_by (is_suffix_character portable) (λ c k. tag_character_is_no_percent c (suffix_in_tags portable c k)) text h
 
--- what stands first in a prefix is no `%`
+-- the first character of a prefix is no `%`
 first_is_no_percent : (portable : Bool) (c : ℕ) → ((portable && c == 0x21) || is_tag_character c) ≡ true → (c == percent_sign) ≡ false
 first_is_no_percent true c h = grind (arith, nat_tests)
 first_is_no_percent false c h = tag_character_is_no_percent c h
@@ -77,7 +77,7 @@ prefix_read portable (c ∷ text) h =
     let both = and_parts _ _ h in
     character_read _ c _ (first_is_no_percent _ c) both.0 ∙ ap (λ x. encode c ++ x) (text_read text both.1)
 
--- what reads as the bytes of a text is decoded as the text
+-- a text that reads as the bytes of another is decoded as that one
 decoded_by : (text written : Text) → scalars text ≡ true → form_bytes between_forms written ≡ encodes text → percent_read written ≡ Some text
 decoded_by text written h e = grind (arith, is_utf8-from_IsUtf8, chars-encodes)
 
@@ -93,7 +93,7 @@ decoded_suffix portable text h = decoded_by text (suffix_escaped portable text) 
 pub decoded_prefix : (portable : Bool) (text : Text) → scalars text ≡ true → percent_read (prefix_escaped portable text) ≡ Some text
 decoded_prefix portable text h = decoded_by text (prefix_escaped portable text) h (prefix_read portable text h)
 
--- Each character of a written text may stand in a tag, or is of a percent form: no space, no break, no `!`, no `<` and no `>`.
+-- Each character of a written text may be in a tag, or is of a percent form: no space, no break, no `!`, no `<` and no `>`.
 abbrev pub stands_written : ℕ → Bool
 stands_written c = is_tag_character c || c == percent_sign
 
@@ -108,13 +108,13 @@ pub character_stands : (kept : Bool) (c : ℕ) → (kept ≡ true → is_tag_cha
 character_stands true c k = rw (k refl) refl
 character_stands false c k = forms_stand (encode c)
 
--- each character of a text that is written by a test on tags' characters may stand there
+-- each character of a text that is written by a test on tags' characters may be there
 text_stands : (kept : ℕ → Bool) → ((c : ℕ) → kept c ≡ true → is_tag_character c ≡ true) → (text : Text)
     → list_all stands_written (flat_map (λ c. character_written (kept c) c) text) ≡ true
 text_stands kept k [] = refl
 text_stands kept k (c ∷ text) = grind (arith, list_all-append, and_from, character_stands, text_stands kept k text)
 
--- each character of a written text may stand there
+-- each character of a written text may be there
 pub escaped_stands : (text : Text) → list_all stands_written (percent_escaped text) ≡ true
 escaped_stands text = text_stands is_tag_character (λ c h. h) text
 
@@ -122,7 +122,7 @@ escaped_stands text = text_stands is_tag_character (λ c h. h) text
 pub suffix_stands : (portable : Bool) (text : Text) → list_all stands_written (suffix_escaped portable text) ≡ true
 suffix_stands portable text = text_stands (is_suffix_character portable) (suffix_in_tags portable) text
 
--- In a prefix a `!` may stand too.
+-- In a prefix a `!` may come too.
 abbrev pub stands_in_prefix : ℕ → Bool
 stands_in_prefix c = stands_written c || c == 0x21
 
@@ -137,7 +137,7 @@ kept_in_prefix : (portable : Bool) (c : ℕ) → ((portable && c == 0x21) || is_
 kept_in_prefix false c h = rw h refl
 kept_in_prefix true c h = grind (arith)
 
--- each character of a written prefix may stand there
+-- each character of a written prefix may be there
 pub prefix_stands : (portable : Bool) (text : Text) → list_all stands_in_prefix (prefix_escaped portable text) ≡ true
 prefix_stands portable [] = refl
 prefix_stands portable (c ∷ text) =
@@ -145,7 +145,7 @@ prefix_stands portable (c ∷ text) =
     list_all-append stands_in_prefix (character_written kept c) (percent_escaped text)
     ∙ and_from _ _ (first_in_prefix kept c (kept_in_prefix portable c)) (all_in_prefix (percent_escaped text) (escaped_stands text))
 
--- In portable mode no flow indicator stands after a handle.
+-- In portable mode no flow indicator follows a handle.
 abbrev is_flow_indicator : ℕ → Bool
 is_flow_indicator c = is_among (codes ",[]") c
 

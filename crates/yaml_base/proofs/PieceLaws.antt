@@ -28,7 +28,7 @@ steps-append (event ∷ a) b s follows stage standing =
     let stepped = step s stage event (ends_next a (ends_next b follows)) standing in
     grind (arith, nat_tests, steps-append a b s follows stepped.stage stepped.rendered.standing)
 
--- What follows matters to a collection's start alone.
+-- The next event matters to a collection's start alone.
 pub step_same : (event : Event) (stage : Stage) (s : Effective) (f g : Bool) (standing : Standing) → begins_collection event ≡ false
     → step s stage event f standing ≡ step s stage event g standing
 step_same event stage s f g standing h = grind (arith, nat_tests)

@@ -1,4 +1,4 @@
--- Where plain is chosen, it is chosen whichever quotes are asked for in its place.
+-- If plain is chosen, it is chosen whichever quotes are asked for in its place.
 use Rattle.yaml_base.proofs.Common.{if◌then◌else◌, Bool, false, true, ◌≡◌, ap, false≢true, ScalarStyle, plain, single_quoted, double_quoted, allowed_by_quotes}
 use Rattle.yaml_base.proofs.Common.{Allowances, is_plain, chosen, arith, nat_tests}
 

@@ -1,4 +1,4 @@
--- What is held back: it begins with an event that awaits others, and nothing of a whole stream is held back.
+-- The events held back: they begin with an event that awaits others, and no event of a whole stream is held back.
 use Rattle.yaml_base.proofs.Common.{suc, ℕ, ◌+◌, ◌≤◌, if◌then◌else◌, ◌==◌, count_by, nat_lt, drop, length, take, Bool, cond, false, true, ◌&&◌, ◌||◌, List, []}
 use Rattle.yaml_base.proofs.Common.{◌++◌, ◌∷◌, refl, ◌≡◌, eq-eqb, length-append, append_assoc, ap, ◌∙◌, arith, sum_by-append, and_right, or_right, list_any}
 use Rattle.yaml_base.proofs.Common.{Event, document_start, document_end, sequence_start, sequence_end, mapping_start, mapping_end, Node, nat_tests, alias_node}
@@ -17,7 +17,7 @@ pub written_within : (events : List Event) → written events ≤ length events
 written_within [] = omega arith
 written_within (event ∷ rest) = written_if (is_ready event rest) (written rest) (length rest) (written_within rest)
 
--- what stands first among the held events isn't ready
+-- the first of the held events isn't ready
 abbrev HeldWaits : List Event → ℕ → Type 0
 HeldWaits events k = (event : Event) (rest : List Event) → drop k events ≡ event ∷ rest → is_ready event rest ≡ false
 
@@ -30,11 +30,11 @@ pub held_waits : (events : List Event) → HeldWaits events (written events)
 held_waits [] = λ event rest given. cc
 held_waits (first ∷ others) = held_if first others (is_ready first others) refl (held_waits others)
 
--- So an event that is held first awaits at least as many as stand from it on.
+-- So the first held event awaits at least as many events as there are from it on.
 pub held_is_short : (event : Event) (rest : List Event) → is_ready event rest ≡ false → length (event ∷ rest) ≤ awaited event
 held_is_short event rest waits = grind (arith, nat_tests)
 
--- A collection that the ready events begin last isn't closed by what is held, nor by what may come.
+-- The first held event isn't a collection's end: it doesn't close a collection that the ready events begin last.
 pub no_end_held : (event : Event) (rest : List Event) → is_ready event rest ≡ false → ends_collection event ≡ false
 no_end_held event rest h = grind (arith, nat_tests)
 
@@ -106,7 +106,7 @@ whole_prefix : (first : Event) (rest : List Event) (p : List Event → Bool) →
 whole_prefix first [] p h = ap (λ b. b || false) h
 whole_prefix first (next ∷ rest) p h = grind (arith, nat_tests, any_map, whole_prefix next rest (λ prefix. p (first ∷ prefix)) h)
 
--- A start is ready where its end is there.
+-- A start is ready if its end is there.
 balanced_ready : (start : Event) (inside rest : List Event) → Balanced (start ∷ inside) → is_ready start (inside ++ rest) ≡ true
 balanced_ready start inside rest h =
     or_right (awaited start == 0 || nat_lt (awaited start) (length (start ∷ (inside ++ rest))))

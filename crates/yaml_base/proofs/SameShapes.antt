@@ -33,7 +33,7 @@ partner_there (alias_pair name one another ∷ all) anchor number other (inr wit
 partner_there (node_pair given one another ∷ all) anchor number other within =
     here_or_later (number == one) given anchor one another number other (partner_in all number) all refl within (partner_there all anchor number other)
 
--- where a node has one place
+-- if a node has one place
 partner_is : (all : List Pair) (anchor : Option Text) (number other : ℕ) → IsIn (node_pair anchor number other) all
     → count_by (is_occurrence_of number) (map first_of all) ≡ 1 → partner_in all number ≡ other
 partner_is all anchor number other within once = grind (arith, partner_there, only_one, eq-eqb, count_map)
@@ -94,7 +94,7 @@ alias_matches all name number other within named also once =
     (only_one (λ pair. has_anchor name (first_of pair)) (node_pair (Some name) number node.0) (node_pair (Some name) again.0 other) all node.1 again.1
     carried carried (sym (count_map first_of (has_anchor name) all) ∙ one.0))
 
--- ---- what a node's partner has
+-- ---- the parts of a node's partner
 
 -- the numbers at each place are partners
 abbrev Match : (ℕ → ℕ) → List Pair → Type 0
@@ -165,7 +165,7 @@ first_numbers pair = grind (arith)
 second_numbers : (pair : Pair) → number_in (second_of pair) ≡ second_number pair
 second_numbers pair = grind (arith)
 
--- what is known of a tree with the numbers of both graphs
+-- the facts known of a tree with the numbers of both graphs
 record Both (first second : Graph) (twin : Twin) : Type 0 where
   fits : TwinFits first second twin
   root : number_at (first_placed twin) ≡ 1

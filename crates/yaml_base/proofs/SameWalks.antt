@@ -11,7 +11,7 @@ use Rattle.yaml_base.proofs.UnfoldTrees.{placed_steps, below_steps, Fits, AllFit
 
 -- ---- each step in its turn
 
--- a node is entered where it wasn't before, and met again where it was
+-- a node is entered if it wasn't before, and met again if it was
 abbrev pub IsStepOf : List Step → Step → Type 0
 IsStepOf before (enters number) = list_any (is_entry_of number) before ≡ false
 IsStepOf before (meets_again number) = list_any (is_entry_of number) before ≡ true
@@ -92,7 +92,7 @@ pub injective : (first second : Graph) (iso : Isomorphic first second) (number o
     → iso.partner number ≡ iso.partner other → number ≡ other
 injective first second iso number other reached also same = sym (iso.one_to_one number reached) ∙ ap iso.back same ∙ iso.one_to_one other also
 
--- partners are the same exactly where the nodes are
+-- partners are the same exactly if the nodes are
 same_test : (first second : Graph) (iso : Isomorphic first second) (number other : ℕ) → IsReached first number → IsReached first other
     → (iso.partner number == iso.partner other) ≡ (number == other)
 same_test first second iso number other reached also = grind (arith, injective, eqb-true, eq-eqb, same_from_decides)

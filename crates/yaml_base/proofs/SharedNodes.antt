@@ -1,4 +1,4 @@
--- The numbers that a list has, each where it first stands; the names of shared nodes, and that they differ.
+-- The numbers of a list, each at its first place; the names of shared nodes, and that they differ.
 use Rattle.yaml_base.proofs.Common.{suc, zero, ℕ, ◌%◌, ◌*◌, ◌+◌, ◌-◌, ◌/◌, ◌<◌, ◌==◌, option_map, Option, None, Some, nat_lt, length, replicate}
 use Rattle.yaml_base.proofs.Common.{slice_index_or as get_or, Bool, cond, false, not, true, ◌||◌, List, [], ◌++◌, ◌∷◌, refl, ◌≡◌, eqb-true, ap, sym, ◌∙◌}
 use Rattle.yaml_base.proofs.Common.{arith, nat_tests, digit_value, digit_glyph, digits_onto, filter, filter_map, list_any, position, position_or_len, Text}
@@ -15,7 +15,7 @@ one_without : (b : Bool) (number y : ℕ) (ys : List ℕ) → (b ≡ true → (y
 one_without false number y ys h = refl
 one_without true number y ys h = ap (λ (t : Bool). t || has number ys) (sym (h refl))
 
--- without x, a list has what it had beside x
+-- without x, a list has the numbers that it had besides x
 has_without : (number x : ℕ) (xs : List ℕ) → (x == number) ≡ false → has number (filter (λ other. not (other == x)) xs) ≡ has number xs
 has_without number x [] differs = refl
 has_without number x (y ∷ xs) differs = grind (arith, one_without, has_without number x xs differs)
@@ -29,7 +29,7 @@ pub has_first : (number : ℕ) (xs : List ℕ) → has number (first_of_each xs)
 has_first number [] = refl
 has_first number (x ∷ xs) = grind (arith, either_same, has_without, has_first number xs)
 
--- that a list has a number is that it first stands before the end
+-- a list has a number exactly if the number's first place is before the end
 one_position : (b a : Bool) (k l : ℕ) → a ≡ nat_lt k l → (b || a) ≡ nat_lt (cond (not b) (1 + k) 0) (suc l)
 one_position true a k l is = grind (arith, nat_tests)
 one_position false a k l is = is ∙ grind (arith, nat_tests)
@@ -68,7 +68,7 @@ zeros_value : (count : ℕ) (digits : List ℕ) → digits_value_after 10 0 (rep
 zeros_value zero digits = refl
 zeros_value (suc count) digits = zeros_value count digits
 
--- what follows the first two characters
+-- the text after the first two characters
 behind_two : Text → Text
 behind_two [] = []
 behind_two (a ∷ []) = []
@@ -94,7 +94,7 @@ shared_named walk number met =
     let there : nat_lt place (length shared) ≡ true = sym (has_position number shared) ∙ has_first number (filter_map node_met_again walk) ∙ met in
     (numbered_name (place + 1), ap (λ (b : Bool). option_map (λ first. numbered_name (first + 1)) (cond b (Some place) None)) there)
 
--- what was mapped
+-- the value before the mapping
 some_mapped : (f : ℕ → Text) (found : Option ℕ) (name : Text) → option_map f found ≡ Some name → (place : ℕ) × (found ≡ Some place) × (f place ≡ name)
 some_mapped f None name is = cc
 some_mapped f (Some place) name is = (place, refl, let same : f place ≡ name = cc in same)

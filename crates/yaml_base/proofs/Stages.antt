@@ -1,4 +1,4 @@
--- A stage allows and refuses what the partial tree does that it stands for.
+-- A stage allows and refuses the same events as the partial tree to which it corresponds.
 use Rattle.yaml_base.proofs.Common.{nat_tests, arith, suc, is_none, option_and_then, Option, None, Some, length, Bool, false, true, List, [], ◌∷◌, refl}
 use Rattle.yaml_base.proofs.Common.{◌≡◌, ap, subst, sym, ◌∙◌, TagDirective, DocumentStart, Event, stream_start, stream_end, document_start, document_end, alias}
 use Rattle.yaml_base.proofs.Common.{scalar, sequence_start, sequence_end, mapping_start, mapping_end, Node, nodes_and, pairs_and, Documents, no_documents}
@@ -8,7 +8,7 @@ use Rattle.yaml_base.proofs.Common.{as_value, ends_collection, refusal_at, refus
 use Rattle.yaml_base.proofs.Common.{at_document, at_node, at_document_end, at_nothing, stage_after, step, ends_next, steps}
 use Rattle.yaml_base.specs.Steps.{stage_refusal}
 
--- a frame awaits what a level does
+-- a frame awaits the same entry as a level
 abbrev Awaits : Level → Role → Type 0
 Awaits (at_item c items) (as_item first) = Unit {0}
 Awaits (at_key c pairs) (as_key first) = Unit {0}
@@ -20,7 +20,7 @@ AllAwait [] [] = Unit {0}
 AllAwait (level ∷ levels) (frame ∷ frames) = Awaits level frame.place.role × AllAwait levels frames
 AllAwait levels frames = ⊥
 
--- a stage stands for a partial tree
+-- a stage corresponds to a partial tree
 abbrev pub StandsFor : Partial → Stage → Type 0
 StandsFor before_stream at_stream = Unit {0}
 StandsFor (between_documents e d) (at_document first) = Unit {0}
@@ -35,7 +35,7 @@ level_next (at_item c items) n = at_item c (nodes_and items n)
 level_next (at_key c pairs) n = at_value c pairs n
 level_next (at_value c pairs key) n = at_key c (pairs_and pairs key n)
 
--- the stage after an event stands for the tree after it
+-- the stage after an event corresponds to the tree after it
 abbrev Follows : Partial → Stage → Event → Type 0
 Follows p stage event = (q : Partial) (s : Effective) (empty : Bool) (standing : Standing) → push p event ≡ Some q
     → StandsFor q (step s stage event empty standing).stage
@@ -82,7 +82,7 @@ step_stands (after_root e d start root) at_document_end event h q s empty standi
 step_stands (after_stream t) at_nothing event h q s empty standing given = cc
 step_stands p stage event h q s empty standing given = absurd h
 
--- The stage after a list stands for its partial tree.
+-- The stage after a list corresponds to its partial tree.
 abbrev ListStands : List Event → Type 0
 ListStands events = (p q : Partial) (stage : Stage) (s : Effective) (follows : Bool) (standing : Standing) → StandsFor p stage → pushed p events ≡ Some q
     → StandsFor q (steps s follows events stage standing).stage

@@ -7,13 +7,13 @@ use Rattle.yaml_base.proofs.Common.{layout, Standing, RenderedPieces, then_piece
 use Rattle.yaml_base.proofs.Common.{render_pairs, Role, as_item, as_key, as_value, is_undented, entries_column, has_no_nodes, has_no_pairs, is_simple}
 use Rattle.yaml_base.proofs.Common.{is_simple_at, Effective, Frame, at_stream, at_document, at_node, next_place, stage_after, ends_next, Steps, steps}
 
--- pieces of a tree, and then steps from where they leave off
+-- pieces of a tree, and then steps from the state after them
 abbrev after_pieces : RenderedPieces → (Standing → Steps) → Steps
 after_pieces rendered next =
     let after = next rendered.standing in
     record { pieces = rendered.pieces ++ after.pieces; standing = after.standing; stage = after.stage }
 
--- Steps that agree where the pieces leave off.
+-- Steps that agree after the pieces.
 after_pieces-same : (a : RenderedPieces) (f g : Standing → Steps) → f a.standing ≡ g a.standing → after_pieces a f ≡ after_pieces a g
 after_pieces-same a f g same =
     ap (λ (after : Steps). let made : Steps = record { pieces = a.pieces ++ after.pieces; standing = after.standing; stage = after.stage } in made) same
@@ -105,6 +105,6 @@ documents_steps (documents_and x last) s follows rest standing =
     let before = documents_steps x s follows (document_events last ++ rest) standing in
     grind (arith, append_assoc, after_pieces-same, node_steps, before)
 
--- The layout of a stream is what its events give, one after another.
+-- The layout of a stream is the pieces of its events, one after another.
 pub stream_steps : (t : Stream) (s : Effective) → (steps s false (stream_events t) at_stream first_standing).pieces ≡ layout s t
 stream_steps t s = grind (arith, after_pieces-same, documents_steps, append_assoc, append-nil)

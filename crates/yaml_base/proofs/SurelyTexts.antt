@@ -20,7 +20,7 @@ word_by_core text h = named_unlike is_reserved words_of_core text refl h
 
 -- ---- numbers in a base
 
--- a sign stands before a number
+-- a sign precedes a number
 past_sign_based : (text : Text) → begins_based (past precedes_number text) ≡ begins_based (past precedes_number (past_sign text))
 past_sign_based [] = refl
 past_sign_based (c ∷ rest) = by (is_plus_or_minus c) refl

@@ -1,4 +1,4 @@
--- The forms of handles and tags: what they consist of, and how a tag is spelled by the directives in force.
+-- The forms of handles and tags: their characters, and how a tag is spelled by the directives in force.
 use Rattle.yaml_base.proofs.Common.{nat_tests, arith, ℕ, ◌==◌, option_map, bytes_eq, Option, None, Some, codes, Bool, cond, false, not, true, List, [], ◌++◌}
 use Rattle.yaml_base.proofs.Common.{◌∷◌, ◌⊎◌, refl, ◌≡◌, eqb-true, append_assoc, inr, ap, sym, ◌∙◌, and_parts, or_parts, not-false, bytes_eq-Decides, list_all}
 use Rattle.yaml_base.proofs.Common.{scalars, Text, is_alpha, TagDirective, exclamation_mark, handle_fault, gives_handle, next_directive_fault}
@@ -20,7 +20,7 @@ without_last-append [] end = refl
 without_last-append (c ∷ []) end = refl
 without_last-append (c ∷ next ∷ rest) end = ap (λ x. c ∷ x) (without_last-append (next ∷ rest) end)
 
--- what stands before the sign at the end
+-- the text before the sign at the end
 pub closing_angle_dropped : (text : Text) → without_closing_angle (text ++ 0x3E ∷ []) ≡ Some text
 closing_angle_dropped [] = refl
 closing_angle_dropped (c ∷ []) = refl
@@ -55,7 +55,7 @@ handle_form (c ∷ d ∷ rest) e =
     ∙ ap (λ x. (x ∷ without_last (d ∷ rest)) ++ exclamation_mark ∷ []) first in
     inr (without_last (d ∷ rest), whole, tests.2)
 
--- What follows a prefix
+-- The text after a prefix
 
 behind_step : (same : Bool) (p c : ℕ) (prefix text suffix : Text) → (p == c) ≡ same → cond same (behind prefix text) None ≡ Some suffix → (p ≡ c)
     × (behind prefix text ≡ Some suffix)

@@ -10,7 +10,7 @@ any-append p [] ys h k = k
 any-append p (x ∷ xs) ys h k =
     let both = or_parts (p x) (list_any p xs) h in or_from _ _ both.0 (any-append p xs ys both.1 k)
 
--- by what a reader could end a word
+-- true of a character at which a reader could end a word
 abbrev pub ends_word : ℕ → Bool
 ends_word c = is_blank c || is_break c
 

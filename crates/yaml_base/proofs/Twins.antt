@@ -1,5 +1,4 @@
--- Two trees of one shape, each with the numbers of its own graph: what stands at each place of both, and that the numbers
--- there belong together.
+-- Two trees of one shape, each with the numbers of its own graph: the numbers at each place of both, and that they belong together.
 use Rattle.yaml_base.proofs.Common.{suc, zero, ℕ, ◌+◌, ◌≤◌, ⊤, Contains, count_by, Option, Bool, cond, false, true, List, [], map, ◌++◌, ◌∷◌, ◌⊎◌, refl, ◌≡◌}
 use Rattle.yaml_base.proofs.Common.{inl, inr, ap, subst, sym, ◌∙◌, arith, map-append, Contains-append_left, Contains-append_right, Text, label_at, Graph}
 use Rattle.yaml_base.proofs.Common.{children, Shape, no_shapes, Placed, alias_placed, PlacedNodes, node_placed, none_placed, placed_and, number_at, numbers_at}
@@ -243,7 +242,7 @@ count_map f test [] = refl
 count_map f test (x ∷ xs) =
     count_cons test (f x) (map f xs) ∙ ap (λ (n : ℕ). cond (test (f x)) 1 0 + n) (count_map f test xs) ∙ sym (count_cons (λ y. test (f y)) x xs)
 
--- what is counted is there
+-- a counted number is there
 pub counted_in : {X : Type 0} (test : X → Bool) (xs : List X) → 1 ≤ count_by test xs → (x : X) × IsIn x xs × (test x ≡ true)
 counted_in test [] some = absurd (omega (arith, some))
 counted_in test (x ∷ xs) some =

@@ -56,7 +56,7 @@ two_each : (pairs : List NumberPair) → length (flat_map (λ (pair : NumberPair
 two_each [] = omega arith
 two_each (pair ∷ pairs) = omega (arith, two_each pairs)
 
--- what a mapping's node has below it
+-- the trees below a mapping's node
 held_pairs : (below : PlacedNodes) (pairs : List NumberPair) → numbers_at below ≡ flat_map (λ (pair : NumberPair). pair.key ∷ pair.value ∷ []) pairs
     → are_pairs below ≡ true
 held_pairs below pairs is = even_pairs below (length pairs) (ap length is ∙ two_each pairs)

@@ -1,5 +1,4 @@
--- What a walk keeps, one step at a time: a node is entered once, it is met again only after that, and whatever is entered
--- is reached.
+-- The invariants of a walk, one step at a time: a node is entered once, it is met again only after that, and every entered node is reached.
 use Rattle.yaml_base.proofs.Common.{nat_tests, suc, zero, ℕ, ◌+◌, ⊤, ◌==◌, Contains, count_by, Bool, cond, false, true, ◌||◌, List, [], ◌++◌, ◌∷◌, refl, ◌≡◌}
 use Rattle.yaml_base.proofs.Common.{eqb-true, ne_eqb, append-nil, append_assoc, inl, inr, ap, subst, sym, ◌∙◌, arith, or-true, or_cases, cases_eq}
 use Rattle.yaml_base.proofs.Common.{Contains-append_left, Contains-append_right, list_any-append, sum_by-append, list_any, Graph, children, Step, enters}
@@ -47,11 +46,11 @@ steps_keep graph P keeps (suc depth) before number reached p =
 pub any_added : (test : Step → Bool) (before : List Step) (step : Step) → list_any test (before ++ step ∷ []) ≡ (list_any test before || test step)
 any_added test before step = list_any-append test before (step ∷ []) ∙ ap (λ (b : Bool). list_any test before || b) (or-false (test step))
 
--- where the new one fails
+-- if the new one fails
 pub none_added : (test : Step → Bool) (before : List Step) (step : Step) → test step ≡ false → list_any test (before ++ step ∷ []) ≡ list_any test before
 none_added test before step is = any_added test before step ∙ ap (λ (b : Bool). list_any test before || b) is ∙ or-false (list_any test before)
 
--- where it passes
+-- if it passes
 pub one_added : (test : Step → Bool) (before : List Step) (step : Step) → test step ≡ true → list_any test (before ++ step ∷ []) ≡ true
 one_added test before step is = any_added test before step ∙ ap (λ (b : Bool). list_any test before || b) is ∙ or-true (list_any test before)
 
@@ -62,7 +61,7 @@ still_any test before after is = list_any-append test before after ∙ ap (λ (b
 pub count_added : (test : Step → Bool) (before : List Step) (step : Step) → count_by test (before ++ step ∷ []) ≡ count_by test before + cond (test step) 1 0
 count_added test before step = sum_by-append (λ other. cond (test other) 1 0) before (step ∷ []) ∙ omega arith
 
--- ---- what a walk keeps
+-- ---- the invariants of a walk
 
 -- a step meets the node of this number, for the first time or again
 abbrev pub is_meeting_of : ℕ → Step → Bool
@@ -108,7 +107,7 @@ follow_more before (first ∷ walk) step follow now = (
       (subst (λ steps. FollowsEntry steps step) (sym (append_assoc before (first ∷ []) walk)) now),
 )
 
--- a property of the steps before a step, where the step has no part in it
+-- a property of the steps before a step, if the step has no part in it
 kept : (graph : Graph) (before : List Step) (step : Step) → IsOrderly graph before → ((number : ℕ) → is_entry_of number step ≡ false)
     → ((number : ℕ) → is_meeting_of number step ≡ true → list_any (is_entry_of number) before ≡ true) → FollowsEntry before step
     → IsOrderly graph (before ++ step ∷ [])

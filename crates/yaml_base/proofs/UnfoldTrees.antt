@@ -1,4 +1,4 @@
--- The tree of a walk: an alias where a node is met again, a node with those below it where it is entered.
+-- The tree of a walk: an alias if a node is met again, a node with those below it if it is entered.
 use Rattle.yaml_base.proofs.Common.{suc, zero, ℕ, ◌+◌, ◌<◌, ◌≤◌, ⊤, ◌==◌, Contains, unwrap_or, Option, None, Some, nat_le, length, Bool, cond, false, true}
 use Rattle.yaml_base.proofs.Common.{◌&&◌, ◌||◌, List, [], ◌++◌, ◌∷◌, refl, ◌≡◌, eq-eqb, eqb-true, leb-true, append-nil, append_assoc, inl, inr, ap, subst, sym}
 use Rattle.yaml_base.proofs.Common.{◌∙◌, arith, or-true, or_cases, cases_eq, filter_map-append, list_any-append, filter_map, list_all, list_any, Text}
@@ -51,7 +51,7 @@ first_names count number numbers all = grind (arith, and_parts, leb-true)
 rest_names : (count number : ℕ) (numbers : List ℕ) → name_nodes count (number ∷ numbers) ≡ true → name_nodes count numbers ≡ true
 rest_names count number numbers all = (and_parts (nat_le 1 number && nat_le number count) (name_nodes count numbers) all).1
 
--- one of the nodes, and what it holds
+-- one of the nodes, and its contents
 found : (count : ℕ) (nodes : List GraphNode) (place : ℕ) → list_all (λ node. name_nodes count (numbers_held node.held)) nodes ≡ true → place < length nodes
     → (node : GraphNode) × (slice_get nodes place ≡ Some node) × (name_nodes count (numbers_held node.held) ≡ true)
 found count [] place all within = absurd (omega (arith, within))
@@ -150,7 +150,7 @@ all_walk named graph step room each (number ∷ numbers) before from earlier is 
     graph.nodes) number numbers names) (omega (arith, grown, less)) in
     grind (arith, first_names, append_assoc, unentered, unentered_grown, rest_names, other)
 
--- the entry, what follows and the end belong together
+-- the entry, the steps after it and the end belong together
 regrouped : (before below : List Step) (entry end : Step) → ((before ++ entry ∷ []) ++ below) ++ end ∷ [] ≡ before ++ (entry ∷ (below ++ end ∷ []))
 regrouped before below entry end = append_assoc (before ++ entry ∷ []) below (end ∷ []) ∙ append_assoc before (entry ∷ []) (below ++ end ∷ [])
 
@@ -209,7 +209,7 @@ numbers_met (placed_and before last) child within =
           any_right _ (below_steps before) _ (subst (λ (n : ℕ). list_any (is_meeting_of n) (placed_steps last) ≡ true) (only_one _ child now) (root_met last))
     ]
 
--- behind an entry, and before its end
+-- after an entry, and before its end
 within_met : (child number : ℕ) (below : List Step) → list_any (is_meeting_of child) below ≡ true
     → list_any (is_meeting_of child) (enters number ∷ (below ++ leaves number ∷ [])) ≡ true
 within_met child number below is = any_right (is_meeting_of child) (enters number ∷ []) (below ++ leaves number ∷ [])

@@ -1,4 +1,4 @@
--- In canonical mode no layout goes by the styles of events, nor by whether a document's start is implicit.
+-- In canonical mode no layout depends on the styles of events, nor on whether a document's start is implicit.
 use Rattle.yaml_base.proofs.Common.{arith, ◌==◌, Option, Bool, false, not, true, ◌&&◌, ◌||◌, List, [], map, ◌∷◌, refl, ◌≡◌, ap, sym, ◌∙◌, render_then, cut}
 use Rattle.yaml_base.proofs.Common.{any_style, any_layout, TagDirective, DocumentStart, Scalar, Collection, Event, document_start, scalar, sequence_start}
 use Rattle.yaml_base.proofs.Common.{mapping_start, Stream, stream_events, render_if, render_closing_marker, render_version, render_tag_directives}

@@ -6,7 +6,7 @@ use Rattle.yaml_base.specs.graphs.DumpedText.{dumped_text, node_pairs_text, node
 use Rattle.yaml_base.specs.values.TypedValues.{values_and, TypedPairs, no_value_pairs, value_pairs_and, value_node, value_nodes, value_pairs, typed_output}
 use Rattle.yaml_base.specs.values.ValueText.{document_text, items_text, line_at, pairs_text, value_text}
 
--- what stands before a list's end, where there are items; and before a map's
+-- the text before a list's end, if there are items; and before a map's
 abbrev ItemsAre : ℕ → TypedValues → Type 0
 ItemsAre column no_values = Unit {0}
 ItemsAre column (values_and items item) =

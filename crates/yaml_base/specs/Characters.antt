@@ -6,11 +6,11 @@ use Rattle.std.specs.List.{list_any}
 abbrev pub Text : Type 0
 Text = List ℕ
 
--- a character is one of these
+-- true if a character is one of these
 abbrev pub is_among : Text → ℕ → Bool
 is_among text character = list_any (λ member. character == member) text
 
--- a character is the first, the last, or one between them
+-- true if a character is the first, the last, or one between them
 abbrev pub is_between : ℕ → ℕ → ℕ → Bool
 is_between first last character = nat_le first character && nat_le character last
 
@@ -42,31 +42,31 @@ tab = 0x9
 abbrev pub backslash : ℕ
 backslash = 0x5C
 
--- a letter or digit of ASCII, `_` or `-`
+-- true if a character is an ASCII letter or digit, `_` or `-`
 abbrev pub is_alpha : ℕ → Bool
 is_alpha c = is_between 48 57 c || is_between 65 90 c || is_between 97 122 c || c == 95 || c == 45
 
--- up to U+007F
+-- true up to U+007F
 abbrev pub is_ascii : ℕ → Bool
 is_ascii c = nat_le c 0x7F
 
--- the space, and not the tab
+-- true of the space, not of the tab
 abbrev pub is_space : ℕ → Bool
 is_space c = c == space
 
--- a space or a tab (YAML 1.1, section 5.5)
+-- true of the space and the tab (YAML 1.1, section 5.5)
 abbrev pub is_blank : ℕ → Bool
 is_blank c = c == space || c == tab
 
--- a line break (YAML 1.1, section 5.4)
+-- true of a line break (YAML 1.1, section 5.4)
 abbrev pub is_break : ℕ → Bool
 is_break c = c == line_feed || c == carriage_return || c == next_line || c == line_separator || c == paragraph_separator
 
--- the byte order mark (YAML 1.1, section 5.2)
+-- true of the byte order mark (YAML 1.1, section 5.2)
 abbrev pub is_bom : ℕ → Bool
 is_bom c = c == byte_order_mark
 
--- may stand as itself in a text; a tab, CR and U+0085 may not
+-- true if a character may be itself in a text; a tab, CR and U+0085 may not
 abbrev pub is_printable : ℕ → Bool
 is_printable c =
     c == line_feed
@@ -79,7 +79,7 @@ is_printable c =
 abbrev pub hex_digit : ℕ → ℕ
 hex_digit d = if nat_lt d 10 then 48 + d else 55 + d
 
--- the last so many hexadecimal digits of a number
+-- that many of a number's hexadecimal digits, the last ones
 abbrev pub hex_digits : ℕ → ℕ → Text
 hex_digits zero n = []
 hex_digits (suc count) n = hex_digits count (n / 16) ++ hex_digit (n % 16) ∷ []

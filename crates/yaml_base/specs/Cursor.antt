@@ -1,9 +1,9 @@
--- Where the next character stands, and the pieces of text that are put there (libyaml's own rules).
+-- The cursor, and the texts that move it (libyaml's own rules).
 use Rattle.std.specs.Prelude.{ℕ, Bool, true, false, Option, None, Some, [], ◌∷◌, ◌++◌, ◌==◌, ◌||◌, ◌&&◌, ◌+◌, ◌-◌, not, nat_lt, replicate, if◌then◌else◌}
 use Rattle.yaml_base.specs.Characters.{Text, is_break, line_feed, space}
 
--- the column of the next character, counted in characters; whether white space stands before it,
--- or nothing but indentation and indicators that may stand in it
+-- the column of the next character, counted in characters; whether white space precedes it; and whether only indentation, and indicators
+-- that may be part of indentation, precede it in its line
 pub record Cursor : Type 0 where
   pub column : ℕ
   pub whitespace : Bool
@@ -14,20 +14,20 @@ pub record Rendered : Type 0 where
   pub text : Text
   pub cursor : Cursor
 
--- at the start of a stream
+-- the cursor at the start of a stream
 abbrev pub first_cursor : Cursor
 first_cursor = record { column = 0; whitespace = true; indention = true }
 
--- no text, the cursor as it was
+-- no text, and the cursor as it was
 abbrev pub render_nothing : Cursor → Rendered
 render_nothing cursor = record { text = []; cursor = cursor }
 
--- a text, and then what is rendered at the cursor after it
+-- a text, and then the text that is rendered at the cursor after it
 abbrev pub render_then : Rendered → (Cursor → Rendered) → Rendered
 render_then first next =
     let second = next first.cursor in record { text = first.text ++ second.text; cursor = second.cursor }
 
--- the column after a character that stands at this one: one more, or 0 after a break
+-- the column after a character at this column: one more, or 0 after a break
 abbrev pub next_column : ℕ → ℕ → ℕ
 next_column character column = if is_break character then 0 else column + 1
 
@@ -36,7 +36,7 @@ abbrev pub column_after : Text → ℕ → ℕ
 column_after [] column = column
 column_after (character ∷ rest) column = column_after rest (next_column character column)
 
--- a text by itself: it moves the column and no flag
+-- a text by itself: it moves the column and leaves the flags
 abbrev pub render_text : Text → Cursor → Rendered
 render_text text cursor =
     record { text = text; cursor = record cursor { column = column_after text cursor.column } }
@@ -46,12 +46,13 @@ abbrev pub with_flags : Bool → Bool → Rendered → Rendered
 with_flags whitespace indention rendered =
     record { text = rendered.text; cursor = record { column = rendered.cursor.column; whitespace = whitespace; indention = indention } }
 
--- a new line at a column breaks the line unless the cursor stands before or at that column, free to go on
+-- true if a new line at a column needs a break: more than indentation precedes the cursor in its line, or the cursor is past that column,
+-- or it is at that column and no white space precedes it
 abbrev pub breaks_line : ℕ → Cursor → Bool
 breaks_line at cursor =
     not cursor.indention || nat_lt at cursor.column || (cursor.column == at && not cursor.whitespace)
 
--- a new line that begins at a column: a break where one is needed, then spaces up to the column
+-- a new line that begins at a column: a break if one is needed, then spaces up to the column
 abbrev pub new_line : ℕ → Cursor → Rendered
 new_line at cursor =
     record {
@@ -59,20 +60,20 @@ new_line at cursor =
       cursor = record { column = at; whitespace = true; indention = true };
     }
 
--- a space, where one is needed and none stands there
+-- a space, if one is needed and none precedes
 abbrev pub space_if : Bool → Cursor → Text
 space_if need cursor = if need && not cursor.whitespace then space ∷ [] else []
 
--- an indicator, a space before it where one is needed, and the flags after it
+-- an indicator, with a space before it if one is needed, and the flags after it
 abbrev pub indicator : Text → Bool → Bool → Bool → Cursor → Rendered
 indicator symbol need whitespace indention cursor =
     with_flags whitespace (cursor.indention && indention) (render_text (space_if need cursor ++ symbol) cursor)
 
--- a name, which ends white space and indentation
+-- a name, after which both flags are off
 abbrev pub render_name : Text → Cursor → Rendered
 render_name name cursor = with_flags false false (render_text name cursor)
 
--- the column is past the width; no width is never passed
+-- true if the column is past the width; without a width it never is
 abbrev pub is_past_width : Option ℕ → Cursor → Bool
 is_past_width None cursor = false
 is_past_width (Some width) cursor = nat_lt width cursor.column

@@ -1,22 +1,22 @@
--- The text of bytes that were written, for those who hold bytes alone (RFC 3629; RFC 2781, section 2.2).
+-- The text of written bytes, for callers that have the bytes alone (RFC 3629; RFC 2781, section 2.2).
 use Rattle.std.specs.Prelude.{ℕ, Option, None, Some, List, [], ◌∷◌, ◌+◌, ◌-◌, ◌*◌, nat_le, nat_lt, ◌&&◌, drop, if◌then◌else◌}
 use Rattle.std.specs.Str.{chars}
 use Rattle.yaml_base.specs.Characters.{Text}
 use Rattle.yaml_base.specs.Settings.{Encoding, utf8, utf16_little, utf16_big}
 
--- bytes as code units, the upper byte of each first
+-- bytes as code units, each with its upper byte first
 abbrev pub units_upper_first : List ℕ → List ℕ
 units_upper_first [] = []
 units_upper_first (upper ∷ []) = []
 units_upper_first (upper ∷ lower ∷ rest) = (upper * 0x100 + lower) ∷ units_upper_first rest
 
--- bytes as code units, the lower byte of each first
+-- bytes as code units, each with its lower byte first
 abbrev pub units_lower_first : List ℕ → List ℕ
 units_lower_first [] = []
 units_lower_first (lower ∷ []) = []
 units_lower_first (lower ∷ upper ∷ rest) = (upper * 0x100 + lower) ∷ units_lower_first rest
 
--- a unit from U+D800 to U+DBFF is the first of a pair (RFC 2781, section 2.2)
+-- the text of code units; a unit from U+D800 to U+DBFF is the first of a pair (RFC 2781, section 2.2)
 abbrev pub text_of_units : List ℕ → Text
 text_of_units [] = []
 text_of_units (unit ∷ []) = unit ∷ []
@@ -30,7 +30,7 @@ text_of_bytes utf8 bytes = chars bytes
 text_of_bytes utf16_little bytes = text_of_units (units_lower_first bytes)
 text_of_bytes utf16_big bytes = text_of_units (units_upper_first bytes)
 
--- the text of a stream: its byte order mark, if any, is two bytes
+-- the text of a stream; its byte order mark, if any, is two bytes
 unfoldable pub decode : Option Encoding → List ℕ → Text
 decode None bytes = []
 decode (Some utf8) bytes = text_of_bytes utf8 bytes

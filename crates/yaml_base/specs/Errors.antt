@@ -1,4 +1,4 @@
--- The errors: the layer that each comes from, and their words (libyaml's own texts).
+-- The errors: the layer that each comes from, and its text (libyaml's own texts).
 use Rattle.std.specs.Prelude.{ℕ, List, codes, Option, None, Some, Result, Ok, Err}
 use Rattle.yaml_base.specs.declared.errors.yaml_error_t.{yaml_error_t}
 use Rattle.yaml_base.specs.declared.errors.yaml_error_t.TheVariants.{ExpectedStreamStart, ExpectedDocumentStart, ExpectedDocumentEnd, ExpectedNode}
@@ -14,7 +14,7 @@ error_type_of WriteError = YAML_WRITER_ERROR
 error_type_of Memory = YAML_MEMORY_ERROR
 error_type_of _ = YAML_EMITTER_ERROR
 
--- a refusal in words, a line for each; a refused growth has none
+-- the text of a refusal; a refused growth has none
 abbrev pub problem_text : yaml_error_t → List ℕ
 problem_text ExpectedStreamStart = codes "expected STREAM-START"
 problem_text ExpectedDocumentStart = codes "expected DOCUMENT-START or STREAM-END"
@@ -38,12 +38,12 @@ problem_text TooDeep = codes "nesting too deep"
 problem_text WriteError = codes "write error"
 problem_text Memory = codes ""
 
--- what a refusal is printed as: its words, or that memory ran out
+-- the text that an error prints: its own, or that memory ran out
 abbrev pub display_text : yaml_error_t → List ℕ
 display_text Memory = codes "out of memory"
 display_text error = problem_text error
 
--- the error of a call; none where it succeeded
+-- the error of a call; none if it succeeded
 abbrev pub refused : {T : Type 0} → Result T yaml_error_t → Option yaml_error_t
 refused (Ok _) = None
 refused (Err error) = Some error

@@ -3,7 +3,7 @@ use Rattle.std.specs.Prelude.{ℤ, Bool, Option, None, List, ◌||◌, ◌&&◌,
 use Rattle.yaml_base.specs.Characters.{Text}
 use Rattle.yaml_base.specs.Settings.{Encoding}
 
--- how a scalar is to be written (chapter 9)
+-- the style in which a scalar is to be written (chapter 9)
 pub data ScalarStyle : Type 0 where
   any_style : ScalarStyle
   plain : ScalarStyle
@@ -12,7 +12,7 @@ pub data ScalarStyle : Type 0 where
   literal : ScalarStyle
   folded : ScalarStyle
 
--- how a sequence or mapping is to be written (chapter 10)
+-- the style in which a sequence or a mapping is to be written (chapter 10)
 pub data CollectionStyle : Type 0 where
   any_layout : CollectionStyle
   block : CollectionStyle
@@ -23,18 +23,18 @@ pub record Version : Type 0 where
   pub major : ℤ
   pub minor : ℤ
 
--- a handle, and the prefix that it stands for (YAML 1.1, section 7.1.2)
+-- a handle, and the prefix that it means (YAML 1.1, section 7.1.2)
 pub record TagDirective : Type 0 where
   pub handle : Text
   pub prefix : Text
 
--- what begins a document; implicit asks for no `---`
+-- the start of a document; implicit asks for no `---`
 pub record DocumentStart : Type 0 where
   pub version : Option Version
   pub directives : List TagDirective
   pub implicit : Bool
 
--- a scalar; its flags say where its tag may be left out: written plain, or in any other style
+-- a scalar; its flags say when its tag may be left out: if it is written plain, and if it is written in any other style
 pub record Scalar : Type 0 where
   pub anchor : Option Text
   pub tag : Option Text
@@ -63,11 +63,11 @@ pub data Event : Type 0 where
   mapping_start : Collection → Event
   mapping_end : Event
 
--- the tag that a scalar is written with: none where a flag lets it be left out
+-- the tag that is written with a scalar: none if a flag lets it be left out
 abbrev pub scalar_tag : Bool → Scalar → Option Text
 scalar_tag canonical content =
     if canonical || (not content.plain_implicit && not content.quoted_implicit) then content.tag else None
 
--- the tag that a collection is written with: none where its flag lets it be left out
+-- the tag that is written with a collection: none if its flag lets it be left out
 abbrev pub collection_tag : Bool → Collection → Option Text
 collection_tag canonical start = if canonical || not start.implicit then start.tag else None

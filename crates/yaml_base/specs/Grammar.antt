@@ -67,14 +67,13 @@ documents_events (documents_and documents document) = documents_events documents
 abbrev pub stream_events : Stream → List Event
 stream_events stream = stream_start stream.encoding ∷ (documents_events stream.documents ++ stream_end ∷ [])
 
--- an open collection with what it holds so far: it awaits an item, a key, or the value of a key
+-- an open collection with its contents so far: it awaits an item, a key, or the value of a key
 pub data Level : Type 0 where
   at_item : Collection → Nodes → Level
   at_key : Collection → Pairs → Level
   at_value : Collection → Pairs → Node → Level
 
--- a prefix of a stream as a tree whose last parts are still missing: within a document the open
--- collections stand innermost first
+-- a prefix of a stream, as a tree whose last parts are missing; within a document the open collections are listed with the innermost first
 pub data Partial : Type 0 where
   before_stream : Partial
   between_documents : Option Encoding → Documents → Partial
@@ -82,7 +81,7 @@ pub data Partial : Type 0 where
   after_root : Option Encoding → Documents → DocumentStart → Node → Partial
   after_stream : Stream → Partial
 
--- a finished node takes its place in the innermost open collection, or is the root
+-- a finished node joins the innermost open collection, or is the root
 abbrev pub with_node : Option Encoding → Documents → DocumentStart → List Level → Node → Partial
 with_node encoding documents start [] node = after_root encoding documents start node
 with_node encoding documents start (at_item c items ∷ levels) node =
@@ -92,13 +91,13 @@ with_node encoding documents start (at_key c pairs ∷ levels) node =
 with_node encoding documents start (at_value c pairs key ∷ levels) node =
     within_document encoding documents start (at_key c (pairs_and pairs key node) ∷ levels)
 
--- the node that an end makes of the innermost open collection
+-- the node that an end event makes of the innermost open collection
 abbrev pub closed : Level → Event → Option Node
 closed (at_item c items) sequence_end = Some (sequence_node c items)
 closed (at_key c pairs) mapping_end = Some (mapping_node c pairs)
 closed _ _ = None
 
--- within a document an event is a node, begins one, or ends the innermost open collection
+-- within a document an event is a node, begins a collection, or ends the innermost open one
 abbrev pub push_within : Option Encoding → Documents → DocumentStart → List Level → Event → Option Partial
 push_within encoding documents start levels (alias name) =
     Some (with_node encoding documents start levels (alias_node name))
@@ -112,7 +111,7 @@ push_within encoding documents start (level ∷ levels) event =
     option_and_then (λ node. Some (with_node encoding documents start levels node)) (closed level event)
 push_within _ _ _ [] _ = None
 
--- one event more, where it may stand
+-- a partial tree after one more event; none if the event may not follow
 abbrev pub push : Partial → Event → Option Partial
 push before_stream (stream_start encoding) = Some (between_documents encoding no_documents)
 push (between_documents encoding documents) (document_start start) = Some (within_document encoding documents start [])
@@ -124,21 +123,21 @@ push (after_root encoding documents start root) (document_end implicit) =
     (documents_and documents (record { start = start; root = root; end_implicit = implicit })))
 push _ _ = None
 
--- a partial tree after some more events, where each of them may stand
+-- a partial tree after some more events; none if one of them may not follow
 abbrev pub pushed : Partial → List Event → Option Partial
 pushed partial [] = Some partial
 pushed partial (event ∷ events) = option_and_then (λ next. pushed next events) (push partial event)
 
--- the tree, with parts still missing, that a list of events is a prefix of
+-- the partial tree of a list of events
 abbrev pub partial_of : List Event → Option Partial
 partial_of events = pushed before_stream events
 
--- the stream, where it has ended
+-- the stream, if it has ended
 abbrev pub finish_stream : Partial → Option Stream
 finish_stream (after_stream stream) = Some stream
 finish_stream _ = None
 
--- the tree of a whole list
+-- the tree of a whole list, if it has one
 abbrev pub tree_of : List Event → Option Stream
 tree_of events = option_and_then finish_stream (partial_of events)
 

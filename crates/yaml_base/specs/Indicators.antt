@@ -1,34 +1,34 @@
--- Indicators: punctuation and words of lines of their own, and what each asks of the cursor and leaves behind
--- (YAML 1.1, section 5.3, for the indicators; libyaml's own rules for the rest).
+-- Indicators: punctuation, and the words of directives and markers; how each uses and sets the cursor's flags (YAML 1.1, section 5.3, for
+-- the indicators; libyaml's own rules for the rest).
 use Rattle.std.specs.Prelude.{Bool, true, false, codes}
 use Rattle.yaml_base.specs.Characters.{Text}
 use Rattle.yaml_base.specs.Cursor.{Cursor, Rendered, indicator}
 
--- an indicator, whether it needs white space before it, whether it counts as white space itself, and whether indentation
--- goes on after it
+-- an indicator's text; whether it needs white space before it; whether it counts as white space itself; and whether indentation goes on
+-- after it
 pub record Indicator : Type 0 where
   pub text : Text
   pub needs_space : Bool
   pub leaves_space : Bool
   pub keeps_indention : Bool
 
--- an indicator at a cursor
+-- an indicator, written at a cursor
 abbrev pub render_indicator : Indicator → Cursor → Rendered
 render_indicator symbol cursor = indicator symbol.text symbol.needs_space symbol.leaves_space symbol.keeps_indention cursor
 
--- a space before it, none after it
+-- an indicator with a space before it and none after it
 abbrev pub spaced : Text → Indicator
 spaced text = record { text = text; needs_space = true; leaves_space = false; keeps_indention = false }
 
--- a bracket that opens
+-- an opening bracket
 abbrev pub opening_bracket : Text → Indicator
 opening_bracket text = record { text = text; needs_space = true; leaves_space = true; keeps_indention = false }
 
--- no space before it
+-- an indicator without a space before it
 abbrev pub tight : Text → Indicator
 tight text = record { text = text; needs_space = false; leaves_space = false; keeps_indention = false }
 
--- the indicator of an entry in a block, which may stand in indentation
+-- the indicator of an entry in a block, which may be part of indentation
 abbrev pub indented_indicator : Text → Indicator
 indented_indicator text = record { text = text; needs_space = true; leaves_space = false; keeps_indention = true }
 
@@ -90,7 +90,7 @@ block_key = key true
 abbrev pub block_value : Indicator
 block_value = indented_indicator (codes ":")
 
--- after a simple key, in flow and in blocks
+-- the indicator of a value after a simple key, in flow and in blocks
 abbrev pub simple_value : Indicator
 simple_value = tight (codes ":")
 

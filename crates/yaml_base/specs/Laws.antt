@@ -1,4 +1,4 @@
--- What follows from the definitions, for callers.
+-- Consequences of the definitions, for callers.
 use Rattle.std.specs.Prelude.{◌≡◌, ℕ, ◌≤◌, Bool, true, false, Option, Some, List, [], ◌∷◌, ◌++◌, codes}
 use Rattle.std.specs.Str.{all_scalars}
 use Rattle.yaml_base.specs.Characters.{Text, is_among}
@@ -16,31 +16,31 @@ use Rattle.yaml_base.specs.graphs.Meetings.{Graph}
 use Rattle.yaml_base.specs.values.TypedValues.{TypedValue, typed_settings, value_node}
 use Rattle.yaml_base.specs.values.ValueText.{document_text}
 
--- the tree of a whole stream's events is found
+-- a whole stream's events have a tree, and `tree_of` finds it
 abbrev pub TreeIsFound : Type 0
 TreeIsFound = (stream : Stream) (events : List Event) → stream_events stream ≡ events → tree_of events ≡ Some stream
 
--- a character of a plain text, before the rest: no `:` before a blank, a break or the end, no blank or break before `#`,
--- and in flow none of the flow indicators
+-- a character of a plain text, before the rest: it is no `:` before a blank, a break or the end, no blank or break before `#`, and in flow
+-- no flow indicator
 pub record IsPlainInside (breaks12 flow : Bool) (c : ℕ) (rest : Text) : Type 0 where
   pub no_key : c ≡ 58 → begins_white breaks12 rest ≡ false
   pub no_comment : is_read_white breaks12 c ≡ true → begins_with_hash rest ≡ false
   pub no_flow_indicator : flow ≡ true → is_among (codes ",?:[]{}") c ≡ false
 
--- so is each character of a text that reads as plain
+-- each character of a text that reads as plain is such a character
 abbrev pub PlainHoldsNoIndicator : Type 0
 PlainHoldsNoIndicator =
     (breaks12 flow : Bool) (before : Text) (c : ℕ) (rest value : Text)
     → read_plain breaks12 flow (before ++ c ∷ rest) ≡ Some value → IsPlainInside breaks12 flow c rest
 
--- under settings that differ in the limit alone the output under the smaller one is the first bytes of the other
+-- under settings that differ in the limit alone, the output under the smaller limit is the first bytes of the other output
 abbrev pub LimitCuts : Type 0
 LimitCuts =
     (given : Settings) (limit more : ℕ) (events : List Event) → limit ≤ more
     → output_of (record given { limit = limit }) events ≡ cut limit (output_of (record given { limit = more }) events)
 
--- under settings that differ in the encoding alone the bytes of a layout, decoded without their mark, are one text, where it
--- consists of Unicode scalar values
+-- under settings that differ in the encoding alone, the bytes of a layout, decoded without their mark, are one text, if it consists of
+-- Unicode scalar values
 abbrev pub EncodingsAgree : Type 0
 EncodingsAgree =
     (given : Settings) (encoding : Encoding) (events : List Event)
@@ -49,32 +49,32 @@ EncodingsAgree =
     let text = text_written s (list_layout s events) in
     all_scalars text ≡ true → decode (Some encoding) (bytes_written other (list_layout other events)) ≡ text
 
--- in portable mode the layout is the same with the line breaks of YAML 1.1 and with those of 1.2
+-- in portable mode the layout is the same with the line breaks of YAML 1.1 and with those of YAML 1.2
 abbrev pub BreaksAgree : Type 0
 BreaksAgree =
     (given : Settings) (breaks12 : Bool) (encoding : Option Encoding) (events : List Event) → given.portable ≡ true
     → list_layout (effective (record given { breaks12 = breaks12 }) encoding) events ≡ list_layout (effective given encoding) events
 
--- under the settings of canonical values the output of one document that has no directives, and whose end isn't written, is the
--- encoding of its text, up to a limit that no vector reaches
+-- under the settings of canonical values, the output of one document that has no directives, and whose end isn't written, is the encoding
+-- of its text, up to a limit that no vector reaches
 abbrev pub CanonicalOutputIsText : Type 0
 CanonicalOutputIsText =
     (encoding : Option Encoding) (events : List Event) (text : Text) → (has : HaveText events text)
     → IsBareDocument has.document.start has.document.end_implicit
     → output_of typed_settings (stream_start encoding ∷ (events ++ stream_end ∷ [])) ≡ cut largest_usize (encode (Some utf8) text)
 
--- what a document's dump writes so has a text, of which that output is the encoding
+-- the events of a graph's dump have a text, and the output under these settings is its encoding
 pub record WritesDumpedText (graph : Graph) (events : List Event) : Type 0 where
   pub text : Text
   pub is_dumped : HasDumpedText graph text
   pub output : output_of typed_settings events ≡ cut largest_usize (encode (Some utf8) text)
 
--- so it is of each graph in a stream of its own
+-- this is so of each graph in a stream of its own
 abbrev pub DumpsHaveTexts : Type 0
 DumpsHaveTexts =
     (graph : Graph) (events : List Event) → AreDumped (graph ∷ []) events → IsBareDocument graph.start graph.end_implicit → WritesDumpedText graph events
 
--- events have no other text
+-- events have at most one such text
 abbrev pub OneTextEach : Type 0
 OneTextEach = (events : List Event) (first second : Text) → HaveText events first → HaveText events second → first ≡ second
 

@@ -23,16 +23,16 @@ pub use Rattle.yaml_base.specs.NodeLayout.{alias_piece, start_piece}
 pub use Rattle.yaml_base.specs.NodeLayout.{asks_flow, is_written_in_flow, Brackets, square, curly, empty_or_comma, render_end, end_piece, entry_place}
 pub use Rattle.yaml_base.specs.NodeLayout.{render_collection, render_node, render_nodes, render_pairs}
 
--- a line of its own
+-- a rendered text, and a new line after it
 abbrev pub then_line_end : Rendered → Rendered
 then_line_end rendered = render_then rendered (new_line 0)
 
--- text that is rendered only where a test holds
+-- a text that is rendered if a test holds
 abbrev pub render_if : Bool → (Cursor → Rendered) → Cursor → Rendered
 render_if true next cursor = next cursor
 render_if false next cursor = render_nothing cursor
 
--- `...` by itself
+-- `...` and nothing else
 abbrev pub render_closing_marker : Cursor → Rendered
 render_closing_marker cursor = then_line_end (render_indicator document_end cursor)
 
@@ -60,11 +60,11 @@ render_tag_directives portable [] cursor = render_nothing cursor
 render_tag_directives portable (directive ∷ rest) cursor =
     render_then (render_tag_directive portable directive cursor) (render_tag_directives portable rest)
 
--- a document says its version or gives a handle
+-- true if a document has a version or directives
 abbrev pub has_directives : DocumentStart → Bool
 has_directives start = is_some start.version || not (length start.directives == 0)
 
--- a document's start is written where the event says so, after another document, after directives, and where each is
+-- true if a document's start is written: the event asks for it, or it follows another document or directives, or every start is
 abbrev pub is_explicit : (each : Bool) → (first : Bool) → DocumentStart → Bool
 is_explicit each first start = not start.implicit || not first || each || has_directives start
 
@@ -73,8 +73,7 @@ abbrev pub render_document_marker : Bool → Cursor → Rendered
 render_document_marker canonical cursor =
     render_then (render_then (new_line 0 cursor) (render_indicator document_start)) (render_if canonical (new_line 0))
 
--- directives after a document that wasn't closed are preceded by `...`; in canonical and in portable mode each start is
--- written
+-- a document's start: before directives that follow an open document comes `...`; in canonical and in portable mode every start is written
 abbrev pub render_document_start : Effective → (first : Bool) → DocumentStart → Standing → Rendered
 render_document_start s first start standing =
     render_then
@@ -89,13 +88,13 @@ render_document_start s first start standing =
 abbrev pub document_start_piece : Effective → (first : Bool) → DocumentStart → Standing → RenderedPiece
 document_start_piece s first start standing = piece_without_body 0 (render_document_start s first start standing)
 
--- an implicit end leaves the document open, an explicit one closes it
+-- a document's end: an implicit one leaves the document open, an explicit one closes it
 abbrev pub document_end_piece : (implicit : Bool) → Standing → RenderedPiece
 document_end_piece true standing =
     piece_without_body (if standing.open_ended == 0 then 1 else standing.open_ended) (new_line 0 standing.cursor)
 document_end_piece false standing = piece_without_body 0 (render_then (new_line 0 standing.cursor) render_closing_marker)
 
--- the root stands in a block, at no indentation
+-- the place of a root: in a block, without indentation
 abbrev pub root_place : Place
 root_place = record { in_flow = false; role = as_root; column = None }
 
@@ -107,7 +106,7 @@ render_document s first document standing =
     (render_node document.root s (directives_in_force document.start.directives) root_place))
     (λ after. one_piece (document_end_piece document.end_implicit after))
 
--- whether the next document is the first
+-- true if no document precedes, so that the next one is the first
 abbrev pub has_no_documents : Documents → Bool
 has_no_documents no_documents = true
 has_no_documents (documents_and before document) = false
@@ -118,20 +117,20 @@ render_documents s no_documents standing = no_pieces standing
 render_documents s (documents_and documents document) standing =
     then_pieces (render_documents s documents standing) (render_document s (has_no_documents documents) document)
 
--- where a stream begins: column 0, nothing open
+-- the state of writing at the start of a stream: column 0, nothing open
 abbrev pub first_standing : Standing
 first_standing = record { cursor = first_cursor; open_ended = 0 }
 
--- a stream whose last document keeps its final breaks is closed
+-- the end of a stream; it closes a last document that keeps its final breaks
 abbrev pub stream_end_piece : Standing → RenderedPiece
 stream_end_piece standing =
     piece_without_body standing.open_ended (render_if (standing.open_ended == 2) render_closing_marker standing.cursor)
 
--- a stream's start writes nothing
+-- the start of a stream, which writes nothing
 abbrev pub stream_start_piece : Standing → RenderedPiece
 stream_start_piece standing = piece_without_body standing.open_ended (render_nothing standing.cursor)
 
--- the pieces of a stream, one for each of its events
+-- the rendered pieces of a stream, one for each of its events
 abbrev pub render_stream : Effective → Stream → RenderedPieces
 render_stream s stream =
     then_pieces

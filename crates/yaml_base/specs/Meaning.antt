@@ -1,5 +1,5 @@
--- What a layout means: each scalar's body, read by the rules of its style where it stands, is its value (YAML 1.1,
--- chapter 9), and of canonical bytes a reader recovers the whole content.
+-- Meaning is kept: each scalar's body, read at its place by the rules of its style, is its value (YAML 1.1, chapter 9); and from canonical
+-- bytes a reader recovers the whole content.
 use Rattle.std.specs.Prelude.{◌≡◌, ℕ, Bool, true, Option, None, Some, List, ◌&&◌}
 use Rattle.std.specs.List.{All, list_all}
 use Rattle.std.specs.Str.{all_scalars}
@@ -19,8 +19,8 @@ use Rattle.yaml_base.specs.Output.{bytes_written}
 use Rattle.yaml_base.specs.reading.Content.{content_of}
 use Rattle.yaml_base.specs.reading.CanonicalReader.{canonical_content}
 
--- the rules of a style: plain text is read in flow or in block, a block scalar in a block whose entries stand at a
--- column; `any` is no style of a text
+-- a text read by the rules of a style: plain text in flow or in a block, a block scalar in a block whose entries are at a column; `any` is
+-- no style of a text
 abbrev pub read_in_style : ScalarStyle → (breaks12 flow : Bool) → (column : Option ℕ) → Text → Option Text
 read_in_style any_style breaks12 flow column text = None
 read_in_style plain breaks12 flow column text = read_plain breaks12 flow text
@@ -33,7 +33,7 @@ read_in_style folded breaks12 flow column text = read_block breaks12 column text
 abbrev pub body_written : Effective → Body → Text
 body_written s body = with_breaks_written s.line_break body.text
 
--- what a written body reads as, once its line breaks are read
+-- a written body as it reads, once its line breaks are read
 abbrev pub body_read : Effective → Body → Option Text
 body_read s body =
     read_in_style body.style s.breaks12 body.in_flow body.column (with_line_breaks_read (body_written s body))
@@ -51,7 +51,7 @@ pub record BodyMeans (s : Effective) (body : Body) : Type 0 where
   pub reads : BodyReads s body
   pub indented : BodyIsIndented s body
 
--- a scalar's value consists of Unicode scalar values, as every `String` does
+-- true if a scalar's value consists of Unicode scalar values, as every `String` does
 abbrev pub has_scalar_values : Event → Bool
 has_scalar_values (scalar content) = all_scalars content.value
 has_scalar_values _ = true
@@ -63,17 +63,17 @@ MeaningIsKept =
     → list_all has_scalar_values events ≡ true
     → All (BodyMeans (effective given encoding)) (bodies_of (list_layout (effective given encoding) events))
 
--- a text, if there is one, consists of Unicode scalar values
+-- true if a text, if there is one, consists of Unicode scalar values
 abbrev pub option_scalars : Option Text → Bool
 option_scalars None = true
 option_scalars (Some text) = all_scalars text
 
--- a prefix consists of Unicode scalar values
+-- true if a prefix consists of Unicode scalar values
 abbrev pub directive_scalars : TagDirective → Bool
 directive_scalars directive = all_scalars directive.prefix
 
--- tags, prefixes and values consist of Unicode scalar values, as every `String` does; other texts that are accepted
--- are of ASCII
+-- true if the tags, prefixes and value of an event consist of Unicode scalar values, as every `String` does; other texts that are accepted
+-- are ASCII
 abbrev pub has_scalar_texts : Event → Bool
 has_scalar_texts (document_start start) = list_all directive_scalars start.directives
 has_scalar_texts (scalar content) = option_scalars content.tag && all_scalars content.value
@@ -81,7 +81,7 @@ has_scalar_texts (sequence_start start) = option_scalars start.tag
 has_scalar_texts (mapping_start start) = option_scalars start.tag
 has_scalar_texts _ = true
 
--- in canonical mode all bytes of an accepted list, uncut, read as its content
+-- in canonical mode all bytes of an accepted list, if no limit cuts them, read as its content
 abbrev pub CanonicalBytesRead : Type 0
 CanonicalBytesRead =
     (given : Settings) (encoding : Option Encoding) (events : List Event) → given.canonical ≡ true

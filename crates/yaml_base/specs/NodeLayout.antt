@@ -25,8 +25,7 @@ use Rattle.yaml_base.specs.Places.{is_simple, is_simple_at, render_place}
 
 -- Pieces. Source: this project.
 
--- a scalar's own text, in the style that was chosen, for its value, in flow or in block, in a block whose entries
--- stand at a column (none: the root)
+-- a scalar's own text: its value in the chosen style, in flow or in a block, in a block whose entries are at a column (none: the root)
 pub record Body : Type 0 where
   pub style : ScalarStyle
   pub in_flow : Bool
@@ -34,12 +33,12 @@ pub record Body : Type 0 where
   pub value : Text
   pub text : Text
 
--- what an event writes: a lead, and for a scalar its body
+-- the text of an event: a lead, and for a scalar its body
 pub record Piece : Type 0 where
   pub lead : Text
   pub body : Option Body
 
--- the text of a scalar's body, none for other events
+-- the text of a scalar's body; no text for other events
 abbrev pub body_text : Option Body → Text
 body_text None = []
 body_text (Some body) = body.text
@@ -56,23 +55,23 @@ text_of pieces = flat_map piece_text pieces
 abbrev pub bodies_of : List Piece → List Body
 bodies_of pieces = filter_map (λ piece. piece.body) pieces
 
--- where writing stands: the cursor, and the open-ended state, which is 1 after an implicit document end and 2 after a block
--- scalar that keeps its final breaks (libyaml's emitter)
+-- the state of writing: the cursor, and the open-ended state, which is 1 after an implicit document end and 2 after a block scalar that
+-- keeps its final breaks (libyaml's emitter)
 pub record Standing : Type 0 where
   pub cursor : Cursor
   pub open_ended : ℕ
 
--- one event's piece, and where writing stands after it
+-- one event's piece, and the state of writing after it
 pub record RenderedPiece : Type 0 where
   pub piece : Piece
   pub standing : Standing
 
--- several events' pieces in order
+-- several events' pieces in order, and the state of writing after them
 pub record RenderedPieces : Type 0 where
   pub pieces : List Piece
   pub standing : Standing
 
--- nothing written
+-- no pieces
 abbrev pub no_pieces : Standing → RenderedPieces
 no_pieces standing = record { pieces = []; standing = standing }
 
@@ -80,7 +79,7 @@ no_pieces standing = record { pieces = []; standing = standing }
 abbrev pub one_piece : RenderedPiece → RenderedPieces
 one_piece rendered = record { pieces = rendered.piece ∷ []; standing = rendered.standing }
 
--- pieces, and then those written where they leave off
+-- pieces, and then those that are written from the state after them
 abbrev pub then_pieces : RenderedPieces → (Standing → RenderedPieces) → RenderedPieces
 then_pieces first next =
     let second = next first.standing in
@@ -96,12 +95,12 @@ piece_without_body open_ended rendered =
 
 -- Anchors and tags. Source: libyaml's emitter.
 
--- `&` and the name, where there is an anchor (YAML 1.1, section 8.1 Node Anchors, c-ns-anchor-property)
+-- `&` and the name, if there is an anchor (YAML 1.1, section 8.1 Node Anchors, c-ns-anchor-property)
 abbrev pub render_anchor : Option Text → Cursor → Rendered
 render_anchor None cursor = render_nothing cursor
 render_anchor (Some name) cursor = render_then (indicators.render_indicator indicators.anchor cursor) (render_name name)
 
--- a tag handle, a space before it where one is needed (YAML 1.1, section 7.1.2.2 Tag Handles, c-tag-handle)
+-- a tag handle, with a space before it if one is needed (YAML 1.1, section 7.1.2.2 Tag Handles, c-tag-handle)
 abbrev pub render_handle : Text → Cursor → Rendered
 render_handle handle cursor = render_name (space_if true cursor ++ handle) cursor
 
@@ -128,14 +127,14 @@ render_properties portable directives anchor tag bare cursor =
 
 -- Nodes. Source: libyaml's emitter.
 
--- an alias; as a simple key it is followed by a space (YAML 1.1, section 8.4 Alias Nodes, c-ns-alias-node; the space is libyaml's)
+-- an alias; a simple key is followed by a space (YAML 1.1, section 8.4 Alias Nodes, c-ns-alias-node; the space is libyaml's)
 abbrev pub render_alias : Text → (simple : Bool) → Cursor → Rendered
 render_alias name simple cursor =
     render_then (render_then (indicators.render_indicator indicators.alias cursor) (render_name name))
     (render_text (if simple then codes " " else []))
 
--- the space before a scalar's body: an empty plain scalar in a block needs none
--- (YAML 1.1, section 6.3 Separation Spaces, s-separate(n,c); where is libyaml's)
+-- the space before a scalar's body: an empty plain scalar in a block needs none (YAML 1.1, section 6.3 Separation Spaces, s-separate(n,c);
+-- when it is written is libyaml's)
 abbrev pub render_separation : ScalarStyle → (in_flow : Bool) → Text → Cursor → Rendered
 render_separation plain in_flow value cursor = render_text (space_if (in_flow || not (is_empty value)) cursor) cursor
 render_separation style in_flow value cursor = render_text (space_if true cursor) cursor
@@ -149,32 +148,32 @@ render_body literal s limit indent value cursor = literal_body indent s.indent v
 render_body folded s limit indent value cursor = folded_body limit indent s.indent value cursor
 render_body _ s limit indent value cursor = double_quoted_body s.unicode limit indent value cursor
 
--- a block scalar sets the open-ended state
+-- the open-ended state after a body: a block scalar sets it
 abbrev pub open_ended_after : ScalarStyle → Text → ℕ → ℕ
 open_ended_after literal value open_ended = header_open_ended value
 open_ended_after folded value open_ended = header_open_ended value
 open_ended_after _ value open_ended = open_ended
 
--- what may stand as itself
+-- the characters that may be written as themselves
 abbrev pub charset_of : Effective → Charset
 charset_of s = record { unicode = s.unicode; breaks12 = escapes_separators s }
 
--- the styles that a value allows: no single quotes where double ones are asked for in their place (this project)
+-- the styles that a value allows: no single quotes if double quotes are asked for in their place (this project)
 abbrev pub allowed_by_quotes : (double_quotes : Bool) → Allowances → Allowances
 allowed_by_quotes double_quotes allowed = record allowed { single_quoted = not double_quotes && allowed.single_quoted }
 
--- where blanks are literal, what literal takes then counts for block styles (this project)
+-- the styles that a value allows; if blanks are literal, it allows block styles exactly if it allows literal (this project)
 abbrev pub allowed_by_blanks : (blanks : Bool) → Charset → Text → Allowances
 allowed_by_blanks blanks charset value =
     record (allowances charset value) { block = if blanks then allows_literal charset value else allows_block charset value }
 
--- what a scalar's value allows under the settings; blanks are literal only where literal is asked for
+-- the styles that a scalar's value allows under the settings; blanks are literal only if literal is asked for
 abbrev pub allowed_under : Effective → Scalar → Allowances
 allowed_under s content =
     allowed_by_quotes s.double_quotes (allowed_by_blanks (is_literal content.style && s.literal_blanks) (charset_of s) content.value)
 
--- the style that is asked for at a place: in portable mode a root asks for double quotes in place of a block style whose
--- header would have a digit, since readers of YAML 1.2 count that digit in two ways (this project)
+-- the style that is asked for at a place: in portable mode a root asks for double quotes in place of a block style whose header would have
+-- a digit, since readers of YAML 1.2 count that digit in two ways (this project)
 abbrev pub style_asked_at : Effective → Place → Scalar → ScalarStyle
 style_asked_at s place content =
     if is_block content.style && is_root place && s.portable && begins_blank content.value
@@ -188,7 +187,7 @@ choice_of s place simple content =
     (style_asked_at s place content) (is_empty content.value) (is_some (scalar_tag s.canonical content))
     content.plain_implicit content.quoted_implicit (place.in_flow) simple s.canonical
 
--- what stands before a scalar's body: its place's indicators, its anchor and tag, and a space
+-- the text before a scalar's body: its place's indicators, its anchor and tag, and a space
 abbrev pub scalar_lead : Effective → List TagDirective → Place → (simple : Bool) → ChosenStyle → Scalar → Cursor → Rendered
 scalar_lead s directives place simple choice content cursor =
     render_then
@@ -197,7 +196,7 @@ scalar_lead s directives place simple choice content cursor =
     (render_properties s.portable directives content.anchor (scalar_tag s.canonical content) choice.bare))
     (render_separation choice.style place.in_flow content.value)
 
--- its body as a piece of the layout (this project)
+-- a scalar's body as a piece of the layout (this project)
 abbrev pub body_at : Place → ScalarStyle → Text → Rendered → Body
 body_at place style value body =
     record { style = style; in_flow = place.in_flow; column = place.column; value = value; text = body.text }
@@ -214,12 +213,12 @@ scalar_piece s directives place simple content standing =
       standing = record { cursor = body.cursor; open_ended = open_ended_after choice.style content.value standing.open_ended };
     }
 
--- an alias at its place
+-- an alias's piece at its place
 abbrev pub alias_piece : Effective → Place → (simple : Bool) → Text → Standing → RenderedPiece
 alias_piece s place simple name standing =
     piece_without_body standing.open_ended (render_then (render_place s place simple standing.cursor) (render_alias name simple))
 
--- a collection's start: its brackets come with the next event
+-- the piece of a collection's start; its brackets come with the next event
 abbrev pub start_piece : Effective → List TagDirective → Place → (simple : Bool) → Collection → Standing → RenderedPiece
 start_piece s directives place simple start standing =
     piece_without_body standing.open_ended
@@ -227,16 +226,17 @@ start_piece s directives place simple start standing =
     (render_place s place simple standing.cursor)
     (render_properties s.portable directives start.anchor (collection_tag s.canonical start) false))
 
--- a style that asks for flow
+-- true of the style that asks for flow
 abbrev pub asks_flow : CollectionStyle → Bool
 asks_flow flow = true
 asks_flow _ = false
 
--- a collection is written in flow where it stands in flow, in canonical mode, by its style, or where it is empty
+-- true if a collection is written in flow: it is inside a flow collection, in canonical mode, of flow style, or empty
 abbrev pub is_written_in_flow : Effective → Place → Collection → (empty : Bool) → Bool
 is_written_in_flow s place start empty = place.in_flow || s.canonical || asks_flow start.style || empty
 
--- the brackets of a sequence or of a mapping (YAML 1.1, sections 10.1.1 Flow Sequences and 10.2.1 Flow Mappings, c-flow-sequence(n,c), c-flow-mapping(n,c))
+-- the brackets of a kind of collection (YAML 1.1, sections 10.1.1 Flow Sequences and 10.2.1 Flow Mappings, c-flow-sequence(n,c),
+-- c-flow-mapping(n,c))
 pub record Brackets : Type 0 where
   pub opening : Text
   pub closing : Text
@@ -249,8 +249,8 @@ square = record { opening = codes "["; closing = codes "]" }
 abbrev pub curly : Brackets
 curly = record { opening = codes "{"; closing = codes "}" }
 
--- before the closing bracket stands the opening one where nothing is between them; in canonical mode a comma
--- after the last entry, and a new line (YAML 1.1, section 5.3 Indicator Characters, c-sequence-start, c-mapping-start, c-collect-entry; where is libyaml's)
+-- the text before the closing bracket: the opening one if nothing is between them; in canonical mode a comma after the last entry, and a
+-- new line (YAML 1.1, section 5.3 Indicator Characters, c-sequence-start, c-mapping-start, c-collect-entry; when each comes is libyaml's)
 abbrev pub empty_or_comma : Effective → Text → (empty : Bool) → Option ℕ → Cursor → Rendered
 empty_or_comma s bracket true column cursor = indicators.render_indicator (indicators.opening_bracket bracket) cursor
 empty_or_comma s bracket false column cursor =
@@ -258,13 +258,14 @@ empty_or_comma s bracket false column cursor =
     then render_then (indicators.render_indicator indicators.flow_entry cursor) (new_line (line_column column))
     else render_nothing cursor
 
--- a collection's end: a block collection's writes nothing (YAML 1.1, section 5.3 Indicator Characters, c-sequence-end, c-mapping-end)
+-- the text of a collection's end; the end of a block collection writes nothing (YAML 1.1, section 5.3 Indicator Characters,
+-- c-sequence-end, c-mapping-end)
 abbrev pub render_end : Effective → Brackets → (in_flow empty : Bool) → Option ℕ → Cursor → Rendered
 render_end s brackets false empty column cursor = render_nothing cursor
 render_end s brackets true empty column cursor =
     render_then (empty_or_comma s brackets.opening empty column cursor) (indicators.render_indicator (indicators.tight brackets.closing))
 
--- a collection's end as a piece
+-- the piece of a collection's end
 abbrev pub end_piece : Effective → Brackets → (in_flow empty : Bool) → Option ℕ → Standing → RenderedPiece
 end_piece s brackets in_flow empty column standing =
     piece_without_body standing.open_ended (render_end s brackets in_flow empty column standing.cursor)
@@ -283,8 +284,8 @@ render_collection s brackets in_flow undented empty column start entries =
     (entries (entries_column in_flow undented s.indent column start.standing.cursor)))
     (λ standing. one_piece (end_piece s brackets in_flow empty column standing))
 
--- a node at its place: its events' pieces, in order; with it, the items of a sequence and the pairs of a mapping
--- (YAML 1.1, section 8.5 Complete Nodes, ns-flow-node(n,c), s-l+block-node(n,c); which is libyaml's choice)
+-- a node at its place: its events' pieces, in order; with it, the items of a sequence and the pairs of a mapping (YAML 1.1, section 8.5
+-- Complete Nodes, ns-flow-node(n,c), s-l+block-node(n,c); which is libyaml's choice)
 abbrev mutual
   pub render_node : Node → Effective → List TagDirective → Place → Standing → RenderedPieces
   render_node (alias_node name) s directives place standing =

@@ -8,16 +8,16 @@ use Rattle.yaml_base.specs.Event.{Event, stream_start, stream_end, document_end}
 use Rattle.yaml_base.specs.Layout.{Piece, text_of}
 use Rattle.yaml_base.specs.Pieces.{list_layout}
 
--- the encoding that a list's stream start asks for
+-- the encoding that the stream's start asks for
 abbrev pub encoding_asked : List Event → Option Encoding
 encoding_asked (stream_start encoding ∷ rest) = encoding
 encoding_asked _ = None
 
--- the settings that a list is written by
+-- the settings by which a list is written
 abbrev pub settings_for : Settings → List Event → Effective
 settings_for given events = effective given (encoding_asked events)
 
--- the text of some pieces, with its line breaks as the settings say
+-- the text of some pieces, its line breaks written as the settings say
 abbrev pub text_written : Effective → List Piece → Text
 text_written s pieces = with_breaks_written s.line_break (text_of pieces)
 
@@ -31,13 +31,13 @@ output_of given events =
     let s = settings_for given events in
     cut s.limit (bytes_written s (list_layout s events))
 
--- the ends of documents and of the stream flush all that is written
+-- true of the events that flush the output: the ends of documents and of the stream
 abbrev pub flushes : Event → Bool
 flushes (document_end implicit) = true
 flushes stream_end = true
 flushes event = false
 
--- the last of some events flushes all that is written
+-- true if the last of some events flushes the output
 abbrev pub last_flushes : List Event → Bool
 last_flushes [] = false
 last_flushes (event ∷ []) = flushes event

@@ -1,5 +1,5 @@
--- The text of a list of events that is no whole stream yet: the shortest way to end it, and the pieces that stand before
--- its end is known.
+-- The text of a list of events that isn't a whole stream yet: the shortest way to end it, and the pieces that can be written before its
+-- end is known.
 use Rattle.std.specs.Prelude.{◌≡◌, ℕ, ◌≤◌, ◌&&◌, length, Bool, true, false, Option, None, Some, List, [], ◌∷◌, ◌++◌, take, unwrap_or, option_map, flat_map}
 use Rattle.yaml_base.specs.Characters.{Text}
 use Rattle.yaml_base.specs.Settings.{Effective}
@@ -21,7 +21,7 @@ empty_scalar =
       style = any_style;
     })
 
--- the innermost open collection lacks the value of its last key, one entry where it has just begun, and its end
+-- the events that the innermost open collection lacks: the value of its last key, one entry if it has just begun, and its end
 abbrev pub innermost_missing : Level → List Event
 innermost_missing (at_item start no_nodes) = empty_scalar ∷ sequence_end ∷ []
 innermost_missing (at_item start (nodes_and items item)) = sequence_end ∷ []
@@ -29,13 +29,13 @@ innermost_missing (at_key start no_pairs) = empty_scalar ∷ empty_scalar ∷ ma
 innermost_missing (at_key start (pairs_and pairs key value)) = mapping_end ∷ []
 innermost_missing (at_value start pairs key) = empty_scalar ∷ mapping_end ∷ []
 
--- one around it has that one as its last item, key or value
+-- the events that a collection around it lacks; the inner one is its last item, key or value
 abbrev pub outer_missing : Level → List Event
 outer_missing (at_item start items) = sequence_end ∷ []
 outer_missing (at_key start pairs) = empty_scalar ∷ mapping_end ∷ []
 outer_missing (at_value start pairs key) = mapping_end ∷ []
 
--- a document lacks its root, or what its open collections lack
+-- the events that open collections lack; without any, a document's root
 abbrev pub levels_missing : List Level → List Event
 levels_missing [] = empty_scalar ∷ []
 levels_missing (innermost ∷ outer) = innermost_missing innermost ++ flat_map outer_missing outer
@@ -49,7 +49,7 @@ missing (within_document encoding before start levels) =
 missing (after_root encoding before start root) = document_end true ∷ stream_end ∷ []
 missing (after_stream stream) = []
 
--- the events that a partial tree lacks, none where there is no tree
+-- the events that a partial tree lacks; none if there is no tree
 abbrev pub missing_after : Option Partial → List Event
 missing_after None = []
 missing_after (Some partial) = missing partial
@@ -58,35 +58,35 @@ missing_after (Some partial) = missing partial
 abbrev pub completion : List Event → List Event
 completion events = events ++ missing_after (partial_of events)
 
--- the pieces of a whole list; a list that is no stream has none
+-- the pieces of a whole list; none if the list is no stream
 abbrev pub list_layout : Effective → List Event → List Piece
 list_layout s events = unwrap_or (option_map (layout s) (tree_of events)) []
 
--- the first so many pieces of the completion of the first so many events
+-- the first n pieces of the completion of the first n events
 abbrev pub pieces : Effective → List Event → ℕ → List Piece
 pieces s events k = take k (list_layout s (completion (take k events)))
 
--- their text
+-- the text of these pieces
 abbrev pub text_after : Effective → List Event → ℕ → Text
 text_after s events k = text_of (pieces s events k)
 
--- the last event of a list begins a collection
+-- true if the last event of a list begins a collection
 abbrev pub last_begins_collection : List Event → Bool
 last_begins_collection [] = false
 last_begins_collection (event ∷ []) = begins_collection event
 last_begins_collection (event ∷ next ∷ rest) = last_begins_collection (next ∷ rest)
 
--- the first event of a list ends a collection
+-- true if the first event of a list ends a collection
 abbrev pub first_ends_collection : List Event → Bool
 first_ends_collection [] = false
 first_ends_collection (event ∷ rest) = ends_collection event
 
--- a list begins a collection last, and what follows ends it at once
+-- true if a list ends with the start of a collection, and the next event ends that collection
 abbrev pub last_closes_at_once : List Event → List Event → Bool
 last_closes_at_once prefix rest = last_begins_collection prefix && first_ends_collection rest
 
--- every accepted list that begins with the first so many events, and doesn't at once close a collection that they begin
--- last, has their pieces: so they can be written before the end is known
+-- each accepted list that begins with the first n events has their pieces, unless it at once ends a collection that they begin last; so
+-- the pieces can be written before the end is known
 abbrev pub PiecesStand : Type 0
 PiecesStand =
     (s : Effective) (events rest : List Event) (k : ℕ) → k ≤ length events

@@ -4,7 +4,7 @@ use Rattle.std.specs.List.{list_any}
 use Rattle.yaml_base.specs.Event.{Event, stream_start, stream_end, document_start, document_end, sequence_start, sequence_end, mapping_start, mapping_end}
 use Rattle.yaml_base.specs.Grammar.{Stream, stream_events}
 
--- an event that opens a stream, a document or a collection
+-- true of an event that opens a stream, a document or a collection
 abbrev pub is_start : Event → Bool
 is_start (stream_start encoding) = true
 is_start (document_start start) = true
@@ -12,7 +12,7 @@ is_start (sequence_start start) = true
 is_start (mapping_start start) = true
 is_start _ = false
 
--- an event that closes one
+-- true of an event that closes one
 abbrev pub is_end : Event → Bool
 is_end stream_end = true
 is_end (document_end implicit) = true
@@ -20,14 +20,14 @@ is_end sequence_end = true
 is_end mapping_end = true
 is_end _ = false
 
--- how many events must follow an event before it is ready, where none closes it sooner
+-- the number of events that must follow an event before it is ready, if no end comes sooner
 abbrev pub awaited : Event → ℕ
 awaited (document_start start) = 1
 awaited (sequence_start start) = 2
 awaited (mapping_start start) = 3
 awaited _ = 0
 
--- as many starts as ends stand in a list
+-- true if a list has as many starts as ends
 abbrev pub is_balanced : List Event → Bool
 is_balanced events = count_by is_start events == count_by is_end events
 
@@ -36,13 +36,13 @@ abbrev pub nonempty_prefixes : List Event → List (List Event)
 nonempty_prefixes [] = []
 nonempty_prefixes (event ∷ rest) = (event ∷ []) ∷ map (λ prefix. event ∷ prefix) (nonempty_prefixes rest)
 
--- the first event of a list is ready where it awaits nothing, more events stand than it awaits, or some prefix,
--- itself included, has as many starts as ends
+-- true if the first event of a list is ready: it awaits nothing, or more events are there than it awaits, or some nonempty prefix has as
+-- many starts as ends
 abbrev pub is_ready : Event → List Event → Bool
 is_ready event rest =
     awaited event == 0 || nat_lt (awaited event) (length (event ∷ rest)) || list_any is_balanced (nonempty_prefixes (event ∷ rest))
 
--- how many events of a list are ready: those before the first that isn't
+-- the number of events of a list that are ready: those before the first that isn't
 abbrev pub written : List Event → ℕ
 written [] = 0
 written (event ∷ rest) = if is_ready event rest then suc (written rest) else 0

@@ -1,4 +1,4 @@
--- What contracts see of the public types: each value as plain data, a text as its characters, no capacity and no allocator.
+-- The public types as contracts see them: each value as plain data, a text as its characters, without capacity and allocator.
 use Rattle.std.specs.Prelude.{Option, None, Some, List, String, map, option_map}
 use Rattle.std.specs.Str.{chars}
 use Rattle.std.specs.String.{string_bytes}
@@ -26,14 +26,14 @@ use Rattle.yaml_base.specs.declared.events.yaml_event_t.TheVariants.{YAML_STREAM
 use Rattle.yaml_base.specs.declared.events.yaml_event_t.TheVariants.{YAML_DOCUMENT_END_EVENT, YAML_ALIAS_EVENT, YAML_SCALAR_EVENT, YAML_SEQUENCE_START_EVENT}
 use Rattle.yaml_base.specs.declared.events.yaml_event_t.TheVariants.{YAML_SEQUENCE_END_EVENT, YAML_MAPPING_START_EVENT, YAML_MAPPING_END_EVENT}
 
--- ANY asks for none
+-- an encoding; ANY asks for none
 abbrev pub seen_encoding : yaml_encoding_t → Option Encoding
 seen_encoding YAML_ANY_ENCODING = None
 seen_encoding YAML_UTF8_ENCODING = Some utf8
 seen_encoding YAML_UTF16LE_ENCODING = Some utf16_little
 seen_encoding YAML_UTF16BE_ENCODING = Some utf16_big
 
--- ANY asks for none
+-- a line break; ANY asks for none
 abbrev pub seen_break : yaml_break_t → Option LineBreak
 seen_break YAML_ANY_BREAK = None
 seen_break YAML_CR_BREAK = Some carriage_return_break
@@ -69,11 +69,11 @@ seen_text text = chars (string_bytes text)
 abbrev pub seen_version : yaml_version_directive_t → Version
 seen_version version = record { major = version.major; minor = version.minor }
 
--- a directive, by the characters of its texts
+-- a directive, with the characters of its texts
 abbrev pub seen_directive : {A : Type 0} → yaml_tag_directive_t A → TagDirective
 seen_directive directive = record { handle = seen_text directive.handle; prefix = seen_text directive.prefix }
 
--- an event, case by case; the style of a sequence and that of a mapping are seen alike
+-- an event, case by case; the styles of sequences and of mappings are seen alike
 abbrev pub seen_event : {A : Type 0} → yaml_event_t A → Event
 seen_event (YAML_STREAM_START_EVENT encoding) = stream_start (seen_encoding encoding)
 seen_event YAML_STREAM_END_EVENT = stream_end

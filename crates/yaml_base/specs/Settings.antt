@@ -1,27 +1,27 @@
--- What the caller sets, and what it comes to at the stream's start (libyaml's own rules).
+-- The settings that a caller gives, and those that result at the stream's start (libyaml's own rules).
 use Rattle.std.specs.Prelude.{ℕ, ℤ, pos, Bool, false, Option, None, Some, ◌==◌, ◌||◌, ◌&&◌, ◌*◌, nat_le, if◌then◌else◌, unwrap_or}
 
--- the largest `i32`, which as a width is no limit
+-- the largest `i32`, which as a width means no limit
 abbrev pub largest_i32 : ℕ
 largest_i32 = 2147483647
 
--- the largest `usize`, which as a limit of the output's bytes is none
+-- the largest `usize`, which as a limit of the output's bytes means none
 abbrev pub largest_usize : ℕ
 largest_usize = 18446744073709551615
 
--- how characters become bytes (YAML 1.1, section 5.2)
+-- the encoding of characters as bytes (YAML 1.1, section 5.2)
 pub data Encoding : Type 0 where
   utf8 : Encoding
   utf16_little : Encoding
   utf16_big : Encoding
 
--- how a line is ended (YAML 1.1, section 5.4)
+-- the break that ends a line (YAML 1.1, section 5.4)
 pub data LineBreak : Type 0 where
   carriage_return_break : LineBreak
   line_feed_break : LineBreak
   both_break : LineBreak
 
--- the last value given to each setter; none where it wasn't called or was given ANY
+-- the last value given to each setter; none if it wasn't called or was given ANY
 pub record Settings : Type 0 where
   pub encoding : Option Encoding
   pub canonical : Bool
@@ -54,7 +54,7 @@ nothing_given =
       limit = largest_usize;
     }
 
--- what the layout goes by; a width of none is no limit
+-- the settings that the layout follows; without a width there is no limit
 pub record Effective : Type 0 where
   pub encoding : Encoding
   pub canonical : Bool
@@ -69,19 +69,19 @@ pub record Effective : Type 0 where
   pub literal_blanks : Bool
   pub limit : ℕ
 
--- an indent of 2 to 9 is kept, any other becomes 2
+-- the indent in force: 2 to 9 is kept, any other becomes 2
 abbrev pub effective_indent : Option ℤ → ℕ
 effective_indent (Some (pos n)) = if nat_le 2 n && nat_le n 9 then n else 2
 effective_indent _ = 2
 
--- a negative width and the largest `i32` are no limit; up to twice the indent it becomes 80
+-- the width in force: a negative one and the largest `i32` mean no limit; a width of at most twice the indent becomes 80
 abbrev pub effective_width : Option ℤ → ℕ → Option ℕ
 effective_width None indent = Some 80
 effective_width (Some (pos n)) indent =
     if n == largest_i32 then None else Some (if nat_le n (2 * indent) then 80 else n)
 effective_width (Some _) indent = None
 
--- the emitter's encoding, else the stream's, else UTF-8
+-- the encoding in force: the emitter's, else the stream's, else UTF-8
 abbrev pub effective_encoding : Option Encoding → Option Encoding → Encoding
 effective_encoding (Some own) of_stream = own
 effective_encoding None of_stream = unwrap_or of_stream utf8
@@ -105,7 +105,7 @@ effective given of_stream =
       limit = given.limit;
     }
 
--- U+2028 and U+2029 are escaped with the line breaks of YAML 1.2, and in portable mode, since readers of YAML 1.2 take them
--- for text
+-- true if U+2028 and U+2029 are escaped: with the line breaks of YAML 1.2, and in portable mode, since readers of YAML 1.2 take them for
+-- text
 abbrev pub escapes_separators : Effective → Bool
 escapes_separators s = s.breaks12 || s.portable

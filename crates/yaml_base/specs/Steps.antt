@@ -1,5 +1,5 @@
--- The pieces of a stream, event by event, for contracts of code that writes them so: an event's piece needs the places
--- that are open and, at a collection's start, whether its end follows at once. A law says that they are the layout's pieces.
+-- The pieces of a stream, event by event, for contracts of code that writes them so: an event's piece needs the places that are open and,
+-- at a collection's start, whether its end follows at once. A law says that they are the layout's pieces.
 use Rattle.std.specs.Prelude.{ℕ, Bool, true, false, Option, List, [], ◌∷◌, ◌++◌, ◌&&◌, not, nat_lt, length, take}
 use Rattle.std.specs.Option.{option_or}
 use Rattle.yaml_base.specs.Settings.{Effective}
@@ -17,13 +17,13 @@ use Rattle.yaml_base.specs.declared.errors.yaml_error_t.TheVariants.{ExpectedStr
 use Rattle.yaml_base.specs.declared.errors.yaml_error_t.TheVariants.{ExpectedNothing, TooDeep}
 use Rattle.yaml_base.specs.declared.errors.yaml_error_t.{yaml_error_t}
 
--- an open collection: where its next entry stands, and whether it is itself a simple key
+-- an open collection: the place of its next entry, and whether it is a simple key itself
 pub record Frame : Type 0 where
   pub place : Place
   pub simple : Bool
 
--- what comes next: the stream's start, a document or the stream's end, a node or the innermost collection's end in a
--- document with these directives and open collections, a document's end, or nothing
+-- the next part of a stream: its start, a document or the stream's end, a node or the innermost collection's end in a document with these
+-- directives and open collections, a document's end, or nothing
 pub data Stage : Type 0 where
   at_stream : Stage
   at_document : (first : Bool) → Stage
@@ -31,7 +31,7 @@ pub data Stage : Type 0 where
   at_document_end : Stage
   at_nothing : Stage
 
--- where the next node stands
+-- the place of the next node
 abbrev pub next_place : List Frame → Place
 next_place [] = root_place
 next_place (frame ∷ outer) = frame.place
@@ -43,32 +43,32 @@ role_after (as_item first) simple = as_item false
 role_after (as_key first) simple = as_value simple
 role_after (as_value was_simple) simple = as_key false
 
--- the place of the entry after one at this place
+-- the place of the entry after the one at this place
 abbrev pub next_entry_place : Place → (simple : Bool) → Place
 next_entry_place place simple = record place { role = role_after place.role simple }
 
--- after a node, which may have been a simple key
+-- the stage after a node, which may have been a simple key
 abbrev pub stage_after : List TagDirective → List Frame → (simple : Bool) → Stage
 stage_after directives [] simple = at_document_end
 stage_after directives (frame ∷ outer) simple =
     at_node directives (record frame { place = next_entry_place frame.place simple } ∷ outer)
 
--- the entry is the first of its collection
+-- true if the entry is the first of its collection
 abbrev pub is_first : Role → Bool
 is_first (as_item first) = first
 is_first (as_key first) = first
 is_first _ = false
 
--- an event's piece, and what comes next
+-- an event's piece, and the stage after it
 pub record Stepped : Type 0 where
   pub rendered : RenderedPiece
   pub stage : Stage
 
--- an event out of place writes nothing
+-- the step of an event that may not come: nothing is written
 abbrev pub stopped : Standing → Stepped
 stopped standing = record { rendered = piece_without_body standing.open_ended (render_nothing standing.cursor); stage = at_nothing }
 
--- an alias or a scalar, which may be a simple key
+-- the step of an alias or a scalar, which may be a simple key
 abbrev pub leaf_step : List TagDirective → List Frame → (simple : Bool) → RenderedPiece → Stepped
 leaf_step directives frames simple rendered = record { rendered = rendered; stage = stage_after directives frames simple }
 
@@ -81,7 +81,7 @@ frame_opened s place in_flow undented simple role rendered =
       simple = simple;
     }
 
--- a collection's start: its piece, and the place of its first entry
+-- the step of a collection's start: its piece, and the place of its first entry
 abbrev pub start_step :
     Effective → List TagDirective → List Frame → (undented simple empty : Bool) → Role → Collection → Standing → Stepped
 start_step s directives frames undented simple empty role start standing =
@@ -94,7 +94,7 @@ start_step s directives frames undented simple empty role start standing =
           (frame_opened s place (is_written_in_flow s place start empty) undented simple role rendered ∷ frames);
     }
 
--- a collection's end: its piece, and what follows the collection
+-- the step of a collection's end: its piece, and the stage after the collection
 abbrev pub end_step : Effective → Brackets → List TagDirective → List Frame → Standing → Stepped
 end_step s brackets directives [] standing = stopped standing
 end_step s brackets directives (frame ∷ outer) standing =
@@ -104,7 +104,7 @@ end_step s brackets directives (frame ∷ outer) standing =
       stage = stage_after directives outer frame.simple;
     }
 
--- an event within a document, case by case; empty: the collection that it starts ends at once
+-- the step of an event within a document, case by case; empty: the collection that it starts ends at once
 abbrev pub node_step : Effective → List TagDirective → List Frame → Event → (empty : Bool) → Standing → Stepped
 node_step s directives frames (alias name) empty standing =
     let simple = is_key (next_place frames).role && (not s.canonical && is_simple_alias name) in
@@ -125,7 +125,7 @@ node_step s directives frames sequence_end empty standing = end_step s square di
 node_step s directives frames mapping_end empty standing = end_step s curly directives frames standing
 node_step s directives frames _ empty standing = stopped standing
 
--- an event at a stage
+-- the step of an event at a stage
 abbrev pub step : Effective → Stage → Event → (empty : Bool) → Standing → Stepped
 step s at_stream (stream_start encoding) empty standing =
     record { rendered = stream_start_piece standing; stage = at_document true }
@@ -140,37 +140,37 @@ step s at_document_end (document_end implicit) empty standing =
     record { rendered = document_end_piece implicit standing; stage = at_document false }
 step s _ event empty standing = stopped standing
 
--- the next event is a collection's end; where no event follows, as is said
+-- true if the next event is a collection's end; after the last event the given flag says it
 abbrev pub ends_next : List Event → Bool → Bool
 ends_next [] follows = follows
 ends_next (event ∷ rest) follows = ends_collection event
 
--- several events' pieces, where writing stands after them, and what comes next
+-- several events' pieces, the state of writing after them, and the stage after them
 pub record Steps : Type 0 where
   pub pieces : List Piece
   pub standing : Standing
   pub stage : Stage
 
--- a step, and then the steps from where it leads
+-- a step, and then the steps from its result
 abbrev pub then_steps : Stepped → (Stage → Standing → Steps) → Steps
 then_steps stepped next =
     let after = next stepped.stage stepped.rendered.standing in
     record { pieces = stepped.rendered.piece ∷ after.pieces; standing = after.standing; stage = after.stage }
 
--- events one after another; follows: a collection's end follows them
+-- the steps of events, one after another; follows: a collection's end comes after them
 abbrev pub steps : Effective → (follows : Bool) → List Event → Stage → Standing → Steps
 steps s follows [] stage standing = record { pieces = []; standing = standing; stage = stage }
 steps s follows (event ∷ rest) stage standing =
     then_steps (step s stage event (ends_next rest follows) standing) (steps s follows rest)
 
--- What is refused at a stage
+-- Refusals at a stage
 
--- an item of a sequence
+-- true of an item of a sequence
 abbrev pub is_item : Role → Bool
 is_item (as_item first) = true
 is_item _ = false
 
--- within a document a node may stand, or the end of the innermost collection
+-- true if an event may come within a document: a node, or the end of the innermost collection
 abbrev pub node_allowed : List Frame → Event → Bool
 node_allowed frames (alias name) = true
 node_allowed frames (scalar content) = true
@@ -180,7 +180,7 @@ node_allowed (frame ∷ outer) sequence_end = is_item frame.place.role
 node_allowed (frame ∷ outer) mapping_end = is_key frame.place.role
 node_allowed _ _ = false
 
--- an event may stand at a stage
+-- true if an event may come at a stage
 abbrev pub stage_allows : Stage → Event → Bool
 stage_allows at_stream (stream_start encoding) = true
 stage_allows (at_document first) (document_start start) = true
@@ -189,7 +189,7 @@ stage_allows (at_node directives frames) event = node_allowed frames event
 stage_allows at_document_end (document_end implicit) = true
 stage_allows _ event = false
 
--- the refusal of an event that may not stand at a stage
+-- the refusal of an event that may not come at a stage
 abbrev pub stage_expected : Stage → yaml_error_t
 stage_expected at_stream = ExpectedStreamStart
 stage_expected (at_document first) = ExpectedDocumentStart
@@ -197,7 +197,7 @@ stage_expected (at_node directives frames) = ExpectedNode
 stage_expected at_document_end = ExpectedDocumentEnd
 stage_expected at_nothing = ExpectedNothing
 
--- how many collections are open at a stage
+-- the number of collections that are open at a stage
 abbrev pub frame_count : Stage → ℕ
 frame_count (at_node directives frames) = length frames
 frame_count _ = 0
@@ -210,17 +210,17 @@ stage_refusal canonical stage event =
     (option_or (content_fault canonical event)
     (some_if (begins_collection event && not (nat_lt (frame_count stage) most_open)) TooDeep)))
 
--- Lists with events that wait
+-- Lists with queued events
 
 -- the steps of the events that are ready
 abbrev pub ready_steps : Effective → List Event → Stage → Standing → Steps
 ready_steps s events stage standing = steps s false (take (written events) events) stage standing
 
--- those of a stream, from its start
+-- the steps of a stream's ready events, from its start
 abbrev pub progress : Effective → List Event → Steps
 progress s events = ready_steps s events at_stream first_standing
 
--- steps, and then steps from where they leave off
+-- steps, and then steps from their result
 abbrev pub joined_steps : Steps → (Stage → Standing → Steps) → Steps
 joined_steps first next =
     let after = next first.stage first.standing in

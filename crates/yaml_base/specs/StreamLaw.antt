@@ -18,29 +18,29 @@ use Rattle.yaml_base.specs.Meaning.{has_scalar_texts}
 use Rattle.yaml_base.specs.streams.StreamContent.{documents_in_order, agrees}
 use Rattle.yaml_base.specs.streams.StreamReader.{stream_trees}
 
--- a node of which nothing is written: an empty plain scalar without properties
+-- true of a node for which nothing is written: an empty plain scalar without properties
 abbrev pub is_written_as_nothing : Bool → Node → Bool
 is_written_as_nothing canonical (scalar_node content) =
     is_empty content.value && not (is_some content.anchor) && not (is_some (scalar_tag canonical content))
     && content.plain_implicit && is_plain (requested_style canonical content.style)
 is_written_as_nothing canonical _ = false
 
--- the first document has no `---` and its root is written as nothing, so that no reader sees a document
+-- true if the first document has no `---` and nothing is written for its root, so that no reader sees a document
 abbrev pub loses_document : Bool → List Document → Bool
 loses_document canonical [] = false
 loses_document canonical (document ∷ rest) = not (is_explicit canonical true document.start) && is_written_as_nothing canonical document.root
 
--- a flow indicator stands after a tag's handle, where readers end the tag
+-- true if a flow indicator follows a tag's handle; readers end the tag there
 abbrev pub has_flow_indicator : Spelling → Bool
 has_flow_indicator (shorthand handle suffix) = list_any (is_among (codes ",[]")) suffix
 has_flow_indicator (verbatim tag) = false
 
--- a tag that is written, if one is, has such an indicator
+-- true if a tag that is written, if one is, has such an indicator
 abbrev pub tag_has_flow_indicator : List TagDirective → Option Text → Bool
 tag_has_flow_indicator directives None = false
 tag_has_flow_indicator directives (Some tag) = has_flow_indicator (spelling directives tag)
 
--- some tag of a tree has such an indicator
+-- true if some tag of a tree has such an indicator
 abbrev mutual
   pub node_has_flow_indicator : Bool → List TagDirective → Node → Bool
   node_has_flow_indicator canonical directives (alias_node name) = false
@@ -61,21 +61,21 @@ abbrev mutual
       pairs_have_flow_indicator canonical directives pairs || node_has_flow_indicator canonical directives key
       || node_has_flow_indicator canonical directives value
 
--- some tag of a document has such an indicator
+-- true if some tag of a document has such an indicator
 abbrev pub document_has_flow_indicator : Bool → Document → Bool
 document_has_flow_indicator canonical document =
     node_has_flow_indicator canonical (directives_in_force document.start.directives) document.root
 
--- no document is lost, and no tag has a flow indicator after its handle
+-- true if no document is lost, and no tag has a flow indicator after its handle
 abbrev pub all_read_alike : Bool → List Document → Bool
 all_read_alike canonical documents = not (loses_document canonical documents) && not (list_any (document_has_flow_indicator canonical) documents)
 
--- what readers of YAML read alike of all that the layout writes: all in portable mode, else all but those two kinds
+-- true if readers of YAML read the output alike: in portable mode always, else if neither of those two cases occurs
 abbrev pub reads_alike : (portable canonical : Bool) → List Event → Bool
 reads_alike portable canonical events =
     portable || unwrap_or (option_map (λ stream. all_read_alike canonical (documents_in_order stream.documents)) (tree_of events)) false
 
--- under all settings all bytes of an accepted list, uncut, read as documents that agree with it
+-- under all settings all bytes of an accepted list, if no limit cuts them, read as documents that agree with it
 abbrev pub StreamReadsBack : Type 0
 StreamReadsBack =
     (given : Settings) (encoding : Option Encoding) (events : List Event) → IsAccepted given.canonical events
@@ -84,7 +84,7 @@ StreamReadsBack =
     (stream_trees given.breaks12 (bytes_written (effective given encoding) (list_layout (effective given encoding) events)))
     ≡ true
 
--- in portable mode they do so with the line breaks of YAML 1.1 and with those of 1.2
+-- in portable mode they do so with the line breaks of YAML 1.1 and with those of YAML 1.2
 abbrev pub PortableReadsBack : Type 0
 PortableReadsBack =
     (given : Settings) (breaks12 : Bool) (encoding : Option Encoding) (events : List Event) → given.portable ≡ true

@@ -1,5 +1,5 @@
--- Names, versions, tag directives and tags: what is refused in them, and how a tag is spelled by the directives in force
--- (YAML 1.1, sections 7.1, 8.1 and 8.2, and libyaml's own rules).
+-- Names, versions, tag directives and tags: their refusals, and how a tag is spelled by the directives in force (YAML 1.1, sections 7.1,
+-- 8.1 and 8.2, and libyaml's own rules).
 use Rattle.std.specs.Prelude.{ℕ, ℤ, pos, negsuc, Bool, false, Option, None, Some, List, [], ◌∷◌, ◌++◌, ◌==◌, ◌||◌, ◌&&◌, not, codes, bytes_eq, filter}
 use Rattle.std.specs.Prelude.{if◌then◌else◌}
 use Rattle.std.specs.List.{list_any, list_all}
@@ -31,7 +31,7 @@ abbrev pub tag_fault : Text → Option yaml_error_t
 tag_fault [] = Some TagEmpty
 tag_fault (_ ∷ _) = None
 
--- an integer is this number
+-- true if an integer is this number
 abbrev pub equals_integer : ℕ → ℤ → Bool
 equals_integer n (pos m) = n == m
 equals_integer n (negsuc _) = false
@@ -42,11 +42,11 @@ version_fault version =
     if equals_integer 1 version.major && (equals_integer 1 version.minor || equals_integer 2 version.minor) then None
     else Some IncompatibleVersion
 
--- the sign that begins a tag and stands at both ends of a handle (YAML 1.1, section 7.1.2.2)
+-- the sign that begins a tag and is at both ends of a handle (YAML 1.1, section 7.1.2.2)
 abbrev pub exclamation_mark : ℕ
 exclamation_mark = 0x21
 
--- the last of a text, at least the given character
+-- the last character of a text; of the empty text the given one
 abbrev pub last_from : ℕ → Text → ℕ
 last_from c [] = c
 last_from c (next ∷ rest) = last_from next rest
@@ -74,7 +74,7 @@ prefix_fault (_ ∷ _) = None
 abbrev pub directive_fault : TagDirective → Option yaml_error_t
 directive_fault directive = option_or (handle_fault directive.handle) (prefix_fault directive.prefix)
 
--- some directive gives this handle
+-- true if some directive gives this handle
 abbrev pub gives_handle : Text → List TagDirective → Bool
 gives_handle handle directives = list_any (λ directive. bytes_eq directive.handle handle) directives
 
@@ -94,7 +94,7 @@ directives_fault_after before (directive ∷ rest) =
 abbrev pub directives_fault : List TagDirective → Option yaml_error_t
 directives_fault directives = directives_fault_after [] directives
 
--- `!` stands for itself and `!!` for YAML's own types, where a document doesn't say otherwise (YAML 1.1, section 7.1.2.2)
+-- `!` means itself and `!!` YAML's own types, unless a document says otherwise (YAML 1.1, section 7.1.2.2)
 abbrev pub default_directives : List TagDirective
 default_directives =
     record { handle = codes "!"; prefix = codes "!" }
@@ -104,24 +104,24 @@ default_directives =
 abbrev pub directives_in_force : List TagDirective → List TagDirective
 directives_in_force own = own ++ filter (λ directive. not (gives_handle directive.handle own)) default_directives
 
--- what stands behind a prefix of a text, where that is at least one character
+-- the rest of a text after this prefix, if it has at least one character
 abbrev pub behind : Text → Text → Option Text
 behind [] [] = None
 behind [] (c ∷ rest) = Some (c ∷ rest)
 behind (p ∷ prefix) [] = None
 behind (p ∷ prefix) (c ∷ rest) = if p == c then behind prefix rest else None
 
--- a tag as a handle and what stands behind the handle's prefix, or as it is (YAML 1.1, section 8.2)
+-- a tag as a handle and the text after its prefix, or as it is (YAML 1.1, section 8.2)
 pub data Spelling : Type 0 where
   shorthand : Text → Text → Spelling
   verbatim : Text → Spelling
 
--- a handle with what stands behind its prefix, or else another spelling
+-- a handle with the text after its prefix, or else another spelling
 abbrev pub spelling_by : Text → Option Text → Spelling → Spelling
 spelling_by handle None otherwise = otherwise
 spelling_by handle (Some suffix) otherwise = shorthand handle suffix
 
--- a tag is spelled by the first directive whose prefix it begins with and goes on from
+-- a tag is spelled by the first directive whose prefix it begins with and is longer than
 abbrev pub spelling : List TagDirective → Text → Spelling
 spelling [] tag = verbatim tag
 spelling (directive ∷ rest) tag = spelling_by directive.handle (behind directive.prefix tag) (spelling rest tag)

@@ -1,4 +1,4 @@
-//! The classes of characters that the emitter goes by.
+//! The classes of characters that the emitter uses.
 ghost use Rattle.std.specs.Prelude.{◌≡◌, ◌<◌, false};
 ghost use Rattle.yaml_base.specs.Characters as class;
 
@@ -11,7 +11,7 @@ pub fn is_alpha(character: char) -> bool
     matches!(character, '0'..='9' | 'A'..='Z' | 'a'..='z' | '_' | '-')
 }
 
-/// Returns whether a character is one of U+0000 to U+007F.
+/// Returns whether a character is from U+0000 to U+007F.
 pub fn is_ascii(character: char) -> bool
     ensures { result ≡ class.is_ascii character }
 {
@@ -46,7 +46,7 @@ pub fn is_bom(character: char) -> bool
     character == '\u{FEFF}'
 }
 
-/// Returns whether a character may stand as itself in a text (YAML 1.1, section 5.1); a tab, CR and U+0085 may not.
+/// Returns whether a character may be itself in a text (YAML 1.1, section 5.1); a tab, CR and U+0085 may not.
 pub fn is_printable(character: char) -> bool
     ensures { result ≡ class.is_printable character }
 {

@@ -10,7 +10,7 @@ pub struct yaml_version_directive_t {
     pub minor: i32,
 }
 
-/// `%TAG`, a handle and the prefix that it stands for.
+/// `%TAG`, a handle and the prefix that it means.
 #[derive(Drop)]
 #[derive_where(PartialEq, Eq, Debug)]
 pub struct yaml_tag_directive_t<A: Allocator> {

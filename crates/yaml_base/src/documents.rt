@@ -24,7 +24,7 @@ impl fmt::Display for NodeNumber {
     }
 }
 
-/// So `?` turns it into a caller's own error.
+/// Lets `?` turn it into a caller's own error.
 impl Error for NodeNumber {}
 
 /// A document: its directives and its nodes, which are numbered from 1. Node 1 is the root.
@@ -98,8 +98,11 @@ fn outside_nodes<A: Allocator>(count: usize, nodes: &[yaml_node_t<A>]) -> Option
 impl<A: Allocator> yaml_document_t<A> {
     ghost use Rattle.yaml_base.specs.graphs.Documents.{graph_of};
 
-    /// Returns a document of these nodes, or the first number that names none of them, in the order of nodes, items, and keys
-    /// before values. The arguments are then dropped.
+    /// Returns a document of these nodes and directives. There may be at most 2,147,483,647 nodes.
+    ///
+    /// # Errors
+    /// The first number that names none of the nodes, in the order of nodes, items, and keys before values. The arguments are then
+    /// dropped.
     pub fn from_nodes(
         version: Option<yaml_version_directive_t>,
         tags: Vec<yaml_tag_directive_t<A>, A>,
@@ -152,14 +155,14 @@ impl<A: Allocator> yaml_document_t<A> {
         self.nodes
     }
 
-    /// Does nothing; its contract is the law that each number that a node holds names a node.
+    /// Does nothing; its contract is the law that each number in a node names a node.
     pub fn numbers_name_nodes(&self)
         ensures { is_whole (graph_of self.now) ≡ true }
     {
         let _document = self;
     }
 
-    /// Returns the node of a number; none where the number names none.
+    /// Returns the node of a number; none if the number names none.
     pub fn get_node(&self, index: i32) -> Option<&yaml_node_t<A>>
         ensures { option_map (λ node. seen_node node.now) result ≡ node_numbered (graph_of self.now) (seen_number index) }
     {
@@ -175,7 +178,7 @@ impl<A: Allocator> yaml_document_t<A> {
         self.nodes.as_slice().get(place)
     }
 
-    /// Returns node 1; none where there are no nodes.
+    /// Returns node 1; none if there are no nodes.
     pub fn root(&self) -> Option<&yaml_node_t<A>>
         ensures { option_map (λ node. seen_node node.now) result ≡ node_numbered (graph_of self.now) 1 }
     {

@@ -25,7 +25,7 @@ pub enum yaml_error_t {
     ExpectedDocumentStart,
     /// After a document's root another event than DOCUMENT-END.
     ExpectedDocumentEnd,
-    /// An event that begins no node, where a node must stand.
+    /// An event that begins no node, at a place that needs a node.
     ExpectedNode,
     /// An event after STREAM-END.
     ExpectedNothing,
@@ -75,7 +75,7 @@ impl yaml_error_t {
         }
     }
 
-    /// Returns the refusal in words; empty for a refused growth.
+    /// Returns the text of the refusal; empty for a refused growth.
     pub fn problem(self) -> &'static str
         ensures { result.now ≡ problem_text self }
     {
@@ -121,5 +121,5 @@ impl fmt::Display for yaml_error_t {
     }
 }
 
-/// So `?` turns it into a caller's own error.
+/// Lets `?` turn it into a caller's own error.
 impl Error for yaml_error_t {}

@@ -7,14 +7,14 @@ use crate::encodings::yaml_encoding_t;
 use crate::styles::{yaml_mapping_style_t, yaml_scalar_style_t, yaml_sequence_style_t};
 use std::alloc::Allocator;
 
-/// An event of a stream. An anchor names a node, an alias stands for the node of that name,
+/// An event of a stream. An anchor names a node, an alias refers to the node of that name,
 /// a tag says of what type a node is.
 #[derive(Drop)]
 #[derive_where(PartialEq, Eq, Debug)]
 pub enum yaml_event_t<A: Allocator> {
     /// A stream begins.
     YAML_STREAM_START_EVENT {
-        /// The encoding of the stream, where the emitter has none of its own.
+        /// The encoding of the stream, if the emitter has none of its own.
         encoding: yaml_encoding_t,
     },
     /// A stream ends.
@@ -25,15 +25,15 @@ pub enum yaml_event_t<A: Allocator> {
         version_directive: Option<yaml_version_directive_t>,
         /// The handles that shorten tags in this document.
         tag_directives: Vec<yaml_tag_directive_t<A>, A>,
-        /// `---` may be left out.
+        /// Whether `---` may be left out.
         implicit: bool,
     },
     /// A document ends.
     YAML_DOCUMENT_END_EVENT {
-        /// `...` may be left out.
+        /// Whether `...` may be left out.
         implicit: bool,
     },
-    /// A node that stands elsewhere.
+    /// Another occurrence of a node.
     YAML_ALIAS_EVENT {
         /// The name of that node.
         anchor: String<A>,
@@ -46,9 +46,9 @@ pub enum yaml_event_t<A: Allocator> {
         tag: Option<String<A>>,
         /// Its text.
         value: String<A>,
-        /// The tag may be left out where the scalar is plain.
+        /// Whether the tag may be left out if the scalar is plain.
         plain_implicit: bool,
-        /// The tag may be left out in any other style.
+        /// Whether the tag may be left out in any other style.
         quoted_implicit: bool,
         /// The style in which it is to be written.
         style: yaml_scalar_style_t,
@@ -59,7 +59,7 @@ pub enum yaml_event_t<A: Allocator> {
         anchor: Option<String<A>>,
         /// Its tag.
         tag: Option<String<A>>,
-        /// The tag may be left out.
+        /// Whether the tag may be left out.
         implicit: bool,
         /// The style in which it is to be written.
         style: yaml_sequence_style_t,
@@ -72,7 +72,7 @@ pub enum yaml_event_t<A: Allocator> {
         anchor: Option<String<A>>,
         /// Its tag.
         tag: Option<String<A>>,
-        /// The tag may be left out.
+        /// Whether the tag may be left out.
         implicit: bool,
         /// The style in which it is to be written.
         style: yaml_mapping_style_t,

@@ -1,4 +1,4 @@
-//! Laws of the definitions, each the contract of a function that does nothing: what they promise together.
+//! Laws of the definitions, each the contract of a function that does nothing: the promises that they make together.
 ghost use Rattle.yaml_base.specs.Encoding.{OneText};
 ghost use Rattle.yaml_base.specs.Grammar.{OneTree};
 ghost use Rattle.yaml_base.specs.Laws.{BreaksAgree, EncodingsAgree, LimitCuts, PlainHoldsNoIndicator, TreeIsFound};
@@ -34,8 +34,8 @@ pub fn ready_events_stay_ready()
     ensures { ReadyStays }
 {}
 
-/// States that after events that begin an accepted list, the next event is refused exactly where no accepted list goes
-/// on with it.
+/// States that after events that begin an accepted list, the next event is refused exactly if no accepted list continues
+/// with it.
 pub fn refused_exactly()
     ensures { RefusedExactly }
 {}
@@ -45,7 +45,7 @@ pub fn whole_stream_is_ready()
     ensures { WholeStreamIsReady }
 {}
 
-/// States that the events of a graph that has nodes, each of whose numbers names one, are those of a document whose tree
+/// States that the events of a graph that has nodes, each number in which names one, are those of a document whose tree
 /// unfolds it.
 pub fn documents_unfold()
     ensures { DocumentsUnfold }
@@ -77,14 +77,14 @@ pub fn limit_cuts_the_output()
     ensures { LimitCuts }
 {}
 
-/// States that under settings that differ in the encoding alone, the bytes of a layout are one text: decoded without
-/// their mark they give the same characters, where these are Unicode scalar values.
+/// States that under settings that differ in the encoding alone, the bytes of a layout are one text: without their mark, they
+/// decode to the same characters, if these are Unicode scalar values.
 pub fn encodings_agree()
     ensures { EncodingsAgree }
 {}
 
-/// States that in portable mode the layout is the same with the line breaks of YAML 1.1 and with those of 1.2, so what is
-/// promised of one holds of the other.
+/// States that in portable mode the layout is the same with the line breaks of YAML 1.1 and with those of 1.2, so a promise about
+/// one holds for the other.
 pub fn breaks_agree()
     ensures { BreaksAgree }
 {}

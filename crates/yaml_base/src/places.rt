@@ -11,7 +11,7 @@ fn begins_character(byte: u8) -> bool
     byte < 128 || byte >= 192
 }
 
-/// The most bytes that can be counted in a byte.
+/// The largest count of bytes that fits in one byte.
 const BLOCK_SIZE: usize = 255;
 
 /// Returns the number of line feeds in a block. (A sum needs no branch for each byte, and sums in single bytes are made

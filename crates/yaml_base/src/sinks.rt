@@ -1,4 +1,4 @@
-//! Bytes given to a sink.
+//! Writing bytes to a sink.
 ghost use Rattle.std.specs.Prelude.{OnErr, OnOk};
 ghost use Rattle.std.specs.Io.KnownBytes.{Appends};
 ghost use Rattle.yaml_base.specs.Sinks.{AppendsFirst};
@@ -6,17 +6,17 @@ ghost use Rattle.yaml_base.specs.Sinks.{AppendsFirst};
 use std::io;
 use std::io::{ErrorKind, Write};
 
-/// Writes bytes to a sink, all of them or, where the sink fails, a beginning.
+/// Writes bytes to a sink: all of them, or a prefix if the sink fails.
 ///
 /// # Errors
-/// That of the sink, but for `Interrupted`, after which the write is tried again. `WriteZero` where the sink takes no byte. The sink
-/// then has a beginning of the bytes, which may be empty.
+/// The sink's own, except `Interrupted`, after which the write is tried again. `WriteZero` if the sink takes no byte. `TimedOut` after
+/// 2^64 - 1 writes. The sink then has a prefix of the bytes, which may be empty.
 pub fn write_to_sink<W: Write>(sink: &mut W, bytes: &[u8]) -> io::Result<()>
     ensures whole { OnOk result (Appends (W.contents sink.old) (W.contents sink.new) bytes.now) }
     ensures first { OnErr result (AppendsFirst (W.contents sink.old) (W.contents sink.new) bytes.now) }
 {
     let mut rest = bytes;
-    // No sink promises to take its bytes, so the writes are counted.
+    // No sink promises to take its bytes, so the number of writes is bounded.
     let mut turns = u64::MAX;
     'writes: while turns > 0 {
         if rest.is_empty() {

@@ -1,9 +1,9 @@
-//! The styles of nodes. A style is a wish: where it can't be kept, another is chosen.
+//! The styles of nodes. A style is a wish: if it can't be kept, another is chosen.
 
 /// The style in which a scalar is written (YAML 1.1, chapter 9).
 #[derive(Clone, Copy, PartialEq, Eq, Debug)]
 pub enum yaml_scalar_style_t {
-    /// Plain where that can be, else quoted.
+    /// Plain if possible, else quoted.
     YAML_ANY_SCALAR_STYLE,
     /// Without quotes (YAML 1.1, section 9.1.3).
     YAML_PLAIN_SCALAR_STYLE,
@@ -20,7 +20,7 @@ pub enum yaml_scalar_style_t {
 /// The style in which a sequence is written (YAML 1.1, section 10.1).
 #[derive(Clone, Copy, PartialEq, Eq, Debug)]
 pub enum yaml_sequence_style_t {
-    /// A block where that can be.
+    /// A block if possible.
     YAML_ANY_SEQUENCE_STYLE,
     /// An item a line, each after `- `.
     YAML_BLOCK_SEQUENCE_STYLE,
@@ -31,7 +31,7 @@ pub enum yaml_sequence_style_t {
 /// The style in which a mapping is written (YAML 1.1, section 10.2).
 #[derive(Clone, Copy, PartialEq, Eq, Debug)]
 pub enum yaml_mapping_style_t {
-    /// A block where that can be.
+    /// A block if possible.
     YAML_ANY_MAPPING_STYLE,
     /// A pair a line.
     YAML_BLOCK_MAPPING_STYLE,

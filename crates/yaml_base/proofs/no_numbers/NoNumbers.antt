@@ -1,4 +1,4 @@
--- What no number and no timestamp of a schema is, but for numbers in a base; and conditions that don't hold.
+-- Facts about texts that are no number and no timestamp of a schema, except numbers in a base; and conditions that don't hold.
 use Rattle.yaml_base.proofs.Common.{suc, ℕ, if◌then◌else◌, ◌==◌, Option, None, Bool, false, ◌∷◌, ◌≡◌, ne_eqb, ap, arith, slice_split}
 use Rattle.yaml_base.proofs.Common.{Text, is_point, is_exponent_letter, past_sign, is_negative, core_integer, core_decimal, octal_11, decimal_11, is_colon}
 use Rattle.yaml_base.proofs.Common.{sixties_11, fine_sixties_11, float_11, more_points_11, points_11, past, timestamp_11}
@@ -16,7 +16,7 @@ pub record NoNumber (text : Text) : Type 0 where
   pub core_integer : core_integer text ≡ None
   pub core_decimal : core_decimal text ≡ None
 
--- what isn't given where a test fails
+-- the value that isn't given if a test fails
 pub off : {A : Type 0} (test : Bool) (given : Option A) → test ≡ false → (if test then given else None) ≡ None
 off test given h = ap (λ x. if x then given else None) h
 

@@ -18,7 +18,7 @@ first_part (part ∷ parts) = part
 onto_first_begins : (test : ℕ → Bool) (c : ℕ) (parts : List Text) → first_meets test (first_part (onto_first c parts)) ≡ test c
 onto_first_begins test c parts = grind (arith, nat_tests)
 
--- a cut text's first piece begins with what the text begins with, or is empty
+-- a cut text's first piece begins as the text does, or is empty
 pub split_begins : (test sign : ℕ → Bool) (text : Text) → first_meets test text ≡ false → first_meets test (first_part (slice_split sign text)) ≡ false
 split_begins test sign text h = grind (arith, nat_tests, onto_first_begins)
 
@@ -96,7 +96,7 @@ point_begins (c ∷ rest) h = (or_parts (is_decimal c) (is_point c) h).1
 
 -- ---- all
 
--- what begins with no digit is none of these
+-- a text that begins with no digit is none of these
 pub ruleset begins_none = (timestamp_begins, octal_11_begins, decimal_11_begins, off, groups_begin, split_begins, leading_begins, fine_sixties_begin)
 
 -- nor, without a point, a float

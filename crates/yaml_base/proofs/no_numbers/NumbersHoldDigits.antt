@@ -88,7 +88,7 @@ not_points text h = grind (arith, or_from, eqb-true, true≢false, points_lack_l
 
 -- ---- all
 
--- what holds no digit is no float
+-- a text without a digit is no float
 ruleset holds_no_float = (scientific_begins, mantissa_11_without, more_points_11_begins, more_points_without, core_mantissa_without, digits_begin, not_points)
 
 -- with a letter it is no number and no timestamp

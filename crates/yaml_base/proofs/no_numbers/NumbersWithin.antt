@@ -1,4 +1,4 @@
--- A text that holds a character which stands in no number is no number and no timestamp.
+-- A text that holds a character which no number holds is no number and no timestamp.
 use Rattle.yaml_base.proofs.Common.{nat_tests, and-true, ℕ, ◌==◌, Option, None, codes, ℤ, length, Bool, false, not, true, ◌&&◌, ◌||◌, List, [], ◌++◌, ◌∷◌, ◌⊎◌}
 use Rattle.yaml_base.proofs.Common.{refl, ◌≡◌, eqb-true, lt-ltb, ltb-true, true≢false, inl, inr, ap, sym, ◌∙◌, arith, or_cases, and_cases, and_left, and_right}
 use Rattle.yaml_base.proofs.Common.{or_from, or_left, list_all-append, bytes_eq-Decides, digit_value, concat, list_all, onto_first, slice_split, Text}
@@ -16,7 +16,7 @@ within text = list_all in_number text
 
 -- ---- tests
 
--- what not all pass, not all pass by a stronger test
+-- if not all pass a test, not all pass a stronger one
 stronger : {X : Type 0} (weak strong : X → Bool) → ((x : X) → strong x ≡ true → weak x ≡ true) → (xs : List X)
     → list_all weak xs ≡ false → list_all strong xs ≡ false
 stronger weak strong implied [] h = absurd (true≢false h)
@@ -181,7 +181,7 @@ fine_sixties_outside negative parts h =
 
 -- ---- timestamps
 
--- it is in the rest where the first character isn't it
+-- it is in the rest if the first character isn't it
 rest_outside : (c : ℕ) (rest : Text) (test later : Bool) → (test ≡ true → in_number c ≡ true) → (within rest ≡ false → later ≡ false)
     → within (c ∷ rest) ≡ false → (test && later) ≡ false
 rest_outside c rest false later stands fails h = refl

@@ -1,15 +1,15 @@
--- Rows as lists of cases, which one `refl` checks at once: what a function gives for each.
+-- Rows as lists of cases, all checked by one `refl`: the result of a function for each.
 use Rattle.yaml_base.proofs.Common.{is_none, Option, Some, Bool, List, list_all, map, ◌≡◌}
 
--- an argument, and what it gives
+-- an argument, and its result
 abbrev pub Gives : {A B : Type 0} → (A → B) → List (A × B) → Type 0
 Gives {A} {B} give cases = map {A = A × B} (λ row. give row.0) cases ≡ map {A = A × B} (λ row. row.1) cases
 
--- two arguments, and what they give
+-- two arguments, and their result
 abbrev pub GivesOfTwo : {A B C : Type 0} → (A → B → C) → List (A × B × C) → Type 0
 GivesOfTwo {A} {B} {C} give cases = map {A = A × B × C} (λ row. give row.0 row.1) cases ≡ map {A = A × B × C} (λ row. row.2) cases
 
--- what two arguments give reads as the second of them
+-- the result of two arguments reads as the second of them
 abbrev pub ReadBack : {A B C : Type 0} → (C → Option B) → List (A × B × C) → Type 0
 ReadBack {A} {B} {C} read cases = map {A = A × B × C} (λ row. read row.2) cases ≡ map {A = A × B × C} (λ row. Some row.1) cases
 

@@ -1,4 +1,4 @@
--- Worked values: what they allow, and the style and the bare tag that are chosen for them.
+-- Worked values: the styles that they allow, and the style and the bare tag that are chosen for them.
 use Rattle.yaml_base.proofs.Common.{codes, Bool, false, true, [], ◌∷◌, refl, ◌≡◌, Text, ScalarStyle, any_style, plain, single_quoted, double_quoted, literal}
 use Rattle.yaml_base.proofs.Common.{folded, Charset, Allowances, allowances, ChosenStyle, lacks_tag_and_flags, chosen}
 use Rattle.yaml_base.proofs.rows.Cases.{GivesOfFive, GivesOfTwo}
@@ -60,8 +60,8 @@ chosen_in_a_block : GivesOfFive in_block (
     ∷ (codes "\0", literal, true, true, false, choice double_quoted false)  -- unprintable is double
     ∷ (codes "a\n\n", literal, true, true, false, choice literal false)  -- literal stays
     ∷ (codes "foo", plain, false, true, false, choice single_quoted false)  -- plain needs its flag
-    ∷ (codes "a:", any_style, true, false, false, choice single_quoted true)  -- bare where quoted
-    ∷ (codes "a", any_style, true, false, false, choice plain false)  -- no bare where plain
+    ∷ (codes "a:", any_style, true, false, false, choice single_quoted true)  -- bare if quoted
+    ∷ (codes "a", any_style, true, false, false, choice plain false)  -- not bare if plain
     ∷ (codes "a", any_style, true, false, true, choice double_quoted true)  -- canonical is double
     ∷ [])
 chosen_in_a_block = refl

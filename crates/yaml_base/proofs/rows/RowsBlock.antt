@@ -1,4 +1,4 @@
--- Worked literal and folded scalars: what is rendered, and that each is read back.
+-- Worked literal and folded scalars: their rendered text, and that each is read back.
 use Rattle.yaml_base.proofs.Common.{ℕ, Option, None, Some, codes, false, true, [], ◌++◌, ◌∷◌, refl, ◌≡◌, Text, line_separator, first_cursor}
 use Rattle.yaml_base.proofs.Common.{with_breaks_written, with_line_breaks_read, both_break, read_block}
 use Rattle.yaml_base.specs.scalars.{BlockHeader.header_open_ended, Folded.folded_body, Folded.render_folded, Literal.literal_body, Literal.render_literal}
@@ -38,7 +38,7 @@ folded_texts : GivesOfTwo folded_text (
     ∷ [])
 folded_texts = refl
 
--- an item of a block sequence: the entries of the enclosing block stand at column 0
+-- an item of a block sequence: the entries of the enclosing block are at column 0
 item : (render_literal 2 2 (codes " a") (record { column = 1; whitespace = false; indention = true })).text ≡ codes " |2-\n   a"
 item = refl
 
@@ -67,8 +67,8 @@ block_texts_read : Gives read_root (
     ∷ (codes ">2-\n\n   a", Some (codes "\n a"))  -- break first
     ∷ (codes ">-\n  aaaaaa \n  b", Some (codes "aaaaaa  b"))  -- two spaces
     ∷ (codes ">2\n\n  a\n", Some (codes "\na\n"))  -- break before line
-    -- what is read, and never written: a sign before less indented lines, a digit that is too large, no break
-    -- after the header, contents of blanks alone
+    -- texts that are read and never written: a sign before less indented lines, a digit that is too large, no break after the header, contents of
+    -- blanks alone
     ∷ (codes "|\n  a\n b\n", None)  -- too few spaces
     ∷ (codes "|3\n  a\n", None)  -- digit too large
     ∷ (codes "|-", None)  -- no break

@@ -40,7 +40,7 @@ own_directive : canonical_content false (codes "%TAG !e! %21x\n---\n!e!y \"x\"\n
 unfolding chars is_utf8 encode_utf8
 own_directive = refl
 
--- what the emitter never writes: blanks and breaks anywhere between tokens, and none where none is needed
+-- texts that the emitter never writes: blanks and breaks anywhere between tokens, and none if none is needed
 written_otherwise : canonical_content false (codes " \t\n---\"a\"---[*a,[],]...")
     ≡ Some (root (scalar_of (codes "a"))
     ∷ root (sequence_content None None (contents_and (contents_and no_contents (alias_content (codes "a"))) (sequence_content None None no_contents))) ∷ [])

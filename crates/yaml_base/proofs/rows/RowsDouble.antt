@@ -19,7 +19,7 @@ read text = read_double false text
 abbrev only : ℕ → Text
 only c = c ∷ []
 
--- whether characters past ASCII stay, a text, and what is written for it and reads back
+-- whether characters past ASCII stay, a text, and its written form, which reads back
 abbrev escapes : List (Bool × Text × Text)
 escapes =
     (true, only 0x0, in_quotes (codes "\\0"))  -- nul
@@ -45,7 +45,7 @@ escapes_written = refl
 escapes_read : ReadBack read escapes
 escapes_read = refl
 
--- the borders of two, four and eight digits, and what is never kept
+-- the borders of two, four and eight digits, and characters that are never kept
 abbrev borders : List (Bool × Text × Text)
 borders =
     (false, only 0xFF, in_quotes (codes "\\xFF"))  -- last of two
@@ -92,23 +92,23 @@ folds_read = refl
 first-space : (render_double_quoted false (Some 5) 2 (codes " a") (record first_cursor { column = 7 })).text ≡ codes "\" a\""
 first-space = refl
 
--- a space goes before the quote where none stands there
+-- a space goes before the quote if none precedes
 lead : (render_double_quoted false None 2 (codes "a") (record first_cursor { whitespace = false })).text ≡ codes " \"a\""
 lead = refl
 
 many : written false (codes "\0\u{7}\"\\" ++ (0x85 ∷ 0x7F ∷ [])) ≡ codes "\"\\0\\a\\\"\\\\\\N\\x7F\""
 many = refl
 
--- what is read that isn't written
+-- texts that are read and aren't written
 other_texts_read : Gives read (
     (codes "\"a \t\n  b\"", Some (codes "a b"))  -- literal blanks before a break
     ∷ (codes "\"a\n\n  b\"", Some (codes "a\nb"))  -- two breaks
     ∷ (codes "\"\\U00000061\"", Some (codes "a"))  -- long form
-    -- what has no reading: no quotes, an open quote, more behind the quote, an unknown letter, a backslash before a
-    -- break or a tab, lower-case digits, too few digits, no character's number
+    -- texts that have no reading: no quotes, an open quote, more after the quote, an unknown letter, a backslash before a break or a tab, lower-case
+    -- digits, too few digits, no character's number
     ∷ (codes "a", None)  -- no quotes
     ∷ (codes "\"a", None)  -- open quote
-    ∷ (codes "\"a\"b\"", None)  -- more behind
+    ∷ (codes "\"a\"b\"", None)  -- more after it
     ∷ (codes "\"\\q\"", None)  -- unknown letter
     ∷ (codes "\"a\\\nb\"", None)  -- backslash break
     ∷ (codes "\"a\\\tb\"", None)  -- backslash tab

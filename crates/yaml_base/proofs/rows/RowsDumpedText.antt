@@ -51,7 +51,7 @@ documents =
     ∷ (tagged (codes "!"), codes "---\n!<%21> \"a\"\n")  -- no more than a prefix
     ∷ (tagged (codes "tag:yaml.org,2002:int"), codes "---\n!!int \"a\"\n")  -- one of YAML's own types
     ∷ (tagged (codes "tag:yaml.org,2002:"), codes "---\n!<tag:yaml.org,2002:> \"a\"\n")  -- the other prefix
-    ∷ (tagged (codes "tag:yaml.org,2002:!é<,"), codes "---\n!!%21%C3%A9%3C, \"a\"\n")  -- percent forms behind a handle
+    ∷ (tagged (codes "tag:yaml.org,2002:!é<,"), codes "---\n!!%21%C3%A9%3C, \"a\"\n")  -- percent forms after a handle
     ∷ (tagged (codes "a b%"), codes "---\n!<a%20b%25> \"a\"\n")  -- percent forms in a verbatim tag
     ∷ []
 
@@ -83,7 +83,7 @@ trees =
     ∷ (untagged false, codes "---\n! \"a\"\n")  -- the bare tag
     ∷ (alias_node (codes "a"), codes "---\n*a\n")  -- an alias alone
     ∷ (sequence_node (start_of None) (nodes_and no_nodes (sequence_node (start_of None) no_nodes)), codes "---\n[\n  [],\n]\n")  -- brackets alone
-    -- anchors alone, and brackets behind indicators
+    -- anchors alone, and brackets after indicators
     ∷ (
       mapping_node (start_of (Some (codes "x")))
           (pairs_and no_pairs (mapping_node (start_of None) no_pairs) (sequence_node (start_of (Some (codes "y"))) no_nodes)),

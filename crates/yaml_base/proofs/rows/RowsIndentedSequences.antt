@@ -1,4 +1,4 @@
--- Worked rows of indented sequences, computed, each beside what is written where they are undented.
+-- Worked rows of indented sequences, computed, each beside its text when they are undented.
 use Rattle.yaml_base.proofs.Common.{None, Some, codes, pos, replicate, false, true, List, [], ◌++◌, ◌∷◌, refl, ◌≡◌, Text, literal, block, flow, Event}
 use Rattle.yaml_base.proofs.Common.{sequence_start, sequence_end, Settings, agrees, stream_trees}
 use Rattle.std.specs.{Char.encode_utf8, Str.chars, Str.is_utf8}
@@ -49,7 +49,7 @@ as_a_complex_key : (indented as_key ≡ codes "? - b\n  - c\n: v\n") × (undente
 unfolding encode_utf8
 as_a_complex_key = (refl, refl, refl, refl)
 
--- behind the sign of a value likewise
+-- after the sign of a value likewise
 abbrev after_long_key : List Event → List Event
 after_long_key value = mapping block (leaf (replicate 129 120) ∷ value)
 
@@ -63,7 +63,7 @@ after_a_complex_key : (indented (after_long_key two_items) ≡ long_key_written 
 unfolding encode_utf8
 after_a_complex_key = (refl, refl, refl, refl)
 
--- behind an anchor or a tag its items begin on a new line
+-- after an anchor or a tag its items begin on a new line
 abbrev value_of : List Event → List Event
 value_of value = mapping block (leaf (codes "a") ∷ value)
 
@@ -96,7 +96,7 @@ nested : (indented deep ≡ codes "a:\n  - b\n  - c: d\n    e:\n      - f\n") ×
 unfolding encode_utf8
 nested = (refl, refl, refl, refl)
 
--- the root stands at column 0, and a sequence in a sequence on the line of its `-`
+-- the root is at column 0, and a sequence in a sequence on the line of its `-`
 outside_of_mappings : (indented (sequence block (leaf (codes "a") ∷ [])) ≡ codes "- a\n")
     × (indented (sequence block (sequence block (leaf (codes "a") ∷ []))) ≡ codes "- - a\n")
     × (indented (value_of (sequence block two_items)) ≡ codes "a:\n  - - b\n    - c\n")
@@ -105,7 +105,7 @@ outside_of_mappings : (indented (sequence block (leaf (codes "a") ∷ [])) ≡ c
 unfolding encode_utf8
 outside_of_mappings = (refl, refl, refl, refl, refl)
 
--- in flow, in canonical mode and where a mapping is the value nothing changes
+-- in flow, in canonical mode and if a mapping is the value nothing changes
 unchanged : (indented (value_of (sequence block [])) ≡ codes "a: []\n")
     × (indented (value_of (sequence flow (leaf (codes "b") ∷ []))) ≡ codes "a: [b]\n")
     × (indented (value_of (mapping block (leaf (codes "b") ∷ leaf (codes "c") ∷ []))) ≡ codes "a:\n  b: c\n")
@@ -123,7 +123,7 @@ block_scalars : (indented (lines_in (codes "b\n")) ≡ codes "a:\n  - |\n    b\n
 unfolding encode_utf8
 block_scalars = (refl, refl, refl)
 
--- what is written is read as what was given
+-- the written text is read as the given events
 abbrev reads : List Event → Text → Type 0
 reads events text = agrees false (alone events) (stream_trees false text) ≡ true
 

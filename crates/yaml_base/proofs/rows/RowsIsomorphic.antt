@@ -32,7 +32,7 @@ reached_in_two : {number : ℕ} → IsReached two number → (number ≡ 1) ⊎ 
 reached_in_two first_reached = inl refl
 reached_in_two (child_reached {number = parent} {child = child} r held) = grind (arith, held_by_two, held_by_none, reached_in_two r)
 
--- what holds of the first three numbers holds of those that are reached
+-- a fact about the first three numbers holds for all that are reached
 by_cases : (P : ℕ → Type 0) → P 1 → P 2 → P 3 → (number : ℕ) → (number ≡ 1) ⊎ ((number ≡ 2) ⊎ (number ≡ 3)) → P number
 by_cases P h h2 h3 number h4 = grind (arith, nat_tests)
 

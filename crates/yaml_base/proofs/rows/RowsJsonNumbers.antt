@@ -1,9 +1,9 @@
--- Numbers of JSON, computed: their text, their spelling in YAML, and what both schemas make of it.
+-- Numbers of JSON, computed: their text, their spelling in YAML, and its meaning by both schemas.
 use Rattle.yaml_base.proofs.Common.{Option, None, Some, codes, negsuc, pos, ℤ, Bool, false, true, refl, ◌≡◌, Text, JsonExponent, JsonNumber, is_json_number}
 use Rattle.yaml_base.proofs.Common.{json_value, yaml_number, means_number, Resolved, meant_integer, meant_decimal, resolved_by_core, resolved_by_11}
 use Rattle.yaml_base.specs.values.JsonNumbers.{json_text}
 
--- a number's text and spelling, and what the spelling means, which is the number's value
+-- a number's text and spelling, and the meaning of the spelling, which is the number's value
 record Row (number : JsonNumber) (text spelling : Text) (meant : Resolved) : Type 0 where
   grammar : is_json_number number ≡ true
   written : json_text number ≡ text

@@ -27,7 +27,7 @@ lines : GivesOfTwo place (
     ∷ (codes "\n\n", 0, (1, 1))
     ∷ (codes "\n\n", 1, (2, 1))
     ∷ (codes "\n\n", 2, (3, 1))
-    ∷ (codes "a\r\nb\rc", 2, (1, 3))  -- behind CR
+    ∷ (codes "a\r\nb\rc", 2, (1, 3))  -- after CR
     ∷ (codes "a\r\nb\rc", 5, (2, 3))
     ∷ [])
 lines = refl
@@ -36,7 +36,7 @@ lines = refl
 abbrev wide : List ℕ
 wide = 0xC3 ∷ 0xA9 ∷ 0xE2 ∷ 0x82 ∷ 0xAC ∷ 0xF0 ∷ 0x9F ∷ 0x98 ∷ 0x80 ∷ codes "a"
 
--- a character takes one column, however many bytes it has; an offset within one stands behind it
+-- a character takes one column, however many bytes it has; an offset within one counts as after it
 wide_characters : GivesOfTwo place (
     (wide, 1, (1, 2))  -- within é
     ∷ (wide, 2, (1, 2))

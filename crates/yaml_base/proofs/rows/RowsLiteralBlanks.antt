@@ -79,14 +79,14 @@ inside : rendered_under blanks_settings (alone (sequence block (untagged (codes 
 unfolding encode_utf8
 inside = refl
 
--- tidy where the style is literal alone; a line of blanks alone isn't
+-- tidy if the style is literal alone; a line of blanks alone isn't
 tidy : (is_tidy literal false None (codes "|\n \ta\tb\t") ≡ true)
     × (is_tidy folded false None (codes ">\n a\tb") ≡ false)
     × (is_tidy literal false None (codes "|\n  a\n  \t\n  b") ≡ false)
     × (is_tidy literal false None (codes "|\n\ta") ≡ false)
 tidy = (refl, refl, refl, refl)
 
--- what is written reads back
+-- the written text reads back
 read_back : (stream_trees false (codes "|\n  a\tb\n") ≡ only (in_quotes (codes "a\tb\n")))
     × (stream_trees false (codes "|2\n  \ta\n") ≡ only (in_quotes (codes "\ta\n")))
     × (stream_trees false (codes "|-\n  a  \n") ≡ only (in_quotes (codes "a  ")))

@@ -1,4 +1,4 @@
--- Worked rows: what the bodies of a layout read as, and that their lines are indented.
+-- Worked rows: the readings of a layout's bodies, and that their lines are indented.
 use Rattle.yaml_base.proofs.Common.{Option, None, Some, codes, pos, true, List, [], map, ◌∷◌, refl, ◌≡◌, Text, double_quoted, literal, folded, block, flow}
 use Rattle.yaml_base.{proofs.rows.Cases.GivesOfTwo, specs.Meaning.body_written, specs.Meaning.body_read}
 use Rattle.yaml_base.proofs.Common.{Event, bodies_of, is_indented_text, list_layout, both_break, Settings, effective}
@@ -21,7 +21,7 @@ two_breaks = record plain_settings { line_break = Some both_break; width = Some 
 abbrev folded_root : List Event
 folded_root = alone (untagged (codes "aaaaaa b\nc") folded ∷ [])
 
--- plain in block, single quotes for what plain may not hold in flow, double quotes for a tab
+-- plain in block, single quotes for a text that plain may not hold in flow, double quotes for a tab
 abbrev three : List Event
 three = alone (sequence flow (leaf (codes "a") ∷ leaf (codes "a, b") ∷ leaf (codes "a\tb") ∷ []))
 

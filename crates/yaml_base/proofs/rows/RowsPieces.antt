@@ -29,7 +29,7 @@ completions : Gives completion (
     ∷ [])
 completions = refl
 
--- an anchor stands, its bracket waits
+-- an anchor is written, its bracket waits
 anchor_alone :
     ready_text plain_settings
     (begun (sequence_start (record { anchor = Some (codes "a"); tag = None; implicit = true; style = flow })
@@ -61,7 +61,7 @@ outputs : GivesOfTwo output_of (
     -- upper byte first
     ∷ (record plain_settings { encoding = Some utf16_big; limit = 6 }, alone (leaf (codes "a") ∷ []), 0xFE ∷ 0xFF ∷ 0x00 ∷ 0x61 ∷ 0x00 ∷ 0x0A ∷ [])
     ∷ (record plain_settings { encoding = Some utf16_big; limit = 3 }, alone (leaf (codes "a") ∷ []), 0xFE ∷ 0xFF ∷ 0x00 ∷ [])  -- upper byte first limited
-    -- the stream's own encoding, where the caller sets none
+    -- the stream's own encoding, if the caller sets none
     ∷ (plain_settings, stream_start (Some utf16_big) ∷ stream_end ∷ [], 0xFE ∷ 0xFF ∷ [])  -- encoding of the stream
     ∷ (plain_settings, stream_of [], [])  -- empty stream
     ∷ [])

@@ -1,4 +1,4 @@
--- Plain and single-quoted scalars, computed: what is rendered, and that it reads back.
+-- Plain and single-quoted scalars, computed: their rendered text, and that it reads back.
 use Rattle.yaml_base.proofs.Common.{ℕ, Option, None, Some, codes, replicate, false, [], ◌++◌, ◌∷◌, refl, ◌≡◌, Text, Cursor, first_cursor, read_plain}
 use Rattle.yaml_base.proofs.Common.{map, read_single}
 use Rattle.yaml_base.{proofs.rows.Cases.Gives, proofs.rows.Cases.GivesOfTwo, specs.scalars.Plain.render_plain, specs.scalars.SingleQuoted.render_single_quoted}
@@ -21,11 +21,11 @@ plain_later value = (render_plain false (Some 80) 2 value later).text
 abbrev single_later : Text → Text
 single_later value = (render_single_quoted (Some 80) 2 value later).text
 
--- a space stands before a word and before a quote, and nothing before nothing in a block
+-- a space before a word and before a quote, and nothing before nothing in a block
 rendered_later : map plain_later ([] ∷ codes "b" ∷ []) ++ single_later (codes "b") ∷ [] ≡ [] ∷ codes " b" ∷ codes " 'b'" ∷ []
 rendered_later = refl
 
--- the cursor stands after the text, with no white space
+-- the cursor is after the text, with no white space
 cursors_after :
     (render_plain false (Some 5) 2 (codes "aaaaaa b") first_cursor).cursor ∷ (render_single_quoted (Some 80) 2 (codes "a\nbcd") later).cursor ∷ []
     ≡ record { column = 3; whitespace = false; indention = false } ∷ record { column = 6; whitespace = false; indention = false } ∷ []

@@ -1,4 +1,4 @@
--- Worked rows of portable mode, computed, each beside what is written without it.
+-- Worked rows of portable mode, computed, each beside its text without it.
 use Rattle.yaml_base.proofs.Common.{suc, zero, ℕ, None, Some, codes, replicate, false, true, List, [], ◌++◌, ◌∷◌, refl, ◌≡◌, Text, any_layout, block, flow}
 use Rattle.yaml_base.proofs.Common.{ScalarStyle, Event, document_start, document_end, output_of, suffix_escaped, prefix_escaped, utf16_big, both_break}
 use Rattle.yaml_base.proofs.rows.RowEvents.{plain_settings, canonical_settings, untagged, leaf, tagged, sequence, mapping, implicit_start, document_of}
@@ -78,7 +78,7 @@ prefixes : (portably (with_prefix (codes "!x") (codes "!xy")) ≡ codes "%TAG !e
 unfolding encode_utf8
 prefixes = (refl, refl, refl, refl)
 
--- what is written is read as what was given
+-- the written text is read as the given events
 abbrev reads : List Event → Text → Type 0
 reads events text = agrees false events (stream_trees false text) ≡ true
 
@@ -117,7 +117,7 @@ separated_key : rendered_under (record portable_settings { unicode = true })
 unfolding encode_utf8
 separated_key = refl
 
--- a root in a block style, whose header would have a digit, stands in double quotes
+-- a root in a block style, whose header would have a digit, is in double quotes
 abbrev root_of : ScalarStyle → Text → List Event
 root_of style value = alone (untagged value style ∷ [])
 
@@ -129,7 +129,7 @@ no_digit_at_the_root : (portably (root_of literal (codes "\na")) ≡ codes "--- 
     × (rendered (root_of literal (codes "\n")) ≡ codes "|2+\n\n...\n")
 no_digit_at_the_root = (refl, refl, refl, refl, refl, refl)
 
--- another style, a value without a digit, and an entry stand as they did
+-- another style, a value without a digit, and an entry are as they were
 abbrev entries : List Event
 entries = untagged (codes "\na") literal ∷ untagged (codes " a") folded ∷ []
 

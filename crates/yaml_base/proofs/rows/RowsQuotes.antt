@@ -1,4 +1,4 @@
--- Worked rows of double quotes in place of single ones, computed, each beside what is written without the setting.
+-- Worked rows of double quotes in place of single ones, computed, each beside its text without the setting.
 use Rattle.yaml_base.proofs.Common.{codes, true, List, [], ◌∷◌, refl, ◌≡◌, Text, plain, single_quoted, literal, block, flow, Event, Settings}
 use Rattle.std.specs.{Char.encode_utf8}
 use Rattle.yaml_base.proofs.rows.RowEvents.{plain_settings, canonical_settings, untagged, leaf, sequence, mapping, alone, rendered_under, rendered}
@@ -22,7 +22,7 @@ barred_from_plain : (doubled (leaf (codes "a: b") ∷ []) ≡ codes "\"a: b\"\n"
     × (doubled (leaf (codes "\"a\"") ∷ []) ≡ codes "\"\\\"a\\\"\"\n") × (singly (leaf (codes "\"a\"") ∷ []) ≡ codes "'\"a\"'\n")
 barred_from_plain = (refl, refl, refl, refl, refl, refl)
 
--- an empty key, and a comma in flow and in a block, where it may be plain
+-- an empty key, and a comma in flow and in a block, in which it may be plain
 in_collections : (doubled (mapping block (leaf [] ∷ leaf (codes "v") ∷ [])) ≡ codes "\"\": v\n")
     × (singly (mapping block (leaf [] ∷ leaf (codes "v") ∷ [])) ≡ codes "'': v\n")
     × (doubled (sequence flow (leaf (codes "a,b") ∷ [])) ≡ codes "[\"a,b\"]\n") × (singly (sequence flow (leaf (codes "a,b") ∷ [])) ≡ codes "['a,b']\n")

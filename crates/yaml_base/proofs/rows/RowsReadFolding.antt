@@ -1,4 +1,4 @@
--- Texts inside quotes and plain texts, computed: what each reads as.
+-- Texts inside quotes and plain texts, computed: the reading of each.
 use Rattle.yaml_base.proofs.Common.{None, Some, codes, Bool, false, true, [], map, ◌∷◌, refl, Text, unit_of, folding_read, read_plain, read_single}
 use Rattle.yaml_base.proofs.rows.Cases.{Gives, GivesOfTwo}
 

@@ -1,4 +1,4 @@
--- What each reader makes of texts that no right writer writes: no value, or another one than was to be written.
+-- The readings of texts that no right writer writes: no value, or another one than was to be written.
 use Rattle.yaml_base.proofs.Common.{Option, None, Some, codes, false, true, List, [], ◌++◌, ◌∷◌, refl, ◌≡◌, Text, line_separator, TagDirective}
 use Rattle.yaml_base.proofs.Common.{canonical_content, tagged, untagged, Content, scalar_content, sequence_content, mapping_content, no_contents, contents_and}
 use Rattle.yaml_base.{proofs.rows.Cases.Gives, proofs.rows.Cases.reads_none, specs.reading.Content.ScalarTag}
@@ -52,8 +52,8 @@ double_without_reading : reads_none (read_double false)
     ([] ∷ codes "\"a\\" ∷ codes "\"\\'a\"" ∷ codes "\"\\x4\"" ∷ codes "\"a\"\n" ∷ codes "'a'" ∷ []) ≡ true
 double_without_reading = refl
 
--- a fold of two spaces without its backslash, or after the first of them, a break left raw, a space escaped before a
--- fold, a backslash where no second space was, a fold at the first character
+-- a fold of two spaces without its backslash, or after the first of them, a break left raw, a space escaped before a fold, a backslash with no second
+-- space, a fold at the first character
 double_otherwise : Gives (read_double false) (
     (codes "\"aaaaaa\n   b\"", Some (codes "aaaaaa b"))
     ∷ (codes "\"aaaaaa \n  b\"", Some (codes "aaaaaa b"))
@@ -116,7 +116,7 @@ canonical_scalars_otherwise : Gives (canonical_content false) (
 unfolding chars is_utf8 encode_utf8
 canonical_scalars_otherwise = refl
 
--- a mapping's key and value exchanged, an item too many, a directive for a handle that stands for something else
+-- a mapping's key and value exchanged, an item too many, a directive for a handle that means something else
 canonical_trees_otherwise : Gives (canonical_content false) ((
   codes "---\n{\n  ? \"v\"\n  : \"k\",\n}\n",
   alone [] (mapping_content None None (content_pairs_and no_content_pairs (a_scalar (untagged true) (codes "v")) (a_scalar (untagged true) (codes "k")))),

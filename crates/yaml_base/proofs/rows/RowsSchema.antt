@@ -3,7 +3,7 @@ use Rattle.yaml_base.proofs.Common.{codes, negsuc, pos, ℤ, false, true, List, 
 use Rattle.yaml_base.proofs.Common.{meant_timestamp, meant_text, resolved_by_core, resolved_by_11}
 use Rattle.yaml_base.specs.values.Resolved.{meant_null, meant_boolean, meant_infinity, meant_nan, meant_merge, meant_value, meant_by_nobody}
 
--- texts, what each means by the type repository of 1.1, and by the core schema
+-- texts, and the meaning of each by the type repository of 1.1 and by the core schema
 abbrev Row : Type 0
 Row = List Text × Resolved × Resolved
 
@@ -11,11 +11,11 @@ Row = List Text × Resolved × Resolved
 abbrev decimal : ℤ → ℤ → Resolved
 decimal digits exponent = meant_decimal (record { digits = digits; exponent = exponent })
 
--- what both schemas make of a text
+-- the meaning of a text by both schemas
 abbrev by_both : Text → Resolved × Resolved
 by_both text = (resolved_by_11 text, resolved_by_core text)
 
--- both make of each row's texts what the row says
+-- both give each row's texts the row's meaning
 abbrev Resolve : List Row → Type 0
 Resolve rows = map {A = Row} (λ row. map by_both row.0) rows ≡ map {A = Row} (λ row. map (λ text. (row.1, row.2)) row.0) rows
 
@@ -32,7 +32,7 @@ words : Resolve (
     ∷ [])
 words = refl
 
--- infinities, and what is no number
+-- infinities, and no number
 infinities : Resolve (
     (codes ".inf" ∷ codes "+.INF" ∷ codes ".Inf" ∷ [], meant_infinity false, meant_infinity false)
     ∷ (codes "-.inf" ∷ codes "-.INF" ∷ [], meant_infinity true, meant_infinity true)

@@ -1,4 +1,4 @@
--- Scripts computed: each row a script, and what it says.
+-- Scripts computed: each row a script and its meaning.
 use Rattle.yaml_base.proofs.Common.{map, replicate, None, Some, codes, negsuc, pos, false, true, [], ◌++◌, ◌∷◌, refl, ◌≡◌, any_style, folded, any_layout, flow}
 use Rattle.yaml_base.proofs.Common.{stream_start, stream_end, document_start, document_end, alias, scalar, sequence_start, sequence_end, mapping_start}
 use Rattle.yaml_base.proofs.Common.{mapping_end, utf16_little, utf16_big, both_break}
@@ -73,7 +73,7 @@ nothing_parsed : (script_of [] ≡ understood unset []) × (script_of (codes "\n
 unfolding chars is_utf8 encode_utf8
 nothing_parsed = (refl, refl)
 
--- characters stand for themselves in a text: the two bytes of U+00E9, a tab, a CR
+-- characters mean themselves in a text: the two bytes of U+00E9, a tab, a CR
 raw_characters : script_of (codes "=ALI \"" ++ 0xC3 ∷ 0xA9 ∷ 9 ∷ 13 ∷ codes "\"")
     ≡ understood unset (record { line = 1; event = alias (0xE9 ∷ 9 ∷ 13 ∷ []) } ∷ [])
 unfolding chars is_utf8 encode_utf8

@@ -1,8 +1,8 @@
--- What is set, and what it comes to, computed.
+-- Settings that are given, and those that result, computed.
 use Rattle.yaml_base.proofs.Common.{ℕ, Option, None, Some, negsuc, pos, ℤ, false, [], map, ◌∷◌, refl, ◌≡◌, utf8, utf16_little, utf16_big, line_feed_break}
 use Rattle.yaml_base.proofs.{Common.both_break, Common.effective, rows.RowEvents.plain_settings, rows.RowEvents.of_indent}
 
--- what an indent comes to
+-- the indent that results
 abbrev indent_of : ℤ → ℕ
 indent_of indent = (effective (of_indent indent) None).indent
 
@@ -10,7 +10,7 @@ indent_of indent = (effective (of_indent indent) None).indent
 indents : map indent_of (pos 0 ∷ pos 1 ∷ pos 2 ∷ pos 9 ∷ pos 10 ∷ negsuc 0 ∷ negsuc 2147483647 ∷ []) ≡ 2 ∷ 2 ∷ 2 ∷ 9 ∷ 2 ∷ 2 ∷ 2 ∷ []
 indents = refl
 
--- what a width comes to at an indent
+-- the width that results at an indent
 abbrev width_at : ℤ → ℤ → Option ℕ
 width_at indent width = (effective (record (of_indent indent) { width = Some width }) None).width
 
@@ -26,7 +26,7 @@ widths_at_nine = refl
 width_at_ten : map (width_at (pos 10)) (pos 4 ∷ pos 5 ∷ []) ≡ Some 80 ∷ Some 5 ∷ []
 width_at_ten = refl
 
--- where nothing is set
+-- no setting is given
 nothing_set : effective plain_settings None
     ≡ record {
       encoding = utf8;

@@ -38,7 +38,7 @@ streams : Gives (stream_trees false) ((
 unfolding chars is_utf8 encode_utf8
 streams = refl
 
--- a heading, and no documents behind it
+-- a heading, and no documents after it
 headings_alone : Gives (stream_trees false) ((codes "# a\n", Some []) ∷ (codes "#", Some []) ∷ (codes "#\n#a\n\n", Some []) ∷ [])
 unfolding chars is_utf8 encode_utf8
 headings_alone = refl

@@ -25,7 +25,7 @@ all_portable : (reads_alike true false (alone (leaf [] ∷ [])) ≡ true)
     × (reads_alike true false (alone (tagged None (Some (codes "!a,b")) (codes "x") ∷ [])) ≡ true)
 all_portable = (refl, refl)
 
--- what is read agrees with the events that it was written from, and with no others
+-- the documents that were read agree with the events from which they were written, and with no others
 agreement : (agrees false (alone (leaf (codes "a") ∷ [])) (stream_trees false (codes "a\n")) ≡ true)
     × (agrees false (alone (leaf (codes "a") ∷ [])) (stream_trees false (codes "'a'\n")) ≡ true)
     × (agrees false (alone (leaf (codes "a") ∷ [])) (stream_trees false (codes "b\n")) ≡ false)

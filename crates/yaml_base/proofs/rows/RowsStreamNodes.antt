@@ -152,7 +152,7 @@ other_flow_collections : Gives (stream_trees false) (
 unfolding chars is_utf8 encode_utf8
 other_flow_collections = refl
 
--- What looks like an indicator and is none
+-- Texts that look like an indicator and are none
 
 no_indicators : Gives (stream_trees false) (
     (codes "-a: b:c -d #e\n", None)  -- signs inside plain text

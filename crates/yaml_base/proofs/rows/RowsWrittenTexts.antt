@@ -1,4 +1,4 @@
--- Written texts, computed: what may stand raw in them, and values with U+2028 under the line breaks of YAML 1.2.
+-- Written texts, computed: the characters that may be raw in them, and values with U+2028 under the line breaks of YAML 1.2.
 use Rattle.yaml_base.proofs.Common.{codes, false, true, [], map, ◌++◌, ◌∷◌, refl, ◌≡◌, list_all, list_any, Text, plain, single_quoted, double_quoted, literal}
 use Rattle.yaml_base.{proofs.Common.folded, proofs.Common.block, proofs.Common.Settings, specs.WrittenTexts.is_separator, specs.WrittenTexts.is_written_raw}
 use Rattle.yaml_base.proofs.rows.RowEvents.{unicode_settings, untagged, leaf, sequence, mapping, alone, rendered_under}
@@ -7,8 +7,8 @@ use Rattle.yaml_base.proofs.rows.RowEvents.{unicode_settings, untagged, leaf, se
 separators : map is_separator (0xA ∷ 0x85 ∷ 0x2027 ∷ 0x2028 ∷ 0x2029 ∷ 0x202A ∷ []) ≡ false ∷ false ∷ false ∷ true ∷ true ∷ false ∷ []
 separators = refl
 
--- LF, CR, the space, letters and U+2028 may stand raw; NUL, a tab, U+0085, a surrogate and the byte order mark may not, but a tab
--- where blanks are literal
+-- LF, CR, the space, letters and U+2028 may be raw; NUL, a tab, U+0085, a surrogate and the byte order mark may not, but a tab may if blanks are
+-- literal
 raw_characters : (list_all (is_written_raw false) (codes "a b\r\n" ++ 0xE9 ∷ 0x2028 ∷ 0x1F600 ∷ []) ≡ true)
     × (map (is_written_raw false) (0 ∷ 9 ∷ 0x85 ∷ 0xD800 ∷ 0xFEFF ∷ 0x110000 ∷ []) ≡ false ∷ false ∷ false ∷ false ∷ false ∷ false ∷ [])
     × (map (is_written_raw true) (0 ∷ 9 ∷ 0x85 ∷ 13 ∷ []) ≡ false ∷ true ∷ false ∷ true ∷ [])

@@ -1,4 +1,4 @@
--- Each document of an accepted list stands: its names and tags by what is accepted, its scalars by their bodies.
+-- Each document of an accepted list is readable: its names and tags by acceptance, its scalars by their bodies.
 use Rattle.yaml_base.proofs.Common.{nat_tests, ◌≤◌, Option, Some, true, List, [], ◌∷◌, refl, ◌≡◌, leb-true, subst, arith, list_all, Rendered, Event, Documents}
 use Rattle.yaml_base.proofs.Common.{no_documents, documents_and, root_place, has_no_documents, render_documents, first_standing, text_of, has_scalar_values}
 use Rattle.yaml_base.proofs.Common.{MeaningIsKept, has_scalar_texts, text_written, bytes_written, list_layout, IsAccepted, Encoding, Settings, Effective}
@@ -59,14 +59,14 @@ LayoutsAreRead =
     → characters_read (bytes_written (effective given encoding) (list_layout (effective given encoding) events))
     ≡ Some (text_written (effective given encoding) (list_layout (effective given encoding) events))
 
--- every stream that is read alike stands
+-- every stream that is read alike is readable
 abbrev pub StreamsStand : Type 0
 StreamsStand =
     (given : Settings) (encoding : Option Encoding) (events : List Event) (accepted : IsAccepted given.canonical events)
     → list_all has_scalar_texts events ≡ true → reads_alike given.portable given.canonical events ≡ true
     → StreamStands (effective given encoding) events accepted.stream
 
--- it does where bodies are tidy and keep their meaning, and texts are of such characters and read from their bytes
+-- it is if bodies are tidy and keep their meaning, and texts are of such characters and read from their bytes
 pub streams_stand : BodiesAreTidy → MeaningIsKept → TextsAreValues → LayoutsAreShown → LayoutsAreRead → StreamsStand
 streams_stand tidy kept values shown characters given encoding events accepted texts portable =
     grind (arith, nat_tests, documents_stand, indent_deep, leb-true, accepted_names_stand, tree_of-stream_events, roots_stand)

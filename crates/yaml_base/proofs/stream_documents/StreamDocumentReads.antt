@@ -14,8 +14,8 @@ use Rattle.yaml_base.specs.streams.StreamDocuments.{StreamPlace, after_root, doc
 abbrev pub dots : Text
 dots = codes "..." ++ (line_feed ∷ [])
 
--- before the first document and after one whose end is written directives may stand, which the next `---` has; after another
--- document its root is read
+-- before the first document, and after one whose end is written, there may be directives, which belong to the next `---`; after another document its
+-- root is read
 abbrev pub Awaits : (breaks12 : Bool) → ℕ → Text → List DocumentTree → (ended : Bool) → Type 0
 Awaits breaks12 depth text documents true =
     (lines : Text) (parsed : Prologue) → is_closed breaks12 lines ≡ true → Percents (lines_of breaks12 lines)
@@ -27,7 +27,7 @@ Awaits breaks12 depth text documents false = WalkProgress breaks12 depth text (r
 pub awaits_first : (breaks12 : Bool) (depth : ℕ) → Awaits breaks12 depth [] [] true
 awaits_first breaks12 depth = grind (arith, prefix_alone, percents_markerless, prefix_prologue)
 
--- and behind `...`
+-- and after `...`
 pub awaits_ended : (breaks12 : Bool) (depth : ℕ) (text : Text) (documents : List DocumentTree)
     → WalkProgress breaks12 depth text (record { documents = documents; place = after_root })
     → Awaits breaks12 depth (text ++ dots) documents true
@@ -46,11 +46,11 @@ pub record BehindPrologue (breaks12 : Bool) (depth : ℕ) (text : Text) (documen
   pub opens : (section : Section)
       → section_by_kind start_marker depth breaks12 documents place section ≡ document_read depth breaks12 documents prologue section
 
--- what a document's start says
+-- the version and the directives of a document's start
 abbrev pub prologue_parsed : DocumentStart → Prologue
 prologue_parsed start = record { version = start.version; directives = start.directives }
 
--- `...` where it is needed
+-- `...` if it is needed
 abbrev pub dots_if : Bool → Text
 dots_if true = dots
 dots_if false = []
@@ -82,7 +82,7 @@ no_prologue_written s start h = grind (arith, no_directives)
 pub nothing_parsed : (start : DocumentStart) → has_directives start ≡ false → no_prologue ≡ prologue_parsed start
 nothing_parsed start h = grind (arith, no_directives)
 
--- the directives of a document, behind `...` where the document before them is open
+-- the directives of a document, after `...` if the document before them is open
 pub behind_prologue : (s : Effective) (depth : ℕ) (text : Text) (documents : List DocumentTree) (start : DocumentStart) (ended : Bool)
     → Awaits s.breaks12 depth text documents ended → PrologueStands s start
     → BehindPrologue s.breaks12 depth (text ++ (dots_if (has_directives start && not ended) ++ prologue_text s start)) documents (prologue_parsed start)

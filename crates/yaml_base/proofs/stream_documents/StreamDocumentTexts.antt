@@ -16,7 +16,7 @@ abbrev pub marker_text : (explicit canonical : Bool) → Text
 marker_text true canonical = if not canonical then codes "---" else codes "---" ++ (line_feed ∷ [])
 marker_text false canonical = []
 
--- what is rendered before a root, where the document before it is ended or open
+-- the text before a root, if the document before it is ended or open
 abbrev pub before_root : Effective → (ended : Bool) → DocumentStart → Text
 before_root s ended start = dots_if (has_directives start && not ended) ++ prologue_text s start
 
@@ -64,22 +64,22 @@ document_text s first ended document =
     before_root s ended document.start
     ++ (root_part (is_explicit (s.canonical || s.portable) first document.start) s document ++ dots_if (not document.end_implicit))
 
--- a root behind its marker
+-- a root after its marker
 marked_root : (explicit : Bool) (s : Effective) (document : Document)
     → marker_text explicit s.canonical ++ closed (render_root (explicit && not s.canonical) s document) ≡ root_part explicit s document
 marked_root explicit s document = grind (arith, nat_tests)
 
--- regrouped: what stands before a marker, the marker, a root and its end
+-- regrouped: the text before a marker, the marker, a root and its end
 regrouped : (a m r c e : Text) → ((((a ++ m) ++ []) ++ []) ++ r) ++ (c ++ e) ≡ a ++ ((m ++ (r ++ c)) ++ e)
 regrouped a m r c e = grind (arith, append-nil, append_assoc)
 
--- what is rendered for a document is this text, after which a line begins and the document is ended or open
+-- the rendered text of a document is this one, after which a line begins and the document is ended or open
 pub record RenderedDocument (s : Effective) (first : Bool) (document : Document) (standing : Standing) : Type 0 where
   pub text : text_of (render_document s first document standing).pieces ≡ document_text s first (standing.open_ended == 0) document
   pub cursor : (render_document s first document standing).standing.cursor ≡ margin_cursor 0
   pub ended : ((render_document s first document standing).standing.open_ended == 0) ≡ not document.end_implicit
 
--- where its root leaves off settled
+-- if its root ends settled
 pub document_joined : (s : Effective) (first : Bool) (document : Document) (standing : Standing) → standing.cursor ≡ margin_cursor 0
     → Settled (render_root (is_explicit (s.canonical || s.portable) first document.start && not s.canonical) s document).cursor
     → RenderedDocument s first document standing

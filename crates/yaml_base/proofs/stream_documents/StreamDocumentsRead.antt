@@ -1,4 +1,4 @@
--- The documents of a stream, one after another: each that stands is one document more, and the stream may end after them.
+-- The documents of a stream, one after another: each readable one is one document more, and the stream may end after them.
 use Rattle.yaml_base.proofs.Common.{arith, not-false, ℕ, ◌≤◌, Bool, false, not, true, ◌&&◌, ◌||◌, List, [], ◌++◌, refl, ◌≡◌, append-nil, append_assoc, ap}
 use Rattle.yaml_base.proofs.Common.{subst, sym, ◌∙◌, or_parts, Text, DocumentStart, Node, Document, has_directives, is_explicit, Effective}
 use Rattle.yaml_base.proofs.Common.{is_written_as_nothing, DocumentTree, nat_tests}
@@ -15,7 +15,7 @@ use Rattle.yaml_base.proofs.stream_documents.StreamRootsStand.{render_root, Root
 something_canonical : (canonical : Bool) (n : Node) → canonical ≡ true → is_written_as_nothing canonical n ≡ false
 something_canonical canonical n h = grind (arith, nat_tests)
 
--- the end of a document, behind its root
+-- the end of a document, after its root
 ended_more : (breaks12 : Bool) (depth : ℕ) (text : Text) (documents : List DocumentTree) (implicit : Bool)
     → WalkProgress breaks12 depth text (record { documents = documents; place = after_root })
     → Awaits breaks12 depth (text ++ dots_if (not implicit)) documents (not implicit)
@@ -62,7 +62,7 @@ pub later_more : (s : Effective) (depth : ℕ) (text : Text) (documents : List D
     → Awaits s.breaks12 depth (text ++ document_text s false ended document) (with_document s documents document) (not document.end_implicit)
 later_more s depth text documents document ended deep stands small awaits = grind (arith, explicit_more)
 
--- the first, where it isn't lost
+-- the first, if it isn't lost
 pub first_more : (s : Effective) (depth : ℕ) (document : Document) → 2 ≤ s.indent → DocumentStands s true document → size document.root ≤ depth
     → (is_explicit (s.canonical || s.portable) true document.start ≡ false → is_written_as_nothing s.canonical document.root ≡ false)
     → Awaits s.breaks12 depth [] [] true

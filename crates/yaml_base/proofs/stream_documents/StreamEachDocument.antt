@@ -1,4 +1,4 @@
--- What holds of each document of a stream, in order.
+-- Facts about each document of a stream, in order.
 use Rattle.yaml_base.proofs.Common.{Bool, true, List, [], ◌++◌, ◌∷◌, ◌≡◌, sym, ◌∙◌, and_parts, list_all-append, list_all, Event, Document, Documents}
 use Rattle.yaml_base.proofs.Common.{no_documents, documents_and, document_events, documents_events, documents_in_order}
 
@@ -17,7 +17,7 @@ pub all_of_both : (test : Event → Bool) (some others : List Event) → list_al
     → (list_all test some ≡ true) × (list_all test others ≡ true)
 all_of_both test some others h = and_parts (list_all test some) (list_all test others) (sym (list_all-append test some others) ∙ h)
 
--- what a test on a document's events tells of it, a test on those of all documents tells of each
+-- if a test on a document's events implies a fact about it, the test on those of all documents implies the fact for each
 pub each_document : (P : Document → Type 0) (test : Event → Bool) → ((document : Document) → list_all test (document_events document) ≡ true → P document)
     → (documents : Documents) → list_all test (documents_events documents) ≡ true → AllDocuments P (documents_in_order documents)
 each_document P test tells no_documents h = tt
@@ -25,7 +25,7 @@ each_document P test tells (documents_and before document) h =
     let parts = all_of_both test (documents_events before) (document_events document) h in
     documents_both P (documents_in_order before) (document ∷ []) (each_document P test tells before parts.0) (tells document parts.1, tt)
 
--- what follows of each from another thing that holds of each
+-- a fact about each that follows from another one
 pub documents_given : (P Q : Document → Type 0) (documents : List Document) → AllDocuments (λ document. P document → Q document) documents
     → AllDocuments P documents → AllDocuments Q documents
 documents_given P Q [] then h = tt

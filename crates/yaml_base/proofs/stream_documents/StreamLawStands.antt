@@ -1,4 +1,4 @@
--- The law of whole streams, where each document stands and the layout's text is printable and read from its bytes.
+-- The law of whole streams, if each document is readable and the layout's text is printable and read from its bytes.
 use Rattle.yaml_base.proofs.Common.{◌≤◌, is_some, unwrap_or, option_map, Option, Some, ℤ, Bool, false, not, true, List, [], ◌++◌, ◌∷◌, refl, ◌≡◌, leb-true}
 use Rattle.yaml_base.proofs.Common.{true≢false, ap, sym, ◌∙◌, arith, and_parts, and_from, false≢true, list_all, list_any, Scalar, Event, stream_start}
 use Rattle.yaml_base.proofs.Common.{stream_end, document_start, document_end, scalar, sequence_start, sequence_end, mapping_start, mapping_end, scalar_tag}
@@ -65,7 +65,7 @@ sound_documents canonical stream h =
     (all_of_both (is_sound canonical) (documents_events stream.documents) (stream_end ∷ [])
     (after_first (is_sound canonical) (stream_start stream.encoding) (documents_events stream.documents ++ (stream_end ∷ [])) h)).0
 
--- what holds of each of two lists' documents
+-- facts about each of two lists' documents
 pub documents_parts : (P : Document → Type 0) (some others : List Document) → AllDocuments P (some ++ others) → AllDocuments P some × AllDocuments P others
 documents_parts P [] others h = (tt, h)
 documents_parts P (document ∷ rest) others h = let parts = documents_parts P rest others h.1 in ((h.0, parts.0), parts.1)
@@ -98,13 +98,13 @@ trees_agree s (documents_and before document) tagged =
 pub indent_deep : (indent : Option ℤ) → 2 ≤ effective_indent indent
 indent_deep indent = grind (arith, nat_tests, leb-true)
 
--- no document is lost where all is read alike
+-- no document is lost if all is read alike
 first_written : (s : Effective) (documents : List Document) → (s.portable ≡ false → loses_document s.canonical documents ≡ false) → FirstWritten s documents
 first_written s documents kept = grind (arith, nat_tests, false≢true)
 
 -- The law
 
--- what is asked beside the events: that each document of the stream stands, that the layout's text is of printable characters and tabs, and that its
+-- the conditions besides the events: each document of the stream is readable, the layout's text consists of printable characters and tabs, and its
 -- characters are read from its bytes
 pub record StreamStands (s : Effective) (events : List Event) (stream : Stream) : Type 0 where
   pub documents : DocumentsStand s stream.documents
@@ -115,7 +115,7 @@ pub record StreamStands (s : Effective) (events : List Event) (stream : Stream) 
 pub stream_layout : (s : Effective) (events : List Event) (stream : Stream) → stream_events stream ≡ events → list_layout s events ≡ layout s stream
 stream_layout s events stream is = ap (list_layout s) (sym is) ∙ ap (λ found. unwrap_or (option_map (layout s) found) []) (tree_of-stream_events stream)
 
--- a stream that stands is read as its documents' trees
+-- a readable stream is read as its documents' trees
 pub stream_read_back : (given : Settings) (encoding : Option Encoding) (events : List Event) (accepted : IsAccepted given.canonical events)
     → reads_alike given.portable given.canonical events ≡ true → StreamStands (effective given encoding) events accepted.stream
     → stream_trees given.breaks12 (bytes_written (effective given encoding) (list_layout (effective given encoding) events))

@@ -71,7 +71,7 @@ fed_markerless breaks12 own ends h =
     (lines_after_first (lines_of breaks12 (own.text ++ (if x then [] else line_feed ∷ []))))) ends
     ∙ lines_pass breaks12 (begins_markerless breaks12) (λ t. is_markerless (marker_of t)) (first_markerless breaks12) own.text h
 
--- a collection in flow at the root, where its entries are deep
+-- a collection in flow at the root, if its entries are deep
 collection_markerless : (s : Effective) (own directives : List TagDirective) (brackets : Brackets) (anchor tag : Option Text) (empty : Bool) (cursor : Cursor)
     (entries : Rendered) → list_any is_break brackets.opening ≡ false → list_any is_break brackets.closing ≡ false → begins_closing brackets.closing ≡ true
     → IsNamed anchor → TagStands s.portable own directives tag → Deep s.breaks12 1 entries.text
@@ -131,7 +131,7 @@ scalar_markerless s own directives cursor content names stands =
 
 -- Nodes
 
--- no line of a leaf at the root after its first is a marker, where its names and bodies stand
+-- no line of a leaf at the root after its first is a marker, if its names and bodies are readable
 pub leaf_markerless : (n : Node) (s : Effective) (own directives : List TagDirective) (cursor : Cursor) → 1 ≤ s.indent → is_leaf s n ≡ true
     → NamesStand s.portable own s.canonical directives n → BodiesHold (BodyStands s) n s directives root_place cursor
     → AfterMarkerless s.breaks12 (node_own n s directives root_place cursor)

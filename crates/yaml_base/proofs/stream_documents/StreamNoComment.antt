@@ -74,7 +74,7 @@ stays : (breaks12 : Bool) (rest : Text) → trimmed breaks12 (0x23 ∷ rest) ≡
 stays true rest = refl
 stays false rest = refl
 
--- no node stands on lines of which the first begins so
+-- no node is on lines of which the first begins so
 no_node : (depth : ℕ) (rules : Rules) (text ending : Text) (rest : List Line)
     → node_read (suc depth) rules true None (record { text = 0x23 ∷ text; ending = ending } ∷ rest) ≡ None
 no_node depth rules text ending rest =

@@ -17,7 +17,7 @@ abbrev pub WholeLines : Bool → List Line → Type 0
 WholeLines breaks12 [] = Unit {0}
 WholeLines breaks12 (line ∷ rest) = OneLine breaks12 line.text × (line.ending ≡ line_feed ∷ []) × WholeLines breaks12 rest
 
--- they are the first lines of what follows them
+-- they are the first lines of the text with more after them
 whole_lines : (breaks12 : Bool) (lines : List Line) (rest : Text) → WholeLines breaks12 lines
     → lines_of breaks12 (text_of_lines lines ++ rest) ≡ lines ++ lines_of breaks12 rest
 whole_lines breaks12 [] rest h = refl
@@ -62,7 +62,7 @@ prologue_whole : (breaks12 portable : Bool) (start : DocumentStart) → directiv
 prologue_whole breaks12 portable start sound =
     whole_both breaks12 _ _ (version_whole breaks12 start.version) (tags_whole breaks12 portable [] _ sound)
 
--- they are the first lines of what follows
+-- they are the first lines of the text with more after them
 prologue_first : (breaks12 portable : Bool) (start : DocumentStart) (rest : Text) → directives_fault start.directives ≡ None
     → lines_of breaks12 (text_of_lines (prologue_lines portable start) ++ rest) ≡ prologue_lines portable start ++ lines_of breaks12 rest
 prologue_first breaks12 portable start rest sound =

@@ -45,7 +45,7 @@ handle_reads handle (inr form) = ap is_handle_text form.1 ∙ by form.0 (closes_
 
 -- Prefixes
 
--- what may stand in a prefix isn't white
+-- a character that a prefix may hold isn't white
 prefix_shows : (c : ℕ) → stands_in_prefix c ≡ true → (is_blank c || is_break c) ≡ false
 prefix_shows c h = grind (arith, nat_tests)
 
@@ -64,7 +64,7 @@ parsed_if (c ∷ rest) h = ap (λ x. if x then percent_read (c ∷ rest) else No
 uri_prefix : (c : ℕ) (text : Text) → list_all is_uri_character (c ∷ text) ≡ true → may_be_prefix (c ∷ text) ≡ true
 uri_prefix c text h = grind (arith, and_parts, and_from)
 
--- what stands as itself at the start of a prefix may stand there
+-- a character that is itself at the start of a prefix may be there
 kept_first : (portable : Bool) (c : ℕ) → ((portable && c == exclamation_mark) || is_tag_character c) ≡ true
     → (c == exclamation_mark || is_uri_character c) ≡ true
 kept_first portable c h = grind (arith, uri_character, false≢true)

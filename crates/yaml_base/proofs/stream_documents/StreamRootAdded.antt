@@ -1,4 +1,4 @@
--- A root behind `---`, or one without it at a stream's start, is one document more of the stream.
+-- A root after `---`, or one without it at a stream's start, is one document more of the stream.
 use Rattle.yaml_base.proofs.Common.{arith, ℕ, ◌≤◌, if◌then◌else◌, Option, None, Some, codes, Bool, false, not, true, ◌||◌, List, [], ◌++◌, ◌∷◌, refl, ◌≡◌, ap}
 use Rattle.yaml_base.proofs.Common.{sym, ◌∙◌, and_from, false≢true, list_all, Text, line_feed, Document, has_directives, root_place, Effective, Tree}
 use Rattle.yaml_base.proofs.Common.{DocumentTree, begins_with_marker, start_marker, end_marker, no_exclamation, marker_of, Prologue, stands_at_margin}
@@ -17,7 +17,7 @@ use Rattle.yaml_base.proofs.stream_lines.StreamLineLaws.{unbroken_line}
 
 -- The first line
 
--- a shown first line stands at the margin
+-- a shown first line is at the margin
 shown_margin : (lines : List Line) → begins_shown lines ≡ true → stands_at_margin lines ≡ true
 shown_margin [] h = refl
 shown_margin (line ∷ rest) h = h
@@ -26,19 +26,19 @@ shown_margin (line ∷ rest) h = h
 shown_whole : (lines : List Line) → begins_shown lines ≡ true → without_blank_lines lines ≡ lines
 shown_whole lines h = grind (arith, nat_tests, false≢true)
 
--- no line of what reads as a node is a marker, where none after its first is
+-- no line of a text that reads as a node is a marker, if none after its first is
 markerless_whole : (lines : List Line) (depth : ℕ) (rules : Rules) (here : Bool) (column : Option ℕ) (tree : Tree)
     → node_read depth rules here column lines ≡ Some tree
     → AllMarkerless (lines_after_first lines) → AllMarkerless lines
 markerless_whole lines depth rules here column tree reads after = grind (arith, nat_tests, and_from, read_markerless)
 
--- Documents behind `---`
+-- Documents after `---`
 
 -- one document more
 abbrev pub with_document : Effective → List DocumentTree → Document → List DocumentTree
 with_document s documents document = documents ++ document_tree s document ∷ []
 
--- the root of a document behind `---`, on its line or below it
+-- the root of a document after `---`, on its line or below it
 abbrev pub text_with_marker : (on_marker : Bool) → Effective → Document → Text
 text_with_marker on_marker s document = (if on_marker then codes "---" else codes "---" ++ (line_feed ∷ [])) ++ closed (render_root on_marker s document)
 
@@ -104,7 +104,7 @@ added_with_marker false = below_marker_added
 
 -- Documents without `---`
 
--- what a first line that reads as a node begins
+-- the beginning of a first line that reads as a node
 prefix_document : (lines : List Line) (depth : ℕ) (rules : Rules) (here : Bool) (column : Option ℕ) (tree : Tree)
     → node_read depth rules here column lines ≡ Some tree
     → begins_shown lines ≡ true → prefix_kind lines ≡ document_lines

@@ -1,4 +1,4 @@
--- What a root that stands begins with, behind a space where one is needed: a character that no reader skips.
+-- The beginning of a readable root, after a space if one is needed: a character that no reader skips.
 use Rattle.yaml_base.proofs.Common.{arith, ℕ, ◌==◌, Option, None, Some, Bool, false, true, ◌&&◌, List, [], ◌++◌, ◌∷◌, refl, ◌≡◌, true≢false, append-nil}
 use Rattle.yaml_base.proofs.Common.{append_assoc, ap, ◌∙◌, and_parts, or_parts, false≢true, Text, space, Cursor, Rendered, space_if, ScalarStyle, any_style}
 use Rattle.yaml_base.proofs.Common.{plain, single_quoted, double_quoted, literal, folded, TagDirective, render_properties, render_alias, render_body}
@@ -13,12 +13,12 @@ use Rattle.yaml_base.proofs.stream_nodes.StreamStands.{tag_written, tag_meant, T
 
 -- Characters
 
--- what is rendered behind a space where one is needed
+-- the rendered text after a space if one is needed
 spaced_begins : (breaks12 : Bool) (cursor : Cursor) (own : Rendered) (head : ℕ) (tail : Text) → own.text ≡ space_if true cursor ++ (head ∷ tail)
     → (head == space) ≡ false → is_read_break breaks12 head ≡ false → Begins breaks12 cursor own
 spaced_begins breaks12 cursor own head tail e shows goes_on = grind (arith, true≢false)
 
--- what stands behind properties or without them
+-- the text after properties or without them
 led_begins : (rules : Rules) (cursor : Cursor) (own : Rendered) (anchor tag : Option Text) (parsed : Option ParsedTag) (c : ℕ) (t : Text)
     → Given rules anchor tag parsed
     → (c == space) ≡ false → is_read_break rules.breaks12 c ≡ false → own.text ≡ space_if true cursor ++ (lead anchor tag ++ (c ∷ t))
@@ -71,7 +71,7 @@ pub record HeadShows (breaks12 : Bool) (text : Text) : Type 0 where
   pub shows : (head == space) ≡ false
   pub goes_on : is_read_break breaks12 head ≡ false
 
--- what isn't white
+-- a character that isn't white
 shown_head : (breaks12 : Bool) (c : ℕ) (t : Text) → is_read_white breaks12 c ≡ false → HeadShows breaks12 (c ∷ t)
 shown_head breaks12 c t h = grind (arith, or_parts)
 
@@ -94,7 +94,7 @@ body_head s any_style limit indent column value cursor some tidy read = absurd (
 body_head s literal limit indent column value cursor some tidy read = shown_head s.breaks12 0x7C _ (break_line s.breaks12 0x7C refl)
 body_head s folded limit indent column value cursor some tidy read = shown_head s.breaks12 0x3E _ (break_line s.breaks12 0x3E refl)
 
--- what has the same text begins alike
+-- equal texts begin alike
 begins_alike : (breaks12 : Bool) (cursor : Cursor) (own other : Rendered) → other.text ≡ own.text → Begins breaks12 cursor own → Begins breaks12 cursor other
 begins_alike breaks12 cursor own other e b = grind (arith)
 
@@ -123,7 +123,7 @@ styled_begins s own directives anchor tag bare style limit indent value cursor n
     ∙ ap (λ t. t ++ text) (lead_rendered _ _ _ tag bare _)
     ∙ append_assoc (space_if true cursor) before text ∙ ap (λ t. space_if true cursor ++ (before ++ t)) h.is)
 
--- plain is chosen only where it is asked for and fits
+-- plain is chosen only if it is asked for and fits
 pub plain_asked : (allowed : Allowances) (plain_fits block_fits : Bool) (asked : ScalarStyle)
     → is_plain (fitting_style allowed plain_fits block_fits asked) ≡ true
     → (is_plain asked ≡ true) × (plain_fits ≡ true)

@@ -1,4 +1,4 @@
--- A document's root that is a leaf stands, where its names, its bodies and the keys in it do.
+-- A document's root that is a leaf is readable, if its names, its bodies and the keys in it are.
 use Rattle.yaml_base.proofs.Common.{◌≤◌, is_some, Option, None, Bool, false, not, true, ◌&&◌, List, [], refl, ◌≡◌, true≢false, ap, sym, ◌∙◌, arith, and_parts}
 use Rattle.yaml_base.proofs.Common.{and_from, Text, Cursor, TagDirective, Scalar, scalar_tag, collection_tag, Node, alias_node, scalar_node, sequence_node}
 use Rattle.yaml_base.proofs.Common.{mapping_node, Document, root_place, render_properties, choice_of, as_root, deeper, Effective, is_written_as_nothing}
@@ -63,7 +63,7 @@ leaf_begins (mapping_node start pairs) s own directives cursor keys leaf names b
     (mapping_reads s own directives keys root_place cursor start pairs leaf names bodies)
     (record { named = names.0; tagged = tag_is_written s.portable own directives tag false names.1 })
 
--- a document's root that is a leaf stands
+-- a document's root that is a leaf is readable
 pub leaf_stands : (s : Effective) (document : Document) (on_marker : Bool)
     → (let own = document.start.directives in let directives = directives_in_force own in
     1 ≤ s.indent → KeysFit s own directives → NamesStand s.portable own s.canonical directives document.root
@@ -88,7 +88,7 @@ properties_stand (mapping_node start pairs) s own directives on_marker names = �
     properties_begin s own directives start.anchor (collection_tag s.canonical start) (root_cursor on_marker) names.1
     (λ no_anchor no_tag. some (rendered_as_nothing s directives start.anchor (collection_tag s.canonical start) (root_cursor on_marker) no_anchor no_tag))
 
--- so a root stands where it begins, where all in it fits
+-- so a root is readable at its place, if all in it fits
 pub root_stands : (s : Effective) (document : Document) (on_marker : Bool)
     → (let own = document.start.directives in let directives = directives_in_force own in
     2 ≤ s.indent → ScalarsFit s own directives → SimpleKeysFit s own directives → KeysFit s own directives

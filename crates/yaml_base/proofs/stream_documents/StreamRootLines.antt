@@ -1,4 +1,4 @@
--- The lines of a root: no line after its first is a marker, and its first stands where a root may begin.
+-- The lines of a root: no line after its first is a marker, and its first may begin a root.
 use Rattle.yaml_base.proofs.Common.{arith, suc, zero, ℕ, ◌==◌, Option, Bool, false, not, true, ◌||◌, List, [], ◌++◌, ◌∷◌, refl, ◌≡◌, true≢false, append_assoc}
 use Rattle.yaml_base.proofs.Common.{ap, subst, sym, ◌∙◌, and_parts, list_all, list_any, Text, line_feed, space, Rendered, is_read_break, is_empty, marker_of}
 use Rattle.yaml_base.proofs.Common.{stands_at_margin, Line, prepend_to_first_line, prepend_character, lines_of, is_spaces, without_blank_lines, ends_indicator}
@@ -14,23 +14,23 @@ abbrev pub begins_shown : List Line → Bool
 begins_shown [] = false
 begins_shown (line ∷ rest) = not (ends_indicator line.text)
 
--- behind a marker the first line isn't blank, or what follows stands at the margin
+-- after a marker the first line isn't blank, or the text below it is at the margin
 abbrev pub stands_below : List Line → Bool
 stands_below [] = true
 stands_below (line ∷ rest) = not (is_spaces line.text) || stands_at_margin (without_blank_lines rest)
 
--- a root may begin so, behind a marker or on lines of its own
+-- a root may begin so, after a marker or on lines of its own
 abbrev pub FirstStands : (on_marker : Bool) → List Line → Type 0
 FirstStands true lines = stands_below lines ≡ true
 FirstStands false lines = begins_shown lines ≡ true
 
--- lines of which none after the first is a marker, where a root may begin with the first
+-- lines of which none after the first is a marker, and of which the first may begin a root
 abbrev pub Stood : (on_marker : Bool) → List Line → Type 0
 Stood on_marker lines = AllMarkerless (lines_after_first lines) × FirstStands on_marker lines
 
 -- First lines
 
--- the line that a character begins behind spaces, where it is no break
+-- the line that a character begins after spaces, if it is no break
 pub record FirstLine (breaks12 : Bool) (k head : ℕ) (t : Text) : Type 0 where
   pub tail : Text
   pub ending : Text
@@ -62,14 +62,14 @@ first_line breaks12 k head t goes_on = by (lines_of breaks12 t) refl
 shown_at : (k head : ℕ) (t : Text) → k ≡ 0 → (head == space) ≡ false → ends_indicator (spaces k ++ (head ∷ t)) ≡ false
 shown_at k head t e h = ap (λ n. ends_indicator (spaces n ++ (head ∷ t))) e ∙ h
 
--- where a root may begin, by its first line
+-- the first line, if a root may begin there
 first_stands : (on_marker : Bool) (k head : ℕ) (t ending : Text) (rest : List Line) → ((root_cursor on_marker).whitespace ≡ true → k ≡ 0)
     → (head == space) ≡ false
     → FirstStands on_marker (record { text = spaces k ++ (head ∷ t); ending = ending } ∷ rest)
 first_stands true k head t ending rest margin shows = ap (λ x. not x || stands_at_margin (without_blank_lines rest)) (not_blank k head t shows)
 first_stands false k head t ending rest margin shows = ap not (shown_at k head t (margin refl) shows)
 
--- what begins so, up to its last line's end, may begin a root
+-- a text that begins so, up to its last line's end, may begin a root
 pub begins_stands : (breaks12 on_marker : Bool) (own : Rendered) → Begins breaks12 (root_cursor on_marker) own
     → FirstStands on_marker (lines_of breaks12 (closed own))
 begins_stands breaks12 on_marker own b =
@@ -84,7 +84,7 @@ later_markerless : (lines : List Line) → AllMarkerless lines → AllMarkerless
 later_markerless [] h = refl
 later_markerless (line ∷ rest) h = (and_parts (is_markerless (marker_of line.text)) (list_all (λ line. is_markerless (marker_of line.text)) rest) h).1
 
--- lines that begin a node at column 0 stand at the margin
+-- lines that begin a node at column 0 are at the margin
 opened_margin : (rules : Rules) (lines : List Line) (kind : NodeKind) → Opened rules 0 lines kind → begins_shown lines ≡ true
 opened_margin rules lines kind o = ap begins_shown o.is ∙ ap not o.shows
 
@@ -92,7 +92,7 @@ opened_margin rules lines kind o = ap begins_shown o.is ∙ ap not o.shows
 opened_below : (rules : Rules) (lines : List Line) (kind : NodeKind) → Opened rules 0 lines kind → stands_at_margin (without_blank_lines lines) ≡ true
 opened_below rules lines kind o = ap stands_at_margin ((opened_shows rules 0 lines kind o).1 ∙ o.is) ∙ ap not o.shows
 
--- entries at column 0, behind properties or without them
+-- entries at column 0, after properties or without them
 pub block_stands : (rules : Rules) (on_marker : Bool) (anchor tag : Option Text) (begun entries : Rendered) (text : Text) (kind : NodeKind)
     → BegunKind rules anchor tag (root_cursor on_marker) begun → Lays 0 begun.cursor entries text → Opened rules 0 (lines_of rules.breaks12 text) kind
     → AllMarkerless (lines_of rules.breaks12 text) → ((begun.text ≡ [] → ⊥) → Begins rules.breaks12 (root_cursor on_marker) begun)

@@ -1,4 +1,4 @@
--- A root that stands, as a document's directives are given, fits where it begins, and its lines are those of a root.
+-- A readable root, with a document's directives as given, fits at its place, and its lines are those of a root.
 use Rattle.yaml_base.proofs.Common.{suc, ℕ, ◌≤◌, if◌then◌else◌, option_map, Option, None, Some, Bool, false, not, true, ◌||◌, List, [], ◌∷◌, refl, ◌≡◌}
 use Rattle.yaml_base.proofs.Common.{true≢false, ap, subst, sym, ◌∙◌, arith, or_parts, false≢true, Text, Rendered, TagDirective, Collection, collection_tag}
 use Rattle.yaml_base.proofs.Common.{Node, alias_node, scalar_node, sequence_node, mapping_node, Document, root_place, asks_flow, is_written_in_flow}
@@ -19,7 +19,7 @@ use Rattle.yaml_base.proofs.stream_nodes.StreamTexts.{node_own, items_own, pairs
 
 -- Collections in blocks
 
--- what isn't written in flow isn't empty
+-- a collection that isn't written in flow isn't empty
 not_empty : (s : Effective) (start : Collection) (empty : Bool) → is_written_in_flow s root_place start empty ≡ false → empty ≡ false
 not_empty s start empty h = (or_parts (false || s.canonical || asks_flow start.style) empty h).1
 
@@ -58,13 +58,13 @@ abbrev is_scalar : Tree → Bool
 is_scalar (scalar_tree anchor tagging value) = true
 is_scalar _ = false
 
--- what isn't a scalar's tree isn't read as one
+-- a tree that isn't a scalar's isn't read as one
 no_scalar : {A : Type 0} (make : A → Tree) → ((a : A) → is_scalar (make a) ≡ false) → (o : Option A) (anchor : Option Text) (tagging : Tagging) (value : Text)
     → option_map make o ≡ Some (scalar_tree anchor tagging value) → ⊥
 no_scalar make none None anchor tagging value h = none_not_some h
 no_scalar make none (Some a) anchor tagging value h = grind (arith, false≢true)
 
--- where no text may begin a scalar is read of nothing
+-- if no text may begin, a scalar is read of nothing
 nothing_left : (rules : Rules) (reads : LinesReader) (reads_text : ReadsText) (lines : List Line) (anchor : Option Text) (tagging : Tagging) (value : Text)
     → node_at rules reads reads_text no_properties true false lines ≡ Some (scalar_tree anchor tagging value) → lines ≡ []
 nothing_left rules reads reads_text [] anchor tagging value h = refl
@@ -76,7 +76,7 @@ nothing_left rules reads reads_text (line ∷ rest) anchor tagging value h = abs
     by begins_mapping h = no_scalar (mapping_tree None None) (λ a. refl) _ anchor tagging value h
     by begins_text h = none_not_some h
 
--- a scalar behind a marker: its first line isn't blank, or nothing follows
+-- a scalar after a marker: its first line isn't blank, or nothing follows
 scalar_stands : (rules : Rules) (n : ℕ) (own : Rendered) (anchor : Option Text) (tagging : Tagging) (value : Text)
     → Fits rules n own (scalar_tree anchor tagging value) root_place marker_cursor
     → FirstStands true (lines_of rules.breaks12 (closed own))
@@ -118,7 +118,7 @@ nothing_stands (mapping_node start pairs) given s directives h leaves = absurd (
 abbrev pub root_tree : Effective → Document → Tree
 root_tree s document = node_tree document.root s (directives_in_force document.start.directives) root_place
 
--- its cursor is one where a root begins
+-- its cursor is one at which a root begins
 pub root_settled : (on_marker : Bool) → Stands None (root_cursor on_marker)
 root_settled true = λ h. absurd (false≢true h)
 root_settled false = λ h. (refl, refl)
@@ -130,7 +130,7 @@ root_fits s document on_marker deep root =
     node_fits (rules_of s document) s (directives_in_force document.start.directives) deep document.root root_place (root_cursor on_marker)
     (root_settled on_marker) root.leaves
 
--- its lines are those of a root, where it isn't nothing on a line of its own
+-- its lines are those of a root, unless it is nothing on a line of its own
 pub root_stood : (s : Effective) (document : Document) (on_marker : Bool) → 2 ≤ s.indent → RootStands s document on_marker
     → (on_marker ≡ false → is_written_as_nothing s.canonical document.root ≡ false)
     → Stood on_marker (lines_of s.breaks12 (closed (render_root on_marker s document)))

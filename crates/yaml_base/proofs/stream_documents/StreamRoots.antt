@@ -7,7 +7,7 @@ use Rattle.yaml_base.proofs.Common.{begins_mapping, begins_text, kind_of_node, R
 use Rattle.yaml_base.proofs.stream_nodes.StreamFits.{Opens, Fits, blanked_lines}
 use Rattle.yaml_base.specs.streams.StreamDocuments.{root_after_marker, root_with_marker}
 
--- the cursor behind `---`
+-- the cursor after `---`
 abbrev pub marker_cursor : Cursor
 marker_cursor = record { column = 3; whitespace = false; indention = false }
 
@@ -19,13 +19,13 @@ root_reads rules n own tree fit margin depth deep =
     ap (λ x. if x then node_read depth rules true None (lines_of rules.breaks12 (closed own)) else None) margin
     ∙ fit.reads depth deep true 0 (λ h. (refl, refl))
 
--- what isn't blank stays so
+-- a line that isn't blank stays so
 shown_once : (lines : List Line) → (first_line_is_blank (without_blank_lines lines) ≡ false)
     × (without_blank_lines (without_blank_lines lines) ≡ without_blank_lines lines)
 shown_once [] = (refl, refl)
 shown_once (line ∷ rest) = grind (arith, shown_once rest)
 
--- what reads where no text may begin reads where one may
+-- lines that are read if no text may begin are read if one may
 first_more : (rules : Rules) (reads : LinesReader) (reads_text : ReadsText) (properties : Properties) (lines : List Line) (tree : Tree)
     → node_at rules reads reads_text properties true false lines ≡ Some tree → node_at rules reads reads_text properties true true lines ≡ Some tree
 first_more rules reads reads_text properties [] tree h = h
@@ -44,7 +44,7 @@ below_blank : (depth : ℕ) (rules : Rules) (line : Line) (rest : List Line) (tr
 below_blank zero rules line rest tree blank h = absurd (none_not_some h)
 below_blank (suc depth) rules line rest tree blank h = grind (arith, shown_once, first_more)
 
--- a root behind `---`, on its line or below it
+-- a root after `---`, on its line or below it
 pub root_with_marker_reads : (rules : Rules) (n : ℕ) (own : Rendered) (tree : Tree) (fit : Fits rules n own tree root_place marker_cursor)
     → (is_spaces (fit.opens refl).head ≡ true → stands_at_margin (without_blank_lines (fit.opens refl).rest) ≡ true) → (depth : ℕ) → n ≤ depth
     → root_with_marker depth rules (record { text = codes "---" ++ (fit.opens refl).head; ending = (fit.opens refl).ending }) (fit.opens refl).rest ≡ Some tree

@@ -1,5 +1,5 @@
--- What is asked of each document for its stream to be read back: that its root's parts are read, what its root begins with,
--- that its lines are no markers, and that its directives are read.
+-- The conditions under which a document's part of a stream is read back: its root's parts are read, its root begins with a character that no reader
+-- skips, its lines are no markers, and its directives are read.
 use Rattle.yaml_base.proofs.Common.{ℕ, if◌then◌else◌, ◌==◌, Some, Bool, false, not, true, ◌&&◌, ◌||◌, List, [], ◌++◌, ◌∷◌, ◌≡◌, list_all, Text, space, Cursor}
 use Rattle.yaml_base.proofs.Common.{Rendered, render_then, TagDirective, DocumentStart, Node, alias_node, scalar_node, sequence_node, mapping_node, Document}
 use Rattle.yaml_base.proofs.Common.{Documents, no_documents, documents_and, render_version, render_tag_directives, is_explicit, root_place, has_no_documents}
@@ -11,11 +11,11 @@ use Rattle.yaml_base.proofs.{stream_nodes.StreamNodesFit.render_begun, stream_no
 
 -- Places
 
--- by what a document is read
+-- the rules for reading a document
 abbrev pub rules_of : Effective → Document → Rules
 rules_of s document = record { breaks12 = s.breaks12; directives = document.start.directives }
 
--- where a root begins: behind `---` on its line, or where a line does
+-- the cursor at which a root begins: after `---` on its line, or at a line's start
 abbrev pub root_cursor : (on_marker : Bool) → Cursor
 root_cursor on_marker = if on_marker then marker_cursor else margin_cursor 0
 
@@ -25,7 +25,7 @@ render_root on_marker s document = node_own document.root s (directives_in_force
 
 -- Roots
 
--- what is rendered begins, behind a space where one is needed, with a character that no reader skips
+-- the rendered text begins, after a space if one is needed, with a character that no reader skips
 pub record Begins (breaks12 : Bool) (cursor : Cursor) (own : Rendered) : Type 0 where
   pub count : ℕ
   pub head : ℕ
@@ -35,8 +35,7 @@ pub record Begins (breaks12 : Bool) (cursor : Cursor) (own : Rendered) : Type 0 
   pub shows : (head == space) ≡ false
   pub goes_on : is_read_break breaks12 head ≡ false
 
--- a root that is an alias, a scalar or written in flow: it begins so where anything is written, and no line after its first is
--- a marker
+-- a root that is an alias, a scalar or written in flow: it begins so if anything is written, and no line after its first is a marker
 pub record LeafStands (on_marker : Bool) (s : Effective) (document : Document) : Type 0 where
   pub begins : is_written_as_nothing s.canonical document.root ≡ false → Begins s.breaks12 (root_cursor on_marker) (render_root on_marker s document)
   pub after : AllMarkerless (lines_after_first (lines_of s.breaks12 (closed (render_root on_marker s document))))
@@ -58,7 +57,7 @@ PropertiesStand on_marker s directives (mapping_node start pairs) =
     → Begins s.breaks12 (root_cursor on_marker) (render_begun s directives start (root_cursor on_marker))
 PropertiesStand on_marker s directives node = Unit {0}
 
--- the root of a document, where it begins behind `---` or on a line of its own
+-- the root of a document, if it begins after `---` or on a line of its own
 pub record RootStands (s : Effective) (document : Document) (on_marker : Bool) : Type 0 where
   pub leaves : Leaves document.root (rules_of s document) s (directives_in_force document.start.directives) root_place (root_cursor on_marker)
   pub leaf : is_leaf s document.root ≡ true → LeafStands on_marker s document
@@ -78,11 +77,11 @@ pub record PrologueStands (s : Effective) (start : DocumentStart) : Type 0 where
 
 -- Documents
 
--- a root begins on the line of `---`, where that is written and doesn't stand alone
+-- true if a root begins on the line of `---`: the marker is written and isn't alone on its line
 abbrev pub is_on_marker : Effective → (first : Bool) → DocumentStart → Bool
 is_on_marker s first start = is_explicit (s.canonical || s.portable) first start && not s.canonical
 
--- a document's root, where it is rendered, and its directives
+-- a document's root at its place, and its directives
 pub record DocumentStands (s : Effective) (first : Bool) (document : Document) : Type 0 where
   pub root : RootStands s document (is_on_marker s first document.start)
   pub prologue : PrologueStands s document.start

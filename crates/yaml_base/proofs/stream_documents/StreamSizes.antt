@@ -22,7 +22,7 @@ length_within a b c = let e = length_three a b c in omega arith
 length_indicators : (a b c : Text) → length (a ++ (b ++ c)) ≡ length a + (length b + length c)
 length_indicators a b c = length-append a (b ++ c) ∙ ap (λ n. length a + n) (length-append b c)
 
--- what holds an indicator isn't empty
+-- a text that holds an indicator isn't empty
 indicator_last : (a symbol : Text) → 1 ≤ length symbol → 1 ≤ length (a ++ symbol)
 indicator_last a symbol h = let e = length-append a symbol in omega arith
 
@@ -33,7 +33,7 @@ opening_indicator : (bracket : Text) (first : Bool) (cursor : Cursor) → 1 ≤ 
 opening_indicator bracket true cursor h = indicator_last (space_if true cursor) bracket h
 opening_indicator bracket false cursor h = omega arith
 
--- before an item in flow stands an indicator
+-- an indicator precedes an item in flow
 item_indicator : (s : Effective) (first : Bool) (column : ℕ) (cursor : Cursor)
     → 1 ≤ length (render_place s (entry_place true (as_item first) column) false cursor).text
 item_indicator s first column cursor = grind (arith, indicator_first, opening_indicator)
@@ -112,28 +112,28 @@ line_indicator column symbol cursor h = grind (arith, indicator_last)
 key_length : (rules : Rules) (text : Text) (tree : Tree) → KeyFits rules text tree → 1 ≤ length text
 key_length rules text tree fit = let e = ap length fit.is in omega arith
 
--- a sequence, where its items are no deeper in a block
+-- a sequence, if its items are no deeper in a block
 sequence_within : (start : Collection) (items : Nodes) (rules : Rules) (s : Effective) (directives : List TagDirective) (place : Place) (cursor : Cursor)
     → Leaves (sequence_node start items) rules s directives place cursor
     → ((e : ℕ) (cursor : Cursor) → ItemLeaves items rules s directives e → items_size items ≤ length (items_own items s directives false e cursor).text)
     → suc (items_size items) ≤ suc (length (node_own (sequence_node start items) s directives place cursor).text)
 sequence_within start items rules s directives place cursor leaves each = grind (arith, items_own, length_within, flow_items)
 
--- a mapping, where its pairs are
+-- a mapping, if its pairs are
 mapping_within : (start : Collection) (pairs : Pairs) (rules : Rules) (s : Effective) (directives : List TagDirective) (place : Place) (cursor : Cursor)
     → Leaves (mapping_node start pairs) rules s directives place cursor
     → ((e : ℕ) (cursor : Cursor) → PairLeaves pairs rules s directives e → pairs_size pairs ≤ length (pairs_own pairs s directives false e cursor).text)
     → suc (pairs_size pairs) ≤ suc (length (node_own (mapping_node start pairs) s directives place cursor).text)
 mapping_within start pairs rules s directives place cursor leaves each = grind (arith, pairs_own, length_within, flow_pairs)
 
--- what is rendered for a pair in a block
+-- the rendered text of a pair in a block
 abbrev pair_own : (simple : Bool) → Pairs → Node → Node → Effective → List TagDirective → ℕ → Cursor → Rendered
 pair_own simple pairs key value s directives e cursor =
     render_then
     (render_then (render_place s (key_place pairs e) simple cursor) (node_own key s directives (key_place pairs e)))
     (λ after. render_then (render_place s (value_place simple e) false after) (node_own value s directives (value_place simple e)))
 
--- behind the pairs before it
+-- after the pairs before it
 pair_regrouped : (x : Bool) (pairs : Pairs) (key value : Node) (s : Effective) (directives : List TagDirective) (e : ℕ) (before : Rendered)
     → length (render_then
     (render_then before (λ after. render_then (render_place s (key_place pairs e) x after) (node_own key s directives (key_place pairs e))))
@@ -141,7 +141,7 @@ pair_regrouped : (x : Bool) (pairs : Pairs) (key value : Node) (s : Effective) (
     ≡ length before.text + length (pair_own x pairs key value s directives e before.cursor).text
 pair_regrouped x pairs key value s directives e before = grind (arith, node_own, append_assoc, length-append)
 
--- a pair, where its key and its value are no deeper than they are long
+-- a pair, if its key and its value are no deeper than they are long
 pair_within : (x : Bool) (pairs : Pairs) (key value : Node) (rules : Rules) (s : Effective) (directives : List TagDirective) (e : ℕ) (cursor : Cursor)
     → is_simple s.canonical directives key ≡ x
     → EitherType x

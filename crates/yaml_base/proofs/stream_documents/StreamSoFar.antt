@@ -1,4 +1,4 @@
--- A stream's text as far as it is read: its lines cut into sections, whatever markers follow them, and what they are read as.
+-- A stream's text as far as it is read: its lines cut into sections, whatever markers follow them, and the reading of these.
 use Rattle.yaml_base.proofs.Common.{arith, ℕ, if◌then◌else◌, fold, option_and_then, None, Some, Bool, false, true, List, [], ◌++◌, ◌∷◌, refl, ◌≡◌, eqb-true}
 use Rattle.yaml_base.proofs.Common.{append-nil, append_assoc, ap, sym, ◌∙◌, and_parts, false≢true, list_all, Text, marker_of, Section, sections_of}
 use Rattle.yaml_base.proofs.Common.{Prologue, prologue_read, after_prologue, with_prologue, begins_with_percent, prefix_kind, lines_before_marker_read}
@@ -18,7 +18,7 @@ pub record WalkProgress (breaks12 : Bool) (depth : ℕ) (text : Text) (read : St
       → sections_of (lines_of breaks12 text ++ rest) ≡ record { before = prefix; sections = sections ++ (sections_of rest).sections }
   pub reads : fold (section_read depth breaks12) (lines_before_marker_read (prefix_kind prefix) depth breaks12 prefix) sections ≡ Some read
 
--- lines without a marker that are read by what they begin with
+-- lines without a marker, which are read by their beginning
 pub prefix_alone : (breaks12 : Bool) (depth : ℕ) (text : Text) (read : StreamRead) → is_closed breaks12 text ≡ true → AllMarkerless (lines_of breaks12 text)
     → lines_before_marker_read (prefix_kind (lines_of breaks12 text)) depth breaks12 (lines_of breaks12 text) ≡ Some read
     → WalkProgress breaks12 depth text read

@@ -1,4 +1,4 @@
--- A whole stream whose documents stand is read as their trees.
+-- A whole stream whose documents are readable is read as their trees.
 use Rattle.yaml_base.proofs.Common.{suc, ℕ, ◌≤◌, if◌then◌else◌, ◌==◌, option_and_then, None, Some, codes, length, Bool, false, not, true, ◌&&◌, ◌||◌, List, []}
 use Rattle.yaml_base.proofs.Common.{◌++◌, ◌∷◌, refl, ◌≡◌, eqb-true, length-append, append-nil, ap, subst, sym, ◌∙◌, arith, and_parts, and_from, flat_map-append}
 use Rattle.yaml_base.proofs.Common.{Text, line_feed, Document, Documents, no_documents, documents_and, Stream, is_explicit, root_place}
@@ -18,7 +18,7 @@ use Rattle.yaml_base.proofs.stream_documents.StreamRootsStand.{rules_of, root_cu
 
 -- Lists of documents
 
--- the first document is written as something, where no marker is written before it
+-- the first document is written as something, if no marker is written before it
 abbrev pub FirstWritten : Effective → List Document → Type 0
 FirstWritten s [] = Unit {0}
 FirstWritten s (document ∷ rest) = is_explicit (s.canonical || s.portable) true document.start ≡ false → is_written_as_nothing s.canonical document.root ≡ false
@@ -131,7 +131,7 @@ documents_so_rendered s (documents_and (documents_and before last) document) dee
 
 -- Ends
 
--- where a stream ends its documents are read
+-- if a stream ends, its documents are read
 ended_read : (breaks12 : Bool) (depth : ℕ) (text : Text) (documents : List DocumentTree) (marker : ℕ) → Awaits breaks12 depth text documents (marker == 0)
     → sections_read depth breaks12 (sections_of (lines_of breaks12 (text ++ dots_if (marker == 2)))) ≡ Some documents
 ended_read breaks12 depth text documents marker awaits = by (marker == 0) refl (marker == 2) refl awaits
@@ -196,7 +196,7 @@ pub stream_text : (s : Effective) (stream : Stream) → (render_documents s stre
     ((render_documents s stream.documents first_standing).standing.open_ended == 2)
 stream_text s stream at = grind (arith, flat_map-append, append-nil, dots_rendered)
 
--- a stream whose documents stand is read as their trees
+-- a stream whose documents are readable is read as their trees
 pub stream_reads : (s : Effective) (stream : Stream) → 2 ≤ s.indent → DocumentsStand s stream.documents → FirstWritten s (documents_in_order stream.documents)
     → documents_of s.breaks12 (text_of (layout s stream)) ≡ Some (document_trees s stream.documents)
 stream_reads s stream deep stands written =

@@ -60,11 +60,11 @@ pub indicator_deep : (breaks12 : Bool) (count : ℕ) (symbol : Text) (need white
     → Deep breaks12 count (indicator symbol need white indented cursor).text
 indicator_deep breaks12 count symbol need white indented cursor one = grind (arith, deep_line, one_line_both, space_line, unbroken_line)
 
--- a new line where one is too long
+-- a new line if one is too long
 break_deep : (s : Effective) (count column : ℕ) (cursor : Cursor) → count ≤ column → Deep s.breaks12 count (flow_break s (Some column) cursor).text
 break_deep s count column cursor le = grind (arith, deep_new_line)
 
--- what stands before a first entry, or between two
+-- the text before a first entry, or between two
 begin_deep : (s : Effective) (count column : ℕ) (bracket : Text) (first : Bool) (cursor : Cursor) → count ≤ column
     → list_any is_break bracket ≡ false
     → Deep s.breaks12 count (render_then (opening_or_comma bracket first cursor) (flow_break s (Some column))).text
@@ -136,7 +136,7 @@ scalar_deep s own directives count column role cursor content le names body =
     (body_deep s choice.style limit count (deeper s.indent (Some column)) column content.value separation.cursor (omega arith)
     (chosen_in_flow s role column simple content) body.tidy)
 
--- a collection, where its entries are so
+-- a collection, if its entries are so
 collection_deep : (s : Effective) (own directives : List TagDirective) (count : ℕ) (brackets : Brackets) (anchor tag : Option Text) (empty : Bool)
     (column : Option ℕ) (cursor : Cursor) (entries : Rendered) → list_any is_break brackets.opening ≡ false → list_any is_break brackets.closing ≡ false
     → (s.canonical ≡ true → count ≤ line_column column) → IsNamed anchor → TagStands s.portable own directives tag → Deep s.breaks12 count entries.text
@@ -199,7 +199,7 @@ module _ (s : Effective) (own directives : List TagDirective) (count : ℕ) wher
 
 -- Collections in a block
 
--- a sequence that is written in flow, where its bracket stands on no line of its own or as deep
+-- a sequence that is written in flow, if its bracket is on no line of its own or as deep
 pub sequence_deep : (s : Effective) (own directives : List TagDirective) (count : ℕ) (place : Place) (cursor : Cursor) (start : Collection) (items : Nodes)
     → count ≤ deeper s.indent place.column → (s.canonical ≡ true → count ≤ line_column place.column)
     → is_written_in_flow s place start (has_no_nodes items) ≡ true → NamesStand s.portable own s.canonical directives (sequence_node start items)

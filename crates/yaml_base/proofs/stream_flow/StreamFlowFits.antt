@@ -1,4 +1,4 @@
--- A collection in flow fits where it stands in a block.
+-- A collection in flow fits at its place in a block.
 use Rattle.yaml_base.proofs.Common.{suc, ℕ, ◌≤◌, if◌then◌else◌, Option, None, Some, Bool, false, true, List, [], ◌++◌, ◌∷◌, refl, ◌≡◌, append_assoc, ap, sym}
 use Rattle.yaml_base.proofs.Common.{◌∙◌, arith, false≢true, list_all, Text, line_feed, Cursor, Rendered, space_if, TagDirective, Collection, collection_tag}
 use Rattle.yaml_base.proofs.Common.{alias_node, scalar_node, sequence_node, mapping_node, Place, line_column, deeper, is_read_break, Effective}
@@ -21,7 +21,7 @@ use Rattle.yaml_base.proofs.stream_nodes.StreamStands.{tag_written, tag_meant, T
 
 -- Lines
 
--- the first line of a text that a break ends, and what of the text stands behind the characters of the line
+-- the first line of a text that a break ends, and the rest of the text after the characters of the line
 record FirstLine (breaks12 : Bool) (t : Text) : Type 0 where
   pub first : Text
   pub ending : Text
@@ -88,7 +88,7 @@ flow_lines rules cursor own anchor tag given_tag tree of one line =
     let text = (of.inside ++ (of.closing ∷ [])) ++ (line_feed ∷ []) in
     lines_behind _ _ _ _ _ _ one (lines_behind rules.breaks12 (of.bracket ∷ []) text line.first line.ending line.rest of.brackets.one_line line.is)
 
--- it reads on its lines, behind properties or without them
+-- it reads on its lines, after properties or without them
 text_reads : (rules : Rules) (cursor : Cursor) (own : Rendered) (anchor tag given_tag : Option Text) (tree : Tree)
     (of : FlowContent rules cursor own anchor tag given_tag tree) (column : Option ℕ) → Given rules anchor tag (tag_meant given_tag false)
     → (line : FirstLine rules.breaks12 (of.inside ++ (of.closing ∷ []))) → ((c : ℕ) → column ≡ Some c → AllInside true c line.rest)
@@ -117,7 +117,7 @@ text_reads rules cursor own anchor tag given_tag tree of column given line deepe
 
 -- Fits
 
--- what is rendered, with the break after it
+-- the rendered text, with the break after it
 closed_text : (rules : Rules) (cursor : Cursor) (own : Rendered) (anchor tag given_tag : Option Text) (tree : Tree)
     (of : FlowContent rules cursor own anchor tag given_tag tree)
     → own.text ++ (line_feed ∷ []) ≡ space_if true cursor ++ flow_text rules cursor own anchor tag given_tag tree of

@@ -1,4 +1,4 @@
--- Each kind of node that stands in flow takes the reader of flow collections to its place with its tree, where what it holds does.
+-- Each kind of node in flow takes the reader of flow collections to its place with its tree, if its entries do.
 use Rattle.yaml_base.proofs.Common.{arith, ℕ, if◌then◌else◌, Option, None, Some, Bool, false, not, true, ◌&&◌, List, [], ◌++◌, ◌∷◌, refl, ◌≡◌, true≢false}
 use Rattle.yaml_base.proofs.Common.{append-nil, append_assoc, ap, sym, ◌∙◌, false≢true, Text, space, Cursor, Rendered, space_if, TagDirective, Scalar}
 use Rattle.yaml_base.proofs.Common.{Collection, scalar_tag, collection_tag, Node, alias_node, scalar_node, Nodes, Pairs, no_nodes, nodes_and, no_pairs}
@@ -30,7 +30,7 @@ KeysFit s own directives =
     → (node_own n s directives (entry_place true role column) cursor).text ≡ space_if true cursor ++ (text ++ alias_space n)
     → is_key_text s.breaks12 (node_tree n s directives (entry_place true role 0)) text ≡ true
 
--- what is rendered of a node in flow takes the reader to its place with its tree
+-- the rendered text of a node in flow takes the reader to its place with its tree
 abbrev pub NodeTakes : Effective → List TagDirective → List TagDirective → Role → ℕ → Cursor → Node → Type 0
 NodeTakes s own directives role column cursor node =
     FlowNode (rules_of s own) (is_key role && is_simple s.canonical directives node) cursor
@@ -38,13 +38,13 @@ NodeTakes s own directives role column cursor node =
 
 -- Words
 
--- a word is a node in flow, and a key where it may be one
+-- a word is a node in flow, and a key if it may be one
 word_node : (rules : Rules) (simple : Bool) (cursor : Cursor) (own : Rendered) (text : Text) (tree : Tree) → own.text ≡ space_if true cursor ++ text
     → EndedCollection own.cursor
     → FlowWord rules text tree → is_alias tree ≡ false → (simple ≡ true → is_key_text rules.breaks12 tree text ≡ true) → FlowNode rules simple cursor own tree
 word_node rules simple cursor own text tree whole ended of other fits = grind (arith, takes_word, takes_simple_key)
 
--- an alias, with a space after it where it is a simple key
+-- an alias, with a space after it if it is a simple key
 pub alias_step : (s : Effective) (own directives : List TagDirective) (fits : KeysFit s own directives) (role : Role) (column : ℕ) (cursor : Cursor)
     (name : Text) → name_read name ≡ Some name
     → (simple : Bool) → (is_key role && is_simple s.canonical directives (alias_node name)) ≡ simple

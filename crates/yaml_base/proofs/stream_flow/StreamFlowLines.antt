@@ -12,12 +12,12 @@ abbrev pub opening : (is_sequence : Bool) → ℕ
 opening true = 0x5B
 opening false = 0x7B
 
--- what follows a bracket on its line closes no collection at once
+-- the text after a bracket on its line closes no collection at once
 abbrev pub keeps_open : Text → Bool
 keeps_open [] = true
 keeps_open (c ∷ rest) = opens_inside (c ∷ rest)
 
--- the prefix of what keeps a bracket open does so too
+-- the prefix of a text that keeps a bracket open does so too
 pub keeps_prefix : (a b : Text) → keeps_open (a ++ b) ≡ true → keeps_open a ≡ true
 keeps_prefix [] b h = refl
 keeps_prefix (c ∷ a) b h = h
@@ -36,7 +36,7 @@ no_scalar rules q properties t = grind (arith, no_plain_read, none_parsed)
 not_closing : (c : ℕ) → opens_inside (c ∷ []) ≡ true → ((c == 0x5D) ≡ false) × ((c == 0x7D) ≡ false)
 not_closing c h = grind (arith, and_parts, false≢true)
 
--- a bracket and what keeps it open is no word, whatever properties it has
+-- a bracket and a text that keeps it open are no word, whatever properties it has
 no_word : (rules : Rules) (q : Bool) (properties : Properties) (t : Text) → keeps_open t ≡ true → word_after rules false None properties (opening q ∷ t) ≡ None
 no_word rules true properties [] h = no_scalar rules true properties []
 no_word rules true properties (c ∷ []) h =

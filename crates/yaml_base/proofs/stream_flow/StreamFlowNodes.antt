@@ -1,4 +1,4 @@
--- Each node of the layout that stands in flow takes the reader of flow collections to its place with its tree.
+-- Each node of the layout in flow takes the reader of flow collections to its place with its tree.
 use Rattle.yaml_base.proofs.Common.{arith, ℕ, Option, Some, codes, Bool, false, true, ◌&&◌, List, [], ◌++◌, ◌∷◌, refl, ◌≡◌, append-nil, append_assoc, ap, subst}
 use Rattle.yaml_base.proofs.Common.{sym, ◌∙◌, Text, Cursor, Rendered, space_if, indicator, TagDirective, Node, alias_node, scalar_node, Nodes}
 use Rattle.yaml_base.proofs.Common.{sequence_node, Pairs, mapping_node, no_nodes, nodes_and, no_pairs, pairs_and, entry_place, Role, as_item}

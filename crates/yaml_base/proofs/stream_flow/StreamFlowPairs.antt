@@ -1,4 +1,4 @@
--- The entries of a collection in flow, one after another, where each of its nodes is read in flow.
+-- The entries of a collection in flow, one after another, if each of its nodes is read in flow.
 use Rattle.yaml_base.proofs.Common.{ℕ, ◌==◌, Option, None, Bool, false, true, ◌||◌, List, [], ◌++◌, ◌∷◌, refl, ◌≡◌, append_assoc, ap, sym, ◌∙◌, and_parts}
 use Rattle.yaml_base.proofs.Common.{Text, line_feed, space, Cursor, Rendered, space_if, as_value, flow_break, key_indicator, render_flow_place, Effective}
 use Rattle.yaml_base.proofs.Common.{Tree, Trees, TreePairs, trees_and, tree_pairs_and, no_key, key_due, key_held, OpenFlow, in_sequence, in_mapping}
@@ -11,7 +11,7 @@ use Rattle.yaml_base.proofs.stream_flow.StreamFlowTakes.{FlowNode, FlowEntries, 
 use Rattle.yaml_base.proofs.stream_flow.StreamPasses.{white_both, WhiteThen, late_colon, white_either}
 use Rattle.yaml_base.proofs.stream_flow.StreamSays.{EndsWord, indicator_ends, class_fixed}
 
--- what stands for one entry after `[`, `{` or a comma, and what it does to the collection's level
+-- the text of one entry after `[`, `{` or a comma, and its effect on the collection's level
 pub record FlowEntry (rules : Rules) (text : Text) (from to : OpenFlow) : Type 0 where
   pub opens : opens_inside text ≡ true
   pub takes : (levels : List OpenFlow) → TakesBytes rules (within (from ∷ levels) entry_awaited) text (within (to ∷ levels) comma_awaited)

@@ -37,8 +37,7 @@ pub record AreBrackets (rules : Rules) (bracket closing : ℕ) : Type 0 where
   pub empty : (anchor tag : Option Text) (parsed : Option ParsedTag) → Given rules anchor tag parsed
       → kind_of_node rules (lead anchor tag ++ (bracket ∷ closing ∷ [])) ≡ begins_text
 
--- the text of a collection in flow: a space where one is needed, its properties, and from a bracket to a bracket what is
--- read as its tree
+-- the text of a collection in flow: a space if one is needed, its properties, and from a bracket to a bracket a text that is read as its tree
 pub record FlowContent (rules : Rules) (cursor : Cursor) (own : Rendered) (anchor tag given_tag : Option Text) (tree : Tree) : Type 0 where
   pub bracket : ℕ
   pub inside : Text
@@ -136,7 +135,7 @@ takes_first rules bracket anchor tag (c ∷ inside) to class opens_it takes = re
       ∙ takes.takes rest ends;
 }
 
--- the end of a collection from its last entry on: what stands before the last bracket, by which the collection is done
+-- the end of a collection from its last entry on: the text before the last bracket, which completes the collection
 record Closing (rules : Rules) (level : OpenFlow) (closing : ℕ) (tree : Tree) (ending : Rendered) : Type 0 where
   pub before : Text
   pub whole : ending.text ≡ before ++ (closing ∷ [])
@@ -178,7 +177,7 @@ closing_rendered rules s level brackets closing tree column cursor e at_once_don
       closes = at_once_done;
     }
 
--- what opens inside a collection keeps it open
+-- a collection that opens inside another keeps it open
 opens_kept : (t : Text) → opens_inside t ≡ true → keeps_open t ≡ true
 opens_kept [] h = absurd (false≢true h)
 opens_kept (c ∷ t) h = h
@@ -258,7 +257,7 @@ FlowReads s own directives start cursor rendered tree =
     FlowContent (rules_of s own) cursor rendered start.anchor (tag_written s.portable directives (collection_tag s.canonical start) false)
     (collection_tag s.canonical start) tree
 
--- a sequence, where its items take the reader on
+-- a sequence, if its items take the reader on
 sequence_content : (s : Effective) (own directives : List TagDirective) (column : Option ℕ) (undented : Bool) (cursor : Cursor) (start : Collection)
     (items : Nodes)
     → (let begun : Rendered = render_properties s.portable directives start.anchor (collection_tag s.canonical start) false cursor in
@@ -275,7 +274,7 @@ sequence_content s own directives column undented cursor start (nodes_and items 
     0x5B 0x5D _ _ _ (λ anchor tag. in_sequence anchor tag trees) _ (lead_rendered s.portable directives _ _ false cursor) (square_brackets _) take
     (closing_rendered _ s _ square 0x5D _ column _ refl refl refl)
 
--- a mapping, where its pairs do
+-- a mapping, if its pairs do
 mapping_content : (s : Effective) (own directives : List TagDirective) (column : Option ℕ) (cursor : Cursor) (start : Collection) (pairs : Pairs)
     → (let begun : Rendered = render_properties s.portable directives start.anchor (collection_tag s.canonical start) false cursor in
     PairsTake s own directives pairs (deeper s.indent column) begun.cursor
@@ -291,7 +290,7 @@ mapping_content s own directives column cursor start (pairs_and pairs key value)
     0x7B 0x7D _ _ _ (λ anchor tag. in_mapping anchor tag trees no_key) _ (lead_rendered s.portable directives _ _ false cursor) (curly_brackets _) take
     (closing_rendered _ s _ curly 0x7D _ column _ refl refl refl)
 
--- a sequence that is written in flow is read as its tree after its properties, wherever it stands
+-- a sequence that is written in flow is read as its tree after its properties, at any place
 pub sequence_reads : (s : Effective) (own directives : List TagDirective) → KeysFit s own directives → (place : Place) (cursor : Cursor) (start : Collection)
     (items : Nodes)
     → is_written_in_flow s place start (has_no_nodes items) ≡ true → NamesStand s.portable own s.canonical directives (sequence_node start items)

@@ -9,17 +9,17 @@ use Rattle.yaml_base.proofs.{stream_nodes.StreamLeads.lead_rendered, stream_node
 use Rattle.yaml_base.proofs.Common.{requested_style, fitting_style, fits_plain, Rules}
 use Rattle.yaml_base.proofs.stream_flow.StreamFlowWords.{FlowWord, Given, scalar_in, quoted_flow_word, plain_flow_word}
 
--- by what a document of the layout is read
+-- the rules for reading a document of the layout
 abbrev pub rules_of : Effective → List TagDirective → Rules
 rules_of s own = record { breaks12 = s.breaks12; directives = own }
 
--- a style that may stand in flow
+-- a style that flow allows
 abbrev pub is_flow_style : ScalarStyle → Bool
 is_flow_style literal = false
 is_flow_style folded = false
 is_flow_style _ = true
 
--- where no block style fits the style is one of flow
+-- if no block style fits, the style is one of flow
 style_in_flow : (allowed : Allowances) (fits x : Bool) (asked : ScalarStyle)
     → is_flow_style (fitting_style allowed fits (allowed.block && not true && not x) asked) ≡ true
 style_in_flow allowed fits x asked = grind (arith, nat_tests)
@@ -33,7 +33,7 @@ chosen_in_flow s role column simple content =
     (fits_plain allowed (is_empty content.value) (is_some (scalar_tag s.canonical content)) content.plain_implicit true simple) simple
     (requested_style (s.canonical || (simple && allowed.multiline)) (style_asked_at s (entry_place true role column) content))
 
--- the bare tag stands before no plain scalar
+-- the bare tag precedes no plain scalar
 pub bare_not_plain : (tag quoted plain_style : Bool) → (not tag && not quoted && not plain_style) ≡ true → plain_style ≡ false
 bare_not_plain tag quoted plain_style h = grind (arith, nat_tests, false≢true)
 
@@ -46,7 +46,7 @@ plain_case s own anchor tag given_tag column [] value given tidy read = absurd (
 plain_case s own anchor tag given_tag column (c ∷ t) value given tidy read =
     plain_flow_word (rules_of s own) anchor tag given_tag (Some column) c t value given tidy read
 
--- a body that is rendered in a style of flow is a word with what leads it
+-- a body that is rendered in a style of flow is a word with the properties before it
 pub body_flow_word : (s : Effective) (own : List TagDirective) (anchor tag given_tag : Option Text) (style : ScalarStyle) (bare : Bool) (limit : Option ℕ)
     (indent column : ℕ)
     (value : Text) (cursor : Cursor) → Given (rules_of s own) anchor tag (tag_meant given_tag bare) → is_flow_style style ≡ true
@@ -72,11 +72,11 @@ pub body_ended : (s : Effective) (style : ScalarStyle) (limit : Option ℕ) (ind
     → EndedCollection (render_body style s limit indent value cursor).cursor
 body_ended s style limit indent value cursor h = grind (arith, nat_tests, and-false, false≢true)
 
--- in flow a space stands before each body, where none stands there
+-- in flow a space precedes each body, if none is there
 pub separation_in_flow : (style : ScalarStyle) (value : Text) (cursor : Cursor) → (render_separation style true value cursor).text ≡ space_if true cursor
 separation_in_flow style value cursor = grind (arith, nat_tests)
 
--- a scalar's text is a space where one is needed, and what leads its body, and the body
+-- a scalar's text is a space if one is needed, and the properties before its body, and the body
 pub scalar_whole : (portable : Bool) (directives : List TagDirective) (anchor tag : Option Text) (bare : Bool) (style : ScalarStyle) (value : Text)
     (cursor : Cursor) (body : Text)
     → (let properties : Rendered = render_properties portable directives anchor tag bare cursor in

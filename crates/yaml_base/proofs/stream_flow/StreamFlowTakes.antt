@@ -1,4 +1,4 @@
--- What a node in flow, and the entries of a collection in flow, are to the reader of flow collections.
+-- The effect of a node in flow, and of the entries of a collection in flow, on the reader of flow collections.
 use Rattle.yaml_base.proofs.Common.{nat_tests, arith, ℕ, ◌+◌, if◌then◌else◌, Option, codes, length, Bool, false, true, List, [], ◌++◌, ◌∷◌, refl, ◌≡◌}
 use Rattle.yaml_base.proofs.Common.{eqb-true, append-nil, append_assoc, ap, sym, ◌∙◌, and_parts, false≢true, Text, Cursor, Rendered, new_line, space_if}
 use Rattle.yaml_base.proofs.Common.{indicator, Brackets, square, curly, render_end, line_column, Effective, ParsedTag, Tree, Trees, sequence_tree, TreePairs}
@@ -15,12 +15,12 @@ use Rattle.yaml_base.proofs.stream_flow.StreamTakes.{steps, TakesBytes, takes_to
 use Rattle.yaml_base.proofs.stream_nodes.StreamProperties.{properties_text, has_properties, read_as, properties_parsed}
 use Rattle.yaml_base.specs.streams.StreamFlow.{may_open, opened_with}
 
--- where a node may begin: between entries, or after the space that follows `?` or `:`
+-- true if a node may begin: between entries, or after the space that follows `?` or `:`
 abbrev pub awaited_of : (spaced : Bool) → Awaited
 awaited_of true = node_awaited true
 awaited_of false = entry_awaited
 
--- a node's text after its place's indicators: a space where one is needed, and a word or collection that takes the reader to that
+-- a node's text after its place's indicators: a space if one is needed, and a word or collection that takes the reader to that
 -- place with the node's tree; as a simple key it takes it to the `:`
 pub record FlowNode (rules : Rules) (simple : Bool) (cursor : Cursor) (own : Rendered) (tree : Tree) : Type 0 where
   pub content : Text
@@ -33,7 +33,7 @@ pub record FlowNode (rules : Rules) (simple : Bool) (cursor : Cursor) (own : Ren
       → TakesBytes rules (within (in_mapping anchor tag pairs no_key ∷ levels) entry_awaited) content
       (within (in_mapping anchor tag pairs (key_held tree) ∷ levels) (colon_awaited at_once))
 
--- the text of a collection's entries: a space where one is needed, the bracket, and what takes the reader over the entries
+-- the text of a collection's entries: a space if one is needed, the bracket, and a text that takes the reader over the entries
 pub record FlowEntries (rules : Rules) (bracket : ℕ) (cursor : Cursor) (own : Rendered) (first last : Option Text → Option Text → OpenFlow) : Type 0 where
   pub inside : Text
   pub whole : own.text ≡ space_if true cursor ++ (bracket ∷ inside)
@@ -62,13 +62,13 @@ lead_reads rules anchor tag parsed given =
     by true h = refl
     by false h = absurd (false≢true h)
 
--- a collection opens where a node may begin
+-- a collection opens if a node may begin
 opens_level : (rules : Rules) (levels : List OpenFlow) (bracket : ℕ) (anchor tag given_tag : Option Text) → Given rules anchor tag (tag_meant given_tag false)
     → may_open levels ≡ true
     → opened_with levels bracket (properties_read rules.directives (lead anchor tag)) ≡ within (level_opened bracket anchor given_tag ∷ levels) entry_awaited
 opens_level rules levels bracket anchor tag given_tag given h = grind (arith, lead_reads, append-nil, blank_spaces, tag_of_collection)
 
--- what doesn't close a collection is no pair with its bracket
+-- a bracket that doesn't close a collection is no pair with its bracket
 pub no_pair : (bracket c : ℕ) (rest : Text) → opens_inside (c ∷ rest) ≡ true → is_pair bracket c ≡ false
 no_pair bracket c rest h = grind (arith, and_parts, false≢true)
 

@@ -34,12 +34,12 @@ pub given_leads : (rules : Rules) (anchor tag : Option Text) (parsed : Option Pa
     → Leads rules.breaks12 (lead anchor tag)
 given_leads rules anchor tag parsed given rest = lead_passes rules.breaks12 rules.directives anchor tag parsed rest given.named given.tagged
 
--- what follows them is read with them
+-- the text after them is read with them
 pub given_reads : (rules : Rules) (flow : Bool) (anchor tag : Option Text) (parsed : Option ParsedTag) (rest : Text) → Given rules anchor tag parsed
     → begins_content rest ≡ true → word_read rules flow (lead anchor tag ++ rest) ≡ word_after rules flow None (record { anchor = anchor; tag = parsed }) rest
 given_reads rules flow anchor tag parsed rest given own = grind (arith, lead_then, word_with_properties, false≢true)
 
--- properties begin with `&` or `!`, and else it is what follows them
+-- properties begin with `&` or `!`; without them the text after them begins
 pub lead_opens : (rules : Rules) (anchor tag : Option Text) (parsed : Option ParsedTag) (rest : Text) → Given rules anchor tag parsed → opens_inside rest ≡ true
     → opens_inside (lead anchor tag ++ rest) ≡ true
 lead_opens rules anchor tag parsed rest h k = grind (arith, nat_tests)
@@ -55,7 +55,7 @@ tagging_meant tag style bare h = grind (arith, nat_tests, true≢false)
 abbrev pub scalar_in : Option Text → Option Text → ScalarStyle → (bare : Bool) → Text → Tree
 scalar_in anchor tag style bare value = scalar_tree anchor (tagging_in tag (record { style = style; bare = bare })) value
 
--- what is said of a scalar that is tidy and reads
+-- the facts about a scalar that is tidy and reads
 pub scalar_meant : (rules : Rules) (flow : Bool) (anchor tag : Option Text) (style : ScalarStyle) (bare : Bool) (column : Option ℕ) (text v : Text)
     (value : Option Text)
     → (bare ≡ true → is_plain style ≡ false) → is_tidy style rules.breaks12 column text ≡ true → value ≡ Some v
@@ -93,12 +93,12 @@ quoted_flow_word rules double anchor tag given_tag bare column t v given tidy re
   opens = lead_opens rules anchor tag (tag_meant given_tag bare) (quote_of double ∷ t) given (grind (arith));
 }
 
--- what begins plain text in flow is of that class
+-- a character that begins plain text in flow is of that class
 plain_class : (breaks12 : Bool) (c : ℕ) → is_read_white breaks12 c ≡ false → Begins c → is_among (codes ",?:[]{}") c ≡ false
     → class_of breaks12 c ≡ begins_plain
 plain_class breaks12 c white b symbol = grind (arith, or_parts, not_among)
 
--- what holds no flow indicator doesn't begin with one
+-- a text without a flow indicator doesn't begin with one
 first_no_indicator : (breaks12 : Bool) (c : ℕ) (t : Text) → holds_no_plain breaks12 true (c ∷ t) ≡ false → is_among (codes ",?:[]{}") c ≡ false
 first_no_indicator breaks12 c t h = grind (arith, or_parts)
 

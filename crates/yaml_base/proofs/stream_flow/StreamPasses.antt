@@ -19,7 +19,7 @@ pub passes_both : {rules : Rules} {from through to : FlowReading} {a b : Text} �
     → Passes rules from (a ++ b) to
 passes_both one two = grind (arith, append_assoc)
 
--- and then one that takes it on before what ends a word
+-- and then one that takes it on before a text that ends a word
 pub passes_then : {rules : Rules} {from through to : FlowReading} {a b : Text} → Passes rules from a through → TakesBytes rules through b to
     → TakesBytes rules from (a ++ b) to
 passes_then one two = grind (arith, append_assoc)
@@ -57,7 +57,7 @@ passes_late_colon rules levels =
     passes_indicator rules (within levels (colon_awaited (after_white true))) (within levels (node_awaited false))
     0x3A (class_fixed rules.breaks12 0x3A refl) refl
 
--- a `?` where a key may stand
+-- a `?` if a key may come
 pub passes_question : (rules : Rules) (levels : List OpenFlow) (to : FlowReading) → flow_step rules (within levels entry_awaited) (symbol 0x3F) ≡ to
     → Passes rules (within levels entry_awaited) (0x3F ∷ []) to
 passes_question rules levels to step = passes_indicator rules (within levels entry_awaited) to 0x3F (class_fixed rules.breaks12 0x3F refl) step
@@ -73,18 +73,18 @@ passes_node_space rules levels = passes_space rules (within levels (node_awaited
 abbrev pub is_white_text : Text → Bool
 is_white_text text = list_all (λ c. c == space || c == line_feed) text
 
--- what holds of a space and of a line feed holds of what is either
+-- a fact about a space and about a line feed holds for a character that is either
 pub white_either : (P : ℕ → Type 0) (c : ℕ) → P space → P line_feed → (c == space || c == line_feed) ≡ true → P c
 white_either P c a b h =
     elim (or_cases (c == space) (c == line_feed) h) [ inl e ↦ subst P (sym (eqb-true c space e)) a | inr e ↦ subst P (sym (eqb-true c line_feed e)) b ]
 
--- so either passes where both do
+-- so either passes if both do
 white_passes_one : (rules : Rules) (from to : FlowReading) (c : ℕ) → flow_step rules from blank ≡ to → flow_step rules from line_end ≡ to
     → (c == space || c == line_feed) ≡ true → Passes rules from (c ∷ []) to
 white_passes_one rules from to c one two h =
     white_either (λ d. Passes rules from (d ∷ []) to) c (passes_space rules from to one) (passes_line_feed rules from to two) h
 
--- what a space and an LF do alike they do in any order
+-- if a space and an LF have the same effect, they have it in any order
 white_passes : (rules : Rules) (reading : FlowReading) (text : Text) → flow_step rules reading blank ≡ reading → flow_step rules reading line_end ≡ reading
     → is_white_text text ≡ true → Passes rules reading text reading
 white_passes rules reading [] one two h = passes_nothing rules reading
@@ -106,7 +106,7 @@ passes_colon_white rules levels c text h =
     let to = within levels (colon_awaited (after_white true)) in
     passes_both (white_passes_one rules from to c refl refl parts.0) (white_passes rules to text refl refl parts.1)
 
--- What the layout puts between
+-- The text that the layout puts between
 
 spaces_white : (n : ℕ) → is_white_text (replicate n space) ≡ true
 spaces_white zero = refl
@@ -116,7 +116,7 @@ spaces_white (suc n) = spaces_white n
 pub new_line_white : (at : ℕ) (cursor : Cursor) → is_white_text (new_line at cursor).text ≡ true
 new_line_white at cursor = grind (arith, spaces_white)
 
--- so is what stands where a line in flow is too long
+-- so is a new line that the layout puts into a long line in flow
 pub flow_break_white : (s : Effective) (column : Option ℕ) (cursor : Cursor) → is_white_text (flow_break s column cursor).text ≡ true
 flow_break_white s column cursor = grind (arith, new_line_white)
 
@@ -135,7 +135,7 @@ pub record WhiteThen (text : Text) (c : ℕ) : Type 0 where
   pub whole : text ≡ (first ∷ more) ++ (c ∷ [])
   pub white : is_white_text (first ∷ more) ≡ true
 
--- after a node the `:` of a long key stands after white space
+-- after a node the `:` of a long key comes after white space
 pub late_colon : (s : Effective) (column : Option ℕ) (cursor : Cursor) → cursor.whitespace ≡ false → cursor.indention ≡ false
     → WhiteThen (render_then (flow_break s column cursor) (indicator (codes ":") true false false)).text 0x3A
 late_colon s column cursor white indention = grind (arith, spaces_white, false≢true, true≢false)

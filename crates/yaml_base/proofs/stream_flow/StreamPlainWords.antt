@@ -6,7 +6,7 @@ use Rattle.yaml_base.proofs.{stream_flow.StreamWords.GivesWord, stream_keys.Stre
 use Rattle.yaml_base.proofs.Common.{is_white_break, is_flow_indicator, begins_bracket, class_of, flow_tokens, not-true}
 use Rattle.yaml_base.specs.streams.StreamTokens.{in_plain, white_token, plain_step}
 
--- a character of a class ends a word, where white space does if what follows it does
+-- a character of a class ends a word, if white space does when the text after it does
 abbrev pub ends_by : FlowClass → Bool → Bool
 ends_by is_white_blank more = more
 ends_by is_white_break more = more
@@ -41,7 +41,7 @@ is_white_class is_white_blank = true
 is_white_class is_white_break = true
 is_white_class _ = false
 
--- no flow indicator stands in a text
+-- a text holds no flow indicator
 abbrev pub all_stay : Bool → Text → Bool
 all_stay breaks12 text = list_all (λ c. stays_plain (class_of breaks12 c)) text
 
@@ -87,13 +87,13 @@ pub plain_text_word : (breaks12 : Bool) (before : Text) (c : ℕ) (t rest : Text
     → ends_word breaks12 rest ≡ true → GivesWord breaks12 (in_plain (before ++ (c ∷ [])) []) (before ++ (c ∷ [])) t rest
 plain_text_word breaks12 before c t rest h k e = grind (arith, nat_tests, plain_ends, append-nil, plain_passes)
 
--- What reads as plain
+-- Texts that read as plain
 
--- what is none of the flow indicators
+-- a character that is none of the flow indicators
 stays_at : (breaks12 : Bool) (c : ℕ) → is_among (codes ",?:[]{}") c ≡ false → stays_plain (class_of breaks12 c) ≡ true
 stays_at breaks12 c h = grind (arith, or_parts)
 
--- what plain text in flow holds is no flow indicator
+-- a character of plain text in flow is no flow indicator
 pub plain_stays : (breaks12 : Bool) (t : Text) → holds_no_plain breaks12 true t ≡ false → all_stay breaks12 t ≡ true
 plain_stays breaks12 [] h = refl
 plain_stays breaks12 (c ∷ t) h =
@@ -109,7 +109,7 @@ pub clean_shown : (breaks12 : Bool) (c : ℕ) (t : Text) → ends_white breaks12
 clean_shown breaks12 c [] h = ap not (shown_at breaks12 c h)
 clean_shown breaks12 c (d ∷ t) h = clean_shown breaks12 d t h
 
--- what reads as plain in flow, with clean edges, is a word after its first character
+-- a text that reads as plain in flow, with clean edges, is a word after its first character
 pub plain_word : (breaks12 : Bool) (before : Text) (c : ℕ) (t rest v : Text) → read_plain breaks12 true (c ∷ t) ≡ Some v
     → has_clean_edges breaks12 (c ∷ t) ≡ true → ends_word breaks12 rest ≡ true
     → GivesWord breaks12 (in_plain (before ++ (c ∷ [])) []) (before ++ (c ∷ [])) t rest

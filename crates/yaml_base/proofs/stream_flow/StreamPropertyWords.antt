@@ -1,4 +1,4 @@
--- The tokens of a word in flow with its anchor and tag before it: it is one word with them, and so is what opens a collection.
+-- The tokens of a word in flow with its anchor and tag before it: it is one word with them, and so is a bracket that opens a collection.
 use Rattle.yaml_base.proofs.Common.{ℕ, Option, None, Some, Bool, false, true, ◌||◌, List, [], ◌++◌, ◌∷◌, refl, ◌≡◌, true≢false, append-nil, append_assoc, ap}
 use Rattle.yaml_base.proofs.Common.{sym, ◌∙◌, arith, or_parts, false≢true, nat_tests, Text, space, is_blank, is_break, TagDirective, read_plain, ParsedTag}
 use Rattle.yaml_base.proofs.Common.{has_clean_edges, word, opens, FlowPlace, free, FlowStep, FlowClass, begins_property, begins_double, begins_single}
@@ -17,12 +17,12 @@ lead (Some name) None = 0x26 ∷ (name ++ (space ∷ []))
 lead None (Some tag) = tag ++ (space ∷ [])
 lead (Some name) (Some tag) = (0x26 ∷ (name ++ (space ∷ tag))) ++ (space ∷ [])
 
--- where the tokens stand after such a text
+-- the place of the tokens after such a text
 abbrev pub lead_place : Text → FlowPlace
 lead_place [] = free
 lead_place (c ∷ text) = after_property (c ∷ text)
 
--- what is neither a blank nor a break is of no white class
+-- a character that is neither a blank nor a break is of no white class
 not_white : (breaks12 : Bool) (c : ℕ) → (is_blank c || is_break c) ≡ false → is_white_class (class_of breaks12 c) ≡ false
 not_white breaks12 c h = grind (arith, nat_tests, shown_at)
 
@@ -39,7 +39,7 @@ rest_passes breaks12 before (c ∷ text) rest h =
     let parts = or_parts (is_blank c || is_break c) (holds_white text) h in
     grind (arith, or_parts, property_passes, not_white, append_assoc, rest_passes breaks12 (before ++ (c ∷ [])) text rest parts.1)
 
--- where it begins, between tokens or after another
+-- the place at which it begins: between tokens or after another
 begin_property : (breaks12 : Bool) (c : ℕ) (rest : Text) → class_of breaks12 c ≡ begins_property
     → flow_tokens breaks12 free (c ∷ rest) ≡ flow_tokens breaks12 (in_property (c ∷ [])) rest
 begin_property breaks12 c rest e =
@@ -81,7 +81,7 @@ lead_passes breaks12 directives (Some name) (Some tag) None rest named tagged = 
 
 -- Words after properties
 
--- what begins a node's own text
+-- the first character of a node's own text
 abbrev pub begins_own : FlowClass → Bool
 begins_own begins_double = true
 begins_own begins_single = true
@@ -95,7 +95,7 @@ begun_with : (breaks12 : Bool) (before : Text) (c : ℕ) (rest : Text) (class : 
     ≡ (let here : FlowStep = begun_token class before c in here.tokens ++ flow_tokens breaks12 here.place rest)
 begun_with breaks12 before c rest class h h2 = grind (arith, nat_tests, false≢true)
 
--- a text is passed by the tokens, to where what follows it begins a word with it
+-- the tokens pass over a text, to a place at which the next text begins a word with it
 abbrev pub Leads : Bool → Text → Type 0
 Leads breaks12 before = (rest : Text) → flow_tokens breaks12 free (before ++ rest) ≡ flow_tokens breaks12 (lead_place before) rest
 
@@ -138,7 +138,7 @@ says_empty_after breaks12 before b c leads e pair = record {
       ∙ ap (λ x. (let here : FlowStep = bracket_step x (class_of breaks12 c) before b c in here.tokens ++ flow_tokens breaks12 here.place rest)) pair;
 }
 
--- a bracket opens a collection with its properties, where the next character doesn't close it
+-- a bracket opens a collection with its properties, if the next character doesn't close it
 pub opens_after : (breaks12 : Bool) (before : Text) (b c : ℕ) (rest : Text) → Leads breaks12 before → class_of breaks12 b ≡ begins_bracket → is_pair b c ≡ false
     → flow_tokens breaks12 free (before ++ (b ∷ c ∷ rest)) ≡ opens before b ∷ flow_tokens breaks12 free (c ∷ rest)
 opens_after breaks12 before b c rest leads e pair = grind (arith, begun_with)

@@ -1,4 +1,4 @@
--- What a text in flow is to the reader of flow collections: it takes the reader from one reading to another.
+-- The effect of a text in flow on the reader of flow collections: it takes the reader from one reading to another.
 use Rattle.yaml_base.proofs.Common.{arith, ℕ, fold, Option, Some, true, List, [], ◌++◌, ◌∷◌, refl, ◌≡◌, append_assoc, ap, ◌∙◌, Text, Tree, Trees, sequence_tree}
 use Rattle.yaml_base.proofs.Common.{TreePairs, mapping_tree, is_key_text, no_key, key_held, OpenFlow, in_sequence, in_mapping, Awaited, collection_awaited}
 use Rattle.yaml_base.proofs.Common.{entry_awaited, comma_awaited, colon_awaited, FlowReading, done, within, with_tree, flow_step, flow_read, Rules, Properties}
@@ -19,7 +19,7 @@ steps_both : (rules : Rules) (from : FlowReading) (a b : List FlowToken) → ste
 steps_both rules from [] b = refl
 steps_both rules from (token ∷ a) b = steps_both rules (flow_step rules from token) a b
 
--- a text that is these tokens takes the reader where they do
+-- a text that is these tokens takes the reader as they do
 pub takes_tokens : (rules : Rules) (from : FlowReading) (text : Text) (tokens : List FlowToken) → Says rules.breaks12 text tokens
     → TakesBytes rules from text (steps rules from tokens)
 takes_tokens rules from text tokens says = record {
@@ -40,7 +40,7 @@ takes_both one two ends = grind (arith, append_assoc)
 
 -- Words
 
--- a short one on a line, where a key may stand, is a simple key
+-- a short one on a line, if a key may come, is a simple key
 pub takes_simple_key : (rules : Rules) (anchor tag : Option Text) (pairs : TreePairs) (levels : List OpenFlow) (text : Text) (tree : Tree)
     → Says rules.breaks12 text (word text ∷ []) → word_read rules true text ≡ Some tree → is_key_text rules.breaks12 tree text ≡ true
     → TakesBytes rules (within (in_mapping anchor tag pairs no_key ∷ levels) entry_awaited) text

@@ -1,4 +1,4 @@
--- White space in flow, and what it does to the reader of flow collections.
+-- White space in flow, and its effect on the reader of flow collections.
 use Rattle.yaml_base.proofs.Common.{arith, suc, zero, ℕ, Bool, List, [], ◌++◌, ◌∷◌, refl, ◌≡◌, ap, ◌∙◌, line_feed, space, OpenFlow, at_once}
 use Rattle.yaml_base.proofs.stream_flow.{StreamTakes.TakesBytes, StreamTakes.takes_to, StreamPlainWords.ends_by, StreamPlainWords.ends_word}
 use Rattle.yaml_base.proofs.Common.{after_blank, colon_awaited, within, spaces, Rules, is_white_break, class_of}
@@ -8,7 +8,7 @@ use Rattle.yaml_base.proofs.stream_flow.StreamSays.{EndsWord, says_blank, class_
 pub line_feed_class : (breaks12 : Bool) → class_of breaks12 line_feed ≡ is_white_break
 line_feed_class breaks12 = grind (arith)
 
--- spaces end a word, if what follows them does
+-- spaces end a word, if the text after them does
 pub spaces_end_word : (breaks12 : Bool) (n : ℕ) → EndsWord breaks12 (spaces n)
 spaces_end_word breaks12 zero rest h = h
 spaces_end_word breaks12 (suc n) rest h =

@@ -8,14 +8,14 @@ use Rattle.yaml_base.specs.reading.ReadDouble.{after_backslash as backslash_plac
 use Rattle.yaml_base.specs.reading.ReadDouble.{is_scalar_number, digit_step, escape_step}
 use Rattle.yaml_base.specs.streams.StreamTokens.{in_double, after_backslash, in_single, after_quote, goes_to, completes}
 
--- a character more at the end of what stands before a text
+-- a character more at the end of the text before another
 pub shifted : (breaks12 : Bool) (before : Text) (c : ℕ) (t rest : Text)
     → ◌≡◌ {A = List FlowToken} (word ((before ++ (c ∷ [])) ++ t) ∷ flow_tokens breaks12 free rest) (word (before ++ (c ∷ t)) ∷ flow_tokens breaks12 free rest)
 shifted breaks12 before c t rest = ap (λ s. word s ∷ flow_tokens breaks12 free rest) (append_assoc before (c ∷ []) t)
 
 -- Double quotes
 
--- where the scan of flow stands while the reader of double quotes stands at a place
+-- the place of the scan of flow while the reader of double quotes is at a place
 abbrev scan_place : QuotePlace → Text → FlowPlace
 scan_place between before = in_double before
 scan_place backslash_place before = after_backslash before
@@ -30,7 +30,7 @@ unit_ends : (unit : FoldUnit) (quoted : Option Quoted) → Ends (with_unit unit 
 unit_ends unit None h = h
 unit_ends unit (Some quoted) h = h
 
--- what the rest of a word is to the tokens
+-- the tokens of the rest of a word
 abbrev pub GivesWord : Bool → FlowPlace → (before t rest : Text) → Type 0
 GivesWord breaks12 place before t rest = flow_tokens breaks12 place (t ++ rest) ≡ word (before ++ t) ∷ flow_tokens breaks12 free rest
 
@@ -106,11 +106,11 @@ is_quoted breaks12 (c ∷ t) between ends before rest = at_between breaks12 c t 
 is_quoted breaks12 (c ∷ t) backslash_place ends before rest = at_backslash breaks12 c t (is_quoted breaks12 t) ends before rest
 is_quoted breaks12 (c ∷ t) (within_digits more number) ends before rest = at_digits breaks12 c t more number (is_quoted breaks12 t) ends before rest
 
--- what reads alone leaves nothing
+-- a text that reads alone leaves nothing
 alone_ends : (quoted : Option Quoted) (v : Text) → value_alone (quoted_reading quoted) ≡ Some v → Ends quoted
 alone_ends quoted v e = grind (arith, none_not_some)
 
--- what reads as double-quoted is a word after its first quote, and after whatever stands before that
+-- a text that reads as double-quoted is a word after its first quote, and after any text before that
 pub double_quoted_word : (breaks12 : Bool) (before t rest v : Text) → read_double breaks12 (0x22 ∷ t) ≡ Some v
     → GivesWord breaks12 (in_double (before ++ (0x22 ∷ []))) (before ++ (0x22 ∷ [])) t rest
 double_quoted_word breaks12 before t rest v read =
@@ -159,7 +159,7 @@ is_unquoted breaks12 (c ∷ []) closes before rest h = at_closing breaks12 c clo
 is_unquoted breaks12 (c ∷ d ∷ t) closes before rest h =
     at_inside breaks12 c d t (is_unquoted breaks12 t) (is_unquoted breaks12 (d ∷ t)) closes before rest h
 
--- what reads as single-quoted is a word after its first quote, before what is no quote
+-- a text that reads as single-quoted is a word after its first quote, before a text that begins with no quote
 pub single_quoted_word : (breaks12 : Bool) (before t rest v : Text) → read_single breaks12 (0x27 ∷ t) ≡ Some v → begins_unquoted rest ≡ true
     → GivesWord breaks12 (in_single (before ++ (0x27 ∷ []))) (before ++ (0x27 ∷ [])) t rest
 single_quoted_word breaks12 before t rest v read h =

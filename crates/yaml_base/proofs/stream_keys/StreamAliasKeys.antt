@@ -8,7 +8,7 @@ use Rattle.yaml_base.proofs.stream_keys.StreamKeys.{NoKey, found, key_found}
 abbrev spaced : Text → Text
 spaced name = name ++ (space ∷ [])
 
--- no `:` stands in a name and the space after it
+-- a name and the space after it hold no `:`
 name_no_key : (rules : Rules) (before name after : Text) → list_all is_alpha name ≡ true → NoKey rules before (spaced name) after
 name_no_key rules before [] after h = ((λ e. absurd (false≢true e)), tt)
 name_no_key rules before (c ∷ name) after h =

@@ -1,5 +1,5 @@
--- The body of a simple key: its value has no break and no fold stands in it, so that its text is the value's characters, each as
--- its style writes it, on one line.
+-- The body of a simple key: its value has no break and it has no fold, so that its text is the value's characters, each as its style writes it, on
+-- one line.
 use Rattle.yaml_base.proofs.Common.{suc, zero, ℕ, ◌/◌, if◌then◌else◌, ◌==◌, Option, None, Some, nat_le, Bool, false, not, true, ◌&&◌, ◌||◌, List, [], ◌++◌}
 use Rattle.yaml_base.proofs.Common.{◌∷◌, refl, ◌≡◌, eqb-true, append-nil, append_assoc, ap, sym, ◌∙◌, arith, and_parts, or_parts, agree_below_at, false≢true}
 use Rattle.yaml_base.proofs.Common.{nat_tests, flat_map, list_any, Text, space, is_space, is_break, hex_digits, Cursor, and-false, ScalarStyle, any_style}
@@ -10,18 +10,18 @@ use Rattle.yaml_base.{specs.scalars.DoubleQuoted.quote, specs.scalars.DoubleQuot
 
 -- Without folds
 
--- how a style writes a text, character by character; a space stands for itself
+-- the text of a style, character by character; a space means itself
 pub record Writes (written : Text → Text) (one : ℕ → Text) : Type 0 where
   pub nothing : written [] ≡ []
   pub more : (c : ℕ) (t : Text) → written (c ∷ t) ≡ one c ++ written t
   pub space : (c : ℕ) → is_space c ≡ true → one c ≡ c ∷ []
 
--- the texts of runs in which no fold stands
+-- the texts of runs without a fold
 abbrev run_texts : (Text → Text) → ℕ → List Run → Text
 run_texts written indent [] = []
 run_texts written indent (run ∷ more) = run_text written false indent run.kind run.text ++ run_texts written indent more
 
--- without a limit no fold stands
+-- without a limit there is no fold
 unfolded_runs : (written : Text → Text) (indent : ℕ) (edge : Bool) (all : List Run) (cursor : Cursor)
     → (render_runs written None indent edge all cursor).text ≡ run_texts written indent all
 unfolded_runs written indent edge [] cursor = refl
@@ -41,11 +41,11 @@ runs_alone : (written : Text → Text) (one : ℕ → Text) (writes : Writes wri
 runs_alone written one writes indent value cursor h =
     unfolded_runs written indent true (runs value) cursor ∙ written_alone written one writes indent value h
 
--- plain text stands for itself
+-- plain text means itself
 plain_writes : Writes (λ text. text) (λ c. c ∷ [])
 plain_writes = record { nothing = refl; more = λ c t. refl; space = λ c h. refl }
 
--- in single quotes a quote stands twice
+-- in single quotes a quote is written twice
 abbrev pub quote_doubled : ℕ → Text
 quote_doubled c = if c == 39 then 39 ∷ 39 ∷ [] else c ∷ []
 

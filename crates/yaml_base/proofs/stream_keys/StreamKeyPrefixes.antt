@@ -1,4 +1,4 @@
--- What a line with a simple key begins with: no space, no indicator of an entry and no marker.
+-- The beginning of a line with a simple key: no space, no indicator of an entry and no marker.
 use Rattle.yaml_base.proofs.Common.{nat_tests, arith, ℕ, if◌then◌else◌, ◌==◌, Option, Some, codes, Bool, false, true, ◌||◌, [], ◌++◌, ◌∷◌, refl, ◌≡◌, eqb-true}
 use Rattle.yaml_base.proofs.Common.{true≢false, ap, subst, sym, ◌∙◌, or_parts, false≢true, Text, is_among, space, begins_with_three, begins_no_plain}
 use Rattle.yaml_base.proofs.Common.{ParsedTag, Tree, begins_with_marker, marker_of, begins_with_indicator, key_of_text, key_entry, value_entry, simple_entry}
@@ -19,7 +19,7 @@ pub record KeyPrefix (text : Text) : Type 0 where
 pub prefix_markerless : (text : Text) → KeyPrefix text → (after : Text) → is_markerless (marker_of (text ++ (0x3A ∷ after))) ≡ true
 prefix_markerless text prefix after = grind (arith)
 
--- such a text is a simple key's, where it is cut off
+-- such a text is a simple key's, if it is cut off
 pub key_fits : (rules : Rules) (text : Text) (tree : Tree) → KeyPrefix text → KeyText rules.breaks12 text → ((after : Text) → NoKey rules [] text after)
     → key_of_text rules text ≡ Some tree → KeyFits rules text tree
 key_fits rules text tree prefix of clear read = record {
@@ -37,18 +37,18 @@ key_fits rules text tree prefix of clear read = record {
   cut = λ after h. key_found rules [] text after tree (clear after) read h;
 }
 
--- what begins with none of these characters
+-- a text that begins with none of these characters
 pub other_prefix : (c : ℕ) (t : Text) → (c == space) ≡ false → is_among (codes "?:-.") c ≡ false → KeyPrefix (c ∷ t)
 other_prefix c t shows other = grind (arith, not_among, false≢true)
 
--- properties begin with `&` or `!`, and else it is what follows them
+-- properties begin with `&` or `!`; without them the text after them begins
 pub lead_prefix : (rules : Rules) (anchor tag : Option Text) (parsed : Option ParsedTag) (rest : Text) → Given rules anchor tag parsed → KeyPrefix rest
     → KeyPrefix (lead anchor tag ++ rest)
 lead_prefix rules anchor tag parsed rest h k = grind (arith, nat_tests, other_prefix)
 
 -- Plain text
 
--- what stands after an indicator that plain text begins with isn't white
+-- the text after an indicator that plain text begins with isn't white
 plain_indicator : (breaks12 : Bool) (c : ℕ) (t after : Text) → begins_no_plain breaks12 (c ∷ t) ≡ false → (symbol : ℕ) → is_among (codes "?:-") symbol ≡ true
     → begins_with_indicator symbol ((c ∷ t) ++ (0x3A ∷ after)) ≡ false
 plain_indicator breaks12 c t after h symbol member = grind (arith, true≢false, eqb-true, or_parts)
@@ -58,7 +58,7 @@ plain_marker : (c : ℕ) (t after : Text) (symbol : ℕ) → (0x3A == symbol) �
     ((c ∷ t) ++ (0x3A ∷ after)) ≡ false
 plain_marker c t after symbol h k = grind (arith, nat_tests)
 
--- what plain text begins with
+-- the beginning of plain text
 pub plain_prefix : (breaks12 : Bool) (c : ℕ) (t : Text) → begins_no_plain breaks12 (c ∷ t) ≡ false → Begins c → KeyPrefix (c ∷ t)
 plain_prefix breaks12 c t h b =
     let three = or_parts _ _ (or_parts _ _ (or_parts _ _ h).0).0 in

@@ -22,13 +22,13 @@ content_other : (rules : Rules) (properties : Properties) (c : ℕ) (t : Text) �
     → reads_alias (word_after rules false None properties (c ∷ t)) ≡ false
 content_other rules properties c t star = kind_other (kind_of_word (c ∷ t)) rules false properties (c ∷ t) (not_star c t star)
 
--- no alias stands before the last space
+-- no alias precedes the last space
 lead_no_alias : (rules : Rules) (anchor tag : Option Text) (parsed : Option ParsedTag) (c : ℕ) (t : Text) → Given rules anchor tag parsed
     → begins_content (c ∷ t) ≡ true → (c == 0x2A) ≡ false → option_and_then (word_of_alias rules) (without_last_space (lead anchor tag ++ (c ∷ t))) ≡ None
 lead_no_alias rules anchor tag parsed c t h k e =
     grind (arith, nat_tests, no_alias_before, and_parts, alias_left, given_reads, content_other, false≢true, anchor_no_alias, tag_no_alias)
 
--- a text after properties is a key where it is a word after them
+-- a text after properties is a key if it is a word after them
 lead_key_text : (rules : Rules) (anchor tag : Option Text) (parsed : Option ParsedTag) (c : ℕ) (t : Text) (read : Option Tree) → Given rules anchor tag parsed
     → begins_content (c ∷ t) ≡ true → (c == 0x2A) ≡ false → word_after rules false None (record { anchor = anchor; tag = parsed }) (c ∷ t) ≡ read
     → key_of_text rules (lead anchor tag ++ (c ∷ t)) ≡ (if nat_le (length (lead anchor tag ++ (c ∷ t))) longest_key then read else None)
@@ -36,7 +36,7 @@ lead_key_text rules anchor tag parsed c t read given own star e =
     key_by_word rules _ read (ap (option_and_then (λ tree. if is_alias tree then None else Some tree)) (given_reads rules false _ tag _ _ given own)
     ∙ other_kept _ (content_other rules _ c t star) ∙ e) (lead_no_alias rules _ tag _ c t given own star)
 
--- where it is none it is no key
+-- if it is none it is no key
 pub lead_no_text : (rules : Rules) (anchor tag : Option Text) (parsed : Option ParsedTag) (c : ℕ) (t : Text) → Given rules anchor tag parsed
     → begins_content (c ∷ t) ≡ true → (c == 0x2A) ≡ false → word_after rules false None (record { anchor = anchor; tag = parsed }) (c ∷ t) ≡ None
     → key_of_text rules (lead anchor tag ++ (c ∷ t)) ≡ None
@@ -47,14 +47,14 @@ lead_no_text rules anchor tag parsed c t given own star none =
     neither true = refl
     neither false = refl
 
--- where it is one that isn't too long it is a key
+-- if it is one that isn't too long it is a key
 lead_text : (rules : Rules) (anchor tag : Option Text) (parsed : Option ParsedTag) (c : ℕ) (t : Text) (tree : Tree) → Given rules anchor tag parsed
     → begins_content (c ∷ t) ≡ true → (c == 0x2A) ≡ false → word_after rules false None (record { anchor = anchor; tag = parsed }) (c ∷ t) ≡ Some tree
     → nat_le (length (lead anchor tag ++ (c ∷ t))) longest_key ≡ true → key_of_text rules (lead anchor tag ++ (c ∷ t)) ≡ Some tree
 lead_text rules anchor tag parsed c t tree given own star e short =
     lead_key_text rules anchor tag parsed c t (Some tree) given own star e ∙ ap (λ x. if x then Some tree else None) short
 
--- what a text after properties is to a line
+-- the reading of a text after properties as the beginning of a line
 pub record KeyRead (rules : Rules) (text : Text) (tree : Tree) : Type 0 where
   pub clear : (after : Text) → NoKey rules [] text after
   pub reads : key_of_text rules text ≡ Some tree

@@ -1,15 +1,15 @@
--- A simple key in quotes is found where its text ends, before the `:` that follows it.
+-- A simple key in quotes is found at its text's end, before the `:` that follows it.
 use Rattle.yaml_base.proofs.Common.{arith, ℕ, if◌then◌else◌, ◌==◌, option_map, option_and_then, Option, None, Some, nat_le, length, Bool, false, true, ◌&&◌, []}
 use Rattle.yaml_base.proofs.Common.{◌++◌, ◌∷◌, refl, ◌≡◌, append_assoc, ap, sym, ◌∙◌, option_or, Text, space, Stood, Tree, longest_key, ends_indicator, Rules}
 use Rattle.yaml_base.proofs.Common.{SimpleKey, without_last_space, word_but_alias, word_of_alias, key_of_text, key_ends, key_from, Properties, scalar_parsed}
 
--- no `:` inside a text ends a key, where so much stands before it and a `:` after it
+-- no `:` inside a text ends a key, if that much precedes it and a `:` follows it
 abbrev pub NoKey : Rules → Text → Text → Text → Type 0
 NoKey rules before [] after = Unit {0}
 NoKey rules before (c ∷ t) after =
     ((c == 0x3A && ends_indicator (t ++ (0x3A ∷ after))) ≡ true → key_of_text rules before ≡ None) × NoKey rules (before ++ (c ∷ [])) t after
 
--- a key, and what follows its `:`
+-- a key, and the text after its `:`
 abbrev pub found : Tree → Text → Text → Option SimpleKey
 found key text after = Some (record { key = key; length = length text; after = after })
 
@@ -34,7 +34,7 @@ pub none_parsed : (properties : Properties) (standing : Stood) (x : Bool)
     → ◌≡◌ {A = Option Tree} (scalar_parsed properties standing (if x then None else None)) None
 none_parsed properties standing x = grind (arith)
 
--- what no alias begins with none stands before a space
+-- a text that begins no alias begins none before a space
 pub no_alias_before : (rules : Rules) (q : ℕ) (t : Text) → (q == space) ≡ false → ((u : Text) → word_of_alias rules (q ∷ u) ≡ None)
     → option_and_then (word_of_alias rules) (without_last_space (q ∷ t)) ≡ None
 no_alias_before rules q [] other none = ap (λ x. option_and_then (word_of_alias rules) (if x then Some [] else None)) other
@@ -44,7 +44,7 @@ no_alias_before rules q (d ∷ t) other none = by (without_last_space (d ∷ t))
     by None = refl
     by (Some u) = none u
 
--- a text is a key where the word is, if no alias stands before its last space
+-- a text is a key if the word is, if no alias precedes its last space
 pub key_by_word : (rules : Rules) (text : Text) (word : Option Tree) → word_but_alias rules text ≡ word
     → option_and_then (word_of_alias rules) (without_last_space text) ≡ None
     → key_of_text rules text ≡ (if nat_le (length text) longest_key then word else None)

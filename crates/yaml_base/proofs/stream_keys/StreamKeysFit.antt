@@ -39,7 +39,7 @@ key_style s in_flow role column content = grind (arith, style_of_key, and-false)
 
 -- Scalars
 
--- what is asked of a scalar that is a simple key
+-- the conditions for a scalar that is a simple key
 pub record SimpleScalar (directives : List TagDirective) (canonical : Bool) (content : Scalar) : Type 0 where
   pub whole : list_any is_break content.value ≡ false
   pub short : byte_count content.value + name_count content.anchor + tag_count directives (scalar_tag canonical content) ≤ most_key_bytes
@@ -102,7 +102,7 @@ simple_collection canonical empty count h =
 
 -- In flow
 
--- what is rendered after a space is the key's text
+-- the rendered text after a space is the key's text
 cancelled : (cursor : Cursor) (text whole rendered : Text) → rendered ≡ space_if true cursor ++ (text ++ []) → rendered ≡ space_if true cursor ++ whole
     → text ≡ whole
 cancelled cursor text whole rendered e f = sym (append-nil text) ∙ append_cancel_left (space_if true cursor) (text ++ []) whole (sym e ∙ f)

@@ -1,4 +1,4 @@
--- No `:` in an anchor or a tag ends a key: what stands before it is no word, and no alias.
+-- No `:` in an anchor or a tag ends a key: the text before it is no word, and no alias.
 use Rattle.yaml_base.proofs.Common.{nat_tests, arith, ℕ, ◌+◌, if◌then◌else◌, ◌==◌, is_some, option_map, option_and_then, Option, None, Some, length, Bool}
 use Rattle.yaml_base.proofs.Common.{false, not, true, ◌||◌, [], ◌++◌, ◌∷◌, refl, ◌≡◌, eqb-true, true≢false, append-nil, append_assoc, ap, subst, sym, ◌∙◌}
 use Rattle.yaml_base.proofs.Common.{and_parts, and_from, false≢true, list_all, Text, space, is_alpha, ParsedTag, parse_tag, Stood, Tree, is_alias}
@@ -11,12 +11,12 @@ use Rattle.yaml_base.proofs.stream_keys.StreamKeys.{NoKey, no_alias_before, key_
 
 -- Texts in which no key ends
 
--- before each `:` of a text, where so much stands before it, is no key
+-- no key ends at any `:` of a text, if that much precedes it
 abbrev pub KeyNowhere : Rules → Text → Text → Type 0
 KeyNowhere rules before [] = Unit {0}
 KeyNowhere rules before (c ∷ t) = ((c == 0x3A) ≡ true → key_of_text rules before ≡ None) × KeyNowhere rules (before ++ (c ∷ [])) t
 
--- no key ends in it, nor in what follows it
+-- no key ends in it, nor in the text after it
 pub nowhere_then : (rules : Rules) (before a t after : Text) → KeyNowhere rules before a → NoKey rules (before ++ a) t after → NoKey rules before (a ++ t) after
 nowhere_then rules before [] t after none clear = subst (λ b. NoKey rules b t after) (append-nil before) clear
 nowhere_then rules before (c ∷ a) t after none clear = (
@@ -43,12 +43,12 @@ nowhere_both rules before (c ∷ a) b one two =
 
 -- No alias
 
--- whether what is read is an alias
+-- whether the tree that is read is an alias
 abbrev pub reads_alias : Option Tree → Bool
 reads_alias None = false
 reads_alias (Some tree) = is_alias tree
 
--- what is none is left by both tests
+-- a tree that is none is left by both tests
 pub alias_left : (read : Option Tree) → reads_alias read ≡ false → option_and_then (λ tree. if is_alias tree then Some tree else None) read ≡ None
 alias_left None h = refl
 alias_left (Some tree) h = ap (λ x. if x then Some tree else None) h
@@ -79,7 +79,7 @@ properties_other rules flow properties text h = grind (arith, false≢true, kind
 
 -- Properties alone
 
--- what a word reads as after properties that were read
+-- the reading of a word after properties that were read
 abbrev after_read : Rules → Bool → Option PropertiesRead → Option Tree
 after_read rules flow found = option_and_then (λ read. word_after rules flow None read.properties (past_indentation read.text).text) found
 

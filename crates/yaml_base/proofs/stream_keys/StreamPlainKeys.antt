@@ -1,4 +1,4 @@
--- A plain simple key is found where its text ends, before the `:` that follows it.
+-- A plain simple key is found at its text's end, before the `:` that follows it.
 use Rattle.yaml_base.proofs.Common.{arith, nat_tests, ℕ, if◌then◌else◌, ◌==◌, None, Some, codes, Bool, false, true, ◌||◌, [], map, ◌++◌, ◌∷◌, refl, ◌≡◌}
 use Rattle.yaml_base.proofs.Common.{eqb-true, true≢false, and_parts, or_parts, false≢true, Text, is_among, space, plain, unit_of, folding_read, is_read_white}
 use Rattle.yaml_base.proofs.{stream_keys.StreamKeys.NoKey, stream_lines.StreamCuts.none_not_some}
@@ -8,7 +8,7 @@ use Rattle.yaml_base.proofs.Common.{begins_no_plain, holds_no_plain, read_plain,
 pub not_among : (set : Text) (c n : ℕ) → is_among set n ≡ true → is_among set c ≡ false → (c == n) ≡ false
 not_among set c n member h = grind (arith, true≢false, eqb-true)
 
--- what a first character of plain text isn't
+-- the characters that plain text doesn't begin with
 pub record Begins (c : ℕ) : Type 0 where
   pub anchor : (c == 0x26) ≡ false
   pub blank : (c == space) ≡ false
@@ -40,7 +40,7 @@ plain_no_key rules before (c ∷ t) after h =
     let parts = or_parts _ _ h in
     grind (arith, or_parts, and_parts, false≢true, true≢false, eqb-true, plain_no_key rules (before ++ (c ∷ [])) t after parts.1)
 
--- what reads as plain begins so and holds no such indicator
+-- a text that reads as plain begins so and holds no such indicator
 pub reads_plain : (breaks12 flow : Bool) (c : ℕ) (t v : Text) → read_plain breaks12 flow (c ∷ t) ≡ Some v
     → (begins_no_plain breaks12 (c ∷ t) ≡ false) × (holds_no_plain breaks12 flow (c ∷ t) ≡ false)
 reads_plain breaks12 flow c t v read = by (begins_no_plain breaks12 (c ∷ t)) (holds_no_plain breaks12 flow (c ∷ t)) read

@@ -1,4 +1,4 @@
--- Each simple key of the layout in a block is cut off before its `:`, where its names and its body stand.
+-- Each simple key of the layout in a block is cut off before its `:`, if its names and its body are readable.
 use Rattle.yaml_base.proofs.Common.{nat_tests, suc, ℕ, ◌+◌, ◌≤◌, if◌then◌else◌, is_some, Option, None, Some, nat_le, length, Bool, false, not, true, List, []}
 use Rattle.yaml_base.proofs.Common.{◌++◌, ◌∷◌, refl, ◌≡◌, le-leb, leb-true, length-append, true≢false, ap, subst, sym, ◌∙◌, arith, and_parts, false≢true}
 use Rattle.yaml_base.proofs.Common.{flat_map, list_all, Text, space, is_alpha, Cursor, Rendered, space_if, ScalarStyle, any_style, plain, single_quoted}
@@ -32,7 +32,7 @@ plain_not_empty s in_flow role column content h = grind (arith, and_parts, plain
 
 -- Scalars
 
--- names that stand are read as they were given
+-- readable names are read as they were given
 written_given : (s : Effective) (own directives : List TagDirective) (anchor tag : Option Text) (bare : Bool) → IsNamed anchor
     → TagStands s.portable own directives tag → Given (rules_of s own) anchor (tag_written s.portable directives tag bare) (tag_meant tag bare)
 written_given s own directives anchor tag bare named stands =
@@ -75,12 +75,12 @@ scalar_key_fits s own anchor tag given_tag any_style bare column value given flo
 scalar_key_fits s own anchor tag given_tag literal bare column value given flow h some tidy read of = absurd (false≢true flow)
 scalar_key_fits s own anchor tag given_tag folded bare column value given flow h some tidy read of = absurd (false≢true flow)
 
--- a space stands before each body but an empty plain one, where one is needed
+-- a space precedes each body but an empty plain one, if one is needed
 separated : (style : ScalarStyle) (value : Text) (cursor : Cursor) → (is_plain style ≡ true → is_empty value ≡ false)
     → (render_separation style false value cursor).text ≡ space_if true cursor
 separated style value cursor h = grind (arith, nat_tests)
 
--- the body that is rendered for a scalar at its place, where it is a simple key or not
+-- the body that is rendered for a scalar at its place, as a simple key or not
 abbrev body_where : Effective → List TagDirective → Place → (simple : Bool) → Scalar → Cursor → Body
 body_where s directives place simple content cursor =
     let choice = choice_of s place simple content in

@@ -1,4 +1,4 @@
--- How a block scalar leaves off: at a line's start where its value ends in a break, and elsewhere after an indicator that strips.
+-- The end of a block scalar: at a line's start if its value ends in a break, and elsewhere after an indicator that strips.
 use Rattle.yaml_base.proofs.Common.{ℕ, ◌+◌, ◌≤◌, if◌then◌else◌, ◌==◌, Option, Bool, false, not, true, ◌&&◌, ◌||◌, List, [], ◌++◌, ◌∷◌, refl, ◌≡◌, true≢false}
 use Rattle.yaml_base.proofs.Common.{append_assoc, ap, sym, ◌∙◌, arith, or_parts, false≢true, nat_tests, Text, line_feed, line_separator, paragraph_separator}
 use Rattle.yaml_base.proofs.Common.{is_space, is_break, is_printable, Cursor, column_after, ScalarStyle, not-true, not-false, is_read_break, strip}
@@ -17,7 +17,7 @@ pub record EndsBreak (text : Text) : Type 0 where
   pub is : text ≡ prefix ++ (last ∷ [])
   pub breaks : is_break last ≡ true
 
--- what is seen to end in a break does
+-- a text that is seen to end in a break does
 pub ending_breaks : (value : Text) → ends_in_break (ending value) ≡ true → EndsBreak value
 ending_breaks [] h = absurd (false≢true h)
 ending_breaks (c ∷ []) h = by (is_break c) refl h
@@ -112,7 +112,7 @@ column_ended (c ∷ prefix) b column h = column_ended prefix b (next_column c co
 
 -- Characters
 
--- what holds nowhere doesn't at the end
+-- a test that passes nowhere doesn't pass at the end
 nowhere_last : (test : ℕ → Text → Bool) (prefix : Text) (b : ℕ) → somewhere test (prefix ++ (b ∷ [])) ≡ false → test b [] ≡ false
 nowhere_last test [] b h = (or_parts (test b []) false h).0
 nowhere_last test (c ∷ prefix) b h = nowhere_last test prefix b (or_parts (test c (prefix ++ (b ∷ []))) (somewhere test (prefix ++ (b ∷ []))) h).1
@@ -144,14 +144,14 @@ last_is_read charset value end allowed =
 pub hint_text : (hint : Text) (cursor : Cursor) → (render_hint hint cursor).text ≡ hint
 hint_text hint cursor = grind (arith, nat_tests)
 
--- where a value ends in no break the header strips
+-- if a value ends in no break the header strips
 pub strips : (best_indent : ℕ) (value rest : Text) → 2 ≤ best_indent → best_indent ≤ 9 → ends_in_break (ending value) ≡ false
     → chomping_first (after_digit ((indentation_hint best_indent value ++ ending_hint (ending value)) ++ rest)) ≡ strip
 strips best_indent value rest low high h = grind (arith, true≢false)
 
 -- Styles
 
--- a block style is chosen only where it fits
+-- a block style is chosen only if it fits
 pub block_fitting : (allowed : Allowances) (plain_fits block_fits : Bool) (asked : ScalarStyle)
     → is_block (fitting_style allowed plain_fits block_fits asked) ≡ true → block_fits ≡ true
 block_fitting allowed plain_fits block_fits asked h = grind (arith, nat_tests, false≢true)

@@ -25,14 +25,14 @@ style_shown style c h = grind (arith, nat_tests, or_left)
 pub tidy_rendered : (style : ScalarStyle) (text : Text) → list_all (is_tidy_character style) text ≡ true → is_rendered_text text ≡ true
 tidy_rendered style text h = printable_rendered text (all_pass (is_tidy_character style) is_shown (style_shown style) text h)
 
--- however its breaks are written, such a text may stand raw
+-- in whatever form its breaks are written, such a text may be raw
 pub printable_raw : (setting : LineBreak) (text : Text) → list_all is_shown text ≡ true → list_all may_stand_raw (with_breaks_written setting text) ≡ true
 printable_raw setting [] h = refl
 printable_raw setting (c ∷ rest) h =
     let parts = and_parts (is_shown c) (list_all is_shown rest) h in
     grind (arith, nat_tests, and_parts, list_all-append, and_from, false≢true, printable_raw setting rest parts.1)
 
--- such a text with its breaks written reads as the documents of the text, where it has some
+-- such a text with its breaks written reads as the documents of the text, if it has some
 pub trees_of_text : (breaks12 : Bool) (setting : LineBreak) (text : Text) (documents : List DocumentTree) → list_all is_shown text ≡ true
     → documents_of breaks12 text ≡ Some documents → text_trees breaks12 (with_breaks_written setting text) ≡ Some documents
 trees_of_text breaks12 setting text documents h is =

@@ -7,7 +7,7 @@ use Rattle.yaml_base.proofs.stream_lines.StreamLineLaws.{is_closed, OneLine, bre
 
 -- Cursors
 
--- the break that a new line begins with, which is there already where indentation goes on
+-- the break that a new line begins with, which is there already if indentation goes on
 abbrev pub closing : Cursor → Text
 closing cursor = if cursor.indention then [] else line_feed ∷ []
 
@@ -15,7 +15,7 @@ closing cursor = if cursor.indention then [] else line_feed ∷ []
 abbrev pub closed : Rendered → Text
 closed rendered = rendered.text ++ closing rendered.cursor
 
--- indentation goes on only where a line begins
+-- indentation goes on only if a line begins
 abbrev pub Settled : Cursor → Type 0
 Settled cursor = cursor.indention ≡ true → (cursor.column ≡ 0) × (cursor.whitespace ≡ true)
 
@@ -23,11 +23,11 @@ Settled cursor = cursor.indention ≡ true → (cursor.column ≡ 0) × (cursor.
 pub new_line_closes : (e : ℕ) (cursor : Cursor) → Settled cursor → (new_line e cursor).text ≡ closing cursor ++ spaces e
 new_line_closes e cursor settled = grind (arith, le-ltb)
 
--- the cursor behind the indicator of an entry at a column
+-- the cursor after the indicator of an entry at a column
 abbrev pub indicator_cursor : ℕ → Cursor
 indicator_cursor e = record { column = e + 1; whitespace = false; indention = true }
 
--- the cursor where an entry at a column begins
+-- the cursor at which an entry at a column begins
 abbrev pub margin_cursor : ℕ → Cursor
 margin_cursor e = record { column = e; whitespace = true; indention = true }
 
@@ -69,7 +69,7 @@ begins_cons breaks12 c t = by (is_read_break breaks12 c) refl (lines_of breaks12
       is = ap (λ x. prepend_character x c (lines_of breaks12 t)) h ∙ ap (prepend_to_first_line c) e;
     }
 
--- a text on one line stands before the first line of what follows
+-- a text on one line precedes the first line of the text after it
 pub lines_behind : (breaks12 : Bool) (a t head ending : Text) (rest : List Line) → OneLine breaks12 a
     → lines_of breaks12 t ≡ record { text = head; ending = ending } ∷ rest
     → lines_of breaks12 (a ++ t) ≡ record { text = a ++ head; ending = ending } ∷ rest
@@ -105,7 +105,7 @@ closed_behind breaks12 [] c t h = h
 closed_behind breaks12 (d ∷ []) c t h = h
 closed_behind breaks12 (d ∷ e ∷ a) c t h = closed_behind breaks12 (e ∷ a) c t h
 
--- a text ends as what stands at its end
+-- a text ends as the text at its end does
 pub closed_alike : (breaks12 : Bool) (a b : Text) (c : ℕ) (t : Text) → is_closed breaks12 (b ++ (c ∷ t)) ≡ true → is_closed breaks12 (a ++ (c ∷ t)) ≡ true
 closed_alike breaks12 a b c t h = closed_behind breaks12 a c t (sym (ends b) ∙ h)
   where

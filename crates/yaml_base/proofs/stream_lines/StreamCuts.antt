@@ -1,4 +1,4 @@
--- What reads is what is cut off: no proper prefix of a quoted text is one, and a longer text begins with it.
+-- A text that reads is the one that is cut off: no proper prefix of a quoted text is one, and a longer text begins with it.
 use Rattle.yaml_base.proofs.Common.{arith, nat_tests, ℕ, if◌then◌else◌, ◌==◌, option_map, Option, None, Some, Bool, false, true, [], map, ◌++◌, ◌∷◌, refl, ◌≡◌}
 use Rattle.yaml_base.proofs.Common.{true≢false, ap, sym, ◌∙◌, Text, QuotePlace, between, Quoted, with_unit, after_step, quoted_from, quoted_reading}
 use Rattle.yaml_base.proofs.Common.{value_before, value_alone, read_double, FoldUnit, unit_of, folding_read, unquoted, read_single, ScalarStyle, single_quoted}
@@ -11,7 +11,7 @@ none_not_some {A} {v} e = grind (arith, nat_tests, true≢false)
 
 -- Double quotes
 
--- a reading of a text is one of a longer text, with what follows after it
+-- a reading of a text is one of a longer text, with the rest after it
 abbrev Extends : Text → Option Quoted → Option Quoted → Type 0
 Extends r None longer = Unit {0}
 Extends r (Some quoted) longer = longer ≡ Some (record { units = quoted.units; rest = quoted.rest ++ r })
@@ -30,7 +30,7 @@ from_extends breaks12 r (c ∷ t) place =
     step_extends r (quote_step breaks12 place c) (λ p. quoted_from breaks12 p t) (λ p. quoted_from breaks12 p (t ++ r)) t
     (λ p. from_extends breaks12 r t p)
 
--- a text that goes on only adds to what its quoted value leaves
+-- a text that goes on only adds to the rest after its quoted value
 abbrev PrefixExtends : Text → Option QuotedReading → Option QuotedReading → Type 0
 PrefixExtends r None longer = Unit {0}
 PrefixExtends r (Some reading) longer = longer ≡ Some (record { value = reading.value; rest = reading.rest ++ r })
@@ -59,7 +59,7 @@ double_quoted_whole breaks12 t c rest v read = by (double_quoted_prefix breaks12
 
 -- Single quotes
 
--- no proper prefix of what a quote closes is such a text, where no quote follows it
+-- no proper prefix of a text that a quote closes is such a text, if no quote follows it
 pub unquoted_whole : (t : Text) (c : ℕ) (rest : Text) → (c == 39) ≡ false → (unquoted (t ++ (c ∷ rest)) ≡ None → ⊥) → unquoted t ≡ None
 unquoted_whole [] c rest other h = refl
 unquoted_whole (a ∷ []) c rest other h = grind (arith)
@@ -74,7 +74,7 @@ unquoted_whole (a ∷ b ∷ t) c rest other h = by (a == 39) (b == 39) (unquoted
     by true false one two h = absurd (h refl)
     by false y one two h = ap (option_map (λ t. a ∷ t)) (two (λ e. h (ap (option_map (λ t. a ∷ t)) e)))
 
--- no proper prefix of a single-quoted text is one, where no quote follows it
+-- no proper prefix of a single-quoted text is one, if no quote follows it
 single_quoted_whole : (breaks12 : Bool) (t : Text) (c : ℕ) (rest v : Text) → (c == 39) ≡ false → read_single breaks12 (t ++ (c ∷ rest)) ≡ Some v
     → read_single breaks12 t ≡ None
 single_quoted_whole breaks12 [] c rest v other read = refl
@@ -99,12 +99,12 @@ abbrev pub quoted_in : (double : Bool) → ScalarStyle
 quoted_in true = double_quoted
 quoted_in false = single_quoted
 
--- what a text in such quotes reads as
+-- the reading of a text in such quotes
 abbrev pub read_quoted : (double : Bool) → (breaks12 : Bool) → Text → Option Text
 read_quoted true breaks12 text = read_double breaks12 text
 read_quoted false breaks12 text = read_single breaks12 text
 
--- no proper prefix of a quoted text is one, where no quote follows it
+-- no proper prefix of a quoted text is one, if no quote follows it
 pub quoted_whole : (double breaks12 : Bool) (t : Text) (c : ℕ) (rest v : Text) → (c == 39) ≡ false
     → read_quoted double breaks12 (t ++ (c ∷ rest)) ≡ Some v → read_quoted double breaks12 t ≡ None
 quoted_whole true breaks12 t c rest v other read = double_quoted_whole breaks12 t c rest v read

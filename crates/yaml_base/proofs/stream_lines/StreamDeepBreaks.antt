@@ -1,4 +1,4 @@
--- Texts after each of whose breaks something stands: another break, or spaces enough to stand deeper than a column.
+-- Texts in which another break, or spaces that reach past a column, follow each break.
 use Rattle.yaml_base.proofs.Common.{nat_tests, suc, zero, ℕ, ◌≤◌, ◌==◌, Bool, false, not, true, ◌&&◌, ◌||◌, [], ◌++◌, ◌∷◌, refl, ◌≡◌, ap, ◌∙◌, arith}
 use Rattle.yaml_base.proofs.Common.{and_parts, and_from, or_parts, false≢true, list_all, list_any, Text, line_feed, space, is_blank, Cursor, new_line}
 use Rattle.yaml_base.proofs.Common.{space_if, is_read_break, is_read_white, begins_with_spaces, begins_with_deep_line, has_deep_lines, ends_white, lines_of}
@@ -6,7 +6,7 @@ use Rattle.yaml_base.{proofs.Common.belongs_to_entry, proofs.Common.spaces, proo
 use Rattle.yaml_base.{proofs.stream_lines.StreamLineLaws.OneLine, specs.reading.TidyText.begins_with_break, proofs.stream_lines.StreamClosed.spaces_line}
 use Rattle.yaml_base.proofs.stream_lines.StreamTidyLaws.{first_text, lines_after_first, spaces_inside}
 
--- what stands after each break of a text passes a test
+-- the text after each break of a text passes a test
 abbrev pub after_breaks : Bool → (Text → Bool) → Text → Bool
 after_breaks breaks12 test [] = true
 after_breaks breaks12 test (c ∷ rest) = (not (is_read_break breaks12 c) || test rest) && after_breaks breaks12 test rest
@@ -15,7 +15,7 @@ after_breaks breaks12 test (c ∷ rest) = (not (is_read_break breaks12 c) || tes
 abbrev pub begins_deep : Bool → ℕ → Text → Bool
 begins_deep breaks12 count text = begins_with_break breaks12 text || begins_with_spaces count text
 
--- after each break of a text stands another, or so many spaces
+-- after each break of a text comes another, or that many spaces
 abbrev pub Deep : Bool → ℕ → Text → Type 0
 Deep breaks12 count text = after_breaks breaks12 (begins_deep breaks12 count) text ≡ true
 
@@ -37,7 +37,7 @@ after_both breaks12 test keeps (c ∷ a) b h k =
     let parts = and_parts (not (is_read_break breaks12 c) || test a) (after_breaks breaks12 test a) h in
     grind (arith, and_parts, and_from, after_both breaks12 test keeps a b parts.1 k)
 
--- what passes a test after each break passes a weaker one there
+-- a text that passes a test after each break passes a weaker one there
 pub after_weaker : (breaks12 : Bool) (test other : Text → Bool) → Implies test other → (t : Text) → after_breaks breaks12 test t ≡ true
     → after_breaks breaks12 other t ≡ true
 after_weaker breaks12 test other weaker [] h = refl
@@ -90,7 +90,7 @@ deep_new_line breaks12 count at cursor le = grind (arith, nat_tests, and_from, d
 
 -- Tidy texts
 
--- no break ends what doesn't end white
+-- no break ends a text that doesn't end white
 pub deep_tidy : (breaks12 : Bool) (count : ℕ) (t : Text) → has_deep_lines breaks12 count t ≡ true → ends_white breaks12 t ≡ false → Deep breaks12 count t
 deep_tidy breaks12 count [] h e = refl
 deep_tidy breaks12 count (c ∷ []) h e =
@@ -118,7 +118,7 @@ space_line breaks12 need cursor = grind (arith, spaces_line)
 
 -- Lines
 
--- the lines of a text and of the break that ends it, after the first, are so if what stands after each of its breaks is
+-- the lines of a text and of the break that ends it, after the first, are so if the text after each of its breaks is
 pub lines_pass : (breaks12 : Bool) (test line_test : Text → Bool)
     → ((u : Text) → test u ≡ true → line_test (first_text (lines_of breaks12 (u ++ (line_feed ∷ [])))) ≡ true)
     → (t : Text) → after_breaks breaks12 test t ≡ true

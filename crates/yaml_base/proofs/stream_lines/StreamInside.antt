@@ -10,7 +10,7 @@ inside_deeper s d zero t h = absurd (omega arith)
 inside_deeper s zero (suc e) t h = refl
 inside_deeper s (suc d) (suc e) t h = inside_deeper s d e t (omega arith)
 
--- what begins an entry: no space, and in a mapping no `-`
+-- the beginning of an entry: no space, and in a mapping no `-`
 abbrev pub begins_entry : (in_sequence : Bool) → Text → Bool
 begins_entry s [] = false
 begins_entry s (c ∷ t) = not (c == space) && (s || not (begins_with_indicator 0x2D (c ∷ t)))
@@ -21,17 +21,17 @@ outside s e [] h = absurd (false≢true h)
 outside s zero (c ∷ t) h = grind (arith, false≢true)
 outside s (suc e) (c ∷ t) h = outside s e (c ∷ t) h
 
--- what stands at a column after spaces
+-- the text at a column after spaces
 pub past_spaces : (e : ℕ) (t : Text) → past_column e (spaces e ++ t) ≡ Some t
 past_spaces zero t = refl
 past_spaces (suc e) t = past_spaces e t
 
--- a text that begins with no space stands where the spaces before it end
+-- a text that begins with no space is at the column at which the spaces before it end
 pub indented_spaces : (e c : ℕ) (t : Text) → (c == space) ≡ false → past_indentation (spaces e ++ (c ∷ t)) ≡ record { column = e; text = c ∷ t }
 indented_spaces zero c t h = ap (λ b. indented_step b (c ∷ t) (past_indentation t)) h
 indented_spaces (suc e) c t h = ap (λ l. record { column = suc l.column; text = l.text }) (indented_spaces e c t h)
 
--- a line isn't blank where something stands after its spaces
+-- a line isn't blank if something follows its spaces
 pub not_blank : (e c : ℕ) (t : Text) → (c == space) ≡ false → is_spaces (spaces e ++ (c ∷ t)) ≡ false
 not_blank zero c t h = ap (λ b. b && is_spaces t) h
 not_blank (suc e) c t h = not_blank e c t h

@@ -9,7 +9,7 @@ is_closed breaks12 [] = true
 is_closed breaks12 (c ∷ []) = is_read_break breaks12 c
 is_closed breaks12 (c ∷ d ∷ rest) = is_closed breaks12 (d ∷ rest)
 
--- what isn't white is no space and no break
+-- a character that isn't white is no space and no break
 pub not_white : (breaks12 : Bool) (c : ℕ) → is_read_white breaks12 c ≡ false → is_space_or_break breaks12 c ≡ false
 not_white breaks12 c h = grind (arith, or_parts, or_from)
 
@@ -33,7 +33,7 @@ before_both b d c e lines more = grind (arith, nat_tests)
 break_alone : (b : Bool) (c : ℕ) (more : List Line) → b ≡ true → prepend_character b c more ≡ prepend_character b c [] ++ more
 break_alone b c more h = ap (λ x. prepend_character x c more) h ∙ sym (ap (λ x. prepend_character x c [] ++ more) h)
 
--- after a break the lines of what follows stand by themselves
+-- after a break the lines of the rest are by themselves
 pub lines_after_break : (breaks12 : Bool) (text rest : Text) → is_closed breaks12 text ≡ true
     → lines_of breaks12 (text ++ rest) ≡ lines_of breaks12 text ++ lines_of breaks12 rest
 lines_after_break breaks12 [] rest h = refl
@@ -47,7 +47,7 @@ one_line_both breaks12 (c ∷ a) b h k =
     let parts : (is_read_break breaks12 c ≡ false) × OneLine breaks12 a = or_parts (is_read_break breaks12 c) (list_any (is_read_break breaks12) a) h in
     ap (λ x. x || list_any (is_read_break breaks12) (a ++ b)) parts.0 ∙ one_line_both breaks12 a b parts.1 k
 
--- what breaks no line in a value breaks none that is read
+-- a character that breaks no line in a value breaks none that is read
 pub break_line : (breaks12 : Bool) (c : ℕ) → is_break c ≡ false → is_read_break breaks12 c ≡ false
 break_line breaks12 c h = grind (arith, nat_tests)
 

@@ -14,7 +14,7 @@ use Rattle.yaml_base.proofs.stream_nodes.StreamPairs.{PairFits, PairsFit, keyed_
 space_markerless : (t : Text) → is_markerless (marker_of (space ∷ t)) ≡ true
 space_markerless t = grind (arith, nat_tests)
 
--- nor is one that begins with a `-` and what an indicator opens
+-- nor is one that begins with a `-` and the text that an indicator opens
 dash_markerless : (t : Text) → ends_indicator t ≡ true → is_markerless (marker_of (0x2D ∷ t)) ≡ true
 dash_markerless t h = grind (arith, nat_tests, eqb-true)
 
@@ -48,7 +48,7 @@ pub items_markerless : (rules : Rules) (s : Effective) (directives : List TagDir
 items_markerless rules s directives items fit =
     all_markerless false (lines_of rules.breaks12 (items_text items s directives 0)) (items_inside rules s directives items 0 fit false 0 (omega arith))
 
--- no line of an indicator at column 0 and what it opens is one
+-- no line of an indicator at column 0 and the text that it opens is one
 indicated_markerless : (rules : Rules) (n : ℕ) (own : Rendered) (tree : Tree) (role : Role) (c : ℕ)
     (fit : Fits rules n own tree (entry_place false role 0) (indicator_cursor 0))
     → OneLine rules.breaks12 (c ∷ []) → ((t : Text) → is_markerless (marker_of (c ∷ t)) ≡ true)

@@ -12,7 +12,7 @@ is_markerless _ = false
 abbrev pub AllMarkerless : List Line → Type 0
 AllMarkerless lines = list_all (λ line. is_markerless (marker_of line.text)) lines ≡ true
 
--- lines without a marker stand before the first section
+-- lines without a marker precede the first section
 pub markerless_before : (body lines : List Line) → AllMarkerless body
     → sections_of (body ++ lines) ≡ record { before = body ++ (sections_of lines).before; sections = (sections_of lines).sections }
 markerless_before [] lines h = refl

@@ -1,4 +1,4 @@
--- A break more at the end of a block scalar that strips its final breaks doesn't change what it reads as.
+-- A break more at the end of a block scalar that strips its final breaks doesn't change its reading.
 use Rattle.yaml_base.proofs.Common.{nat_tests, arith, ℕ, if◌then◌else◌, option_map, Option, Some, Bool, false, List, [], ◌++◌, ◌∷◌, refl, ◌≡◌}
 use Rattle.yaml_base.proofs.Common.{ap, ◌∙◌, Text, line_feed, is_read_break, elements, strip, after_digit, chomping_first}
 use Rattle.yaml_base.specs.reading.ReadBlock.{Element, content, line_end, prepend_to_elements, prepend_element, detected_indentation, all_unindented}
@@ -35,7 +35,7 @@ unindented_more : (n : ℕ) (es : List Element) → all_unindented n (es ++ last
 unindented_more n [] = refl
 unindented_more n (e ∷ rest) = grind (arith, unindented_more n rest)
 
--- it is no content, and what is kept ends before it
+-- it is no content, and the kept lines end before it
 content_more : (es : List Element) → has_content (es ++ last_end) ≡ has_content es
 content_more [] = refl
 content_more (content text ∷ rest) = refl
@@ -47,7 +47,7 @@ kept_more [] = refl
 kept_more (content text ∷ rest) = ap (λ t. content text ∷ t) (kept_more rest)
 kept_more (line_end b ∷ rest) = grind (arith, content_more, kept_more rest)
 
--- and what they read as
+-- and their reading
 lines_more : (folded : Bool) (es : List Element) → lines_read folded strip (es ++ last_end) ≡ lines_read folded strip es
 lines_more folded es = ap (λ t. (if folded then unfolded false t else joined t) ++ []) (kept_more es)
 

@@ -6,7 +6,7 @@ use Rattle.yaml_base.proofs.stream_lines.StreamInside.{AllInside}
 
 -- Fewer spaces
 
--- fewer spaces than stand there
+-- fewer spaces than are there
 pub spaces_fewer : (m n : ℕ) (t : Text) → m ≤ n → begins_with_spaces n t ≡ true → begins_with_spaces m t ≡ true
 spaces_fewer zero n t le h = refl
 spaces_fewer (suc m) zero t le h = absurd (omega arith)
@@ -85,7 +85,7 @@ all_inside : (column : ℕ) (lines : List Line) → belongs_to_entry true column
 all_inside column [] h k = refl
 all_inside column (line ∷ rest) h k = and_from (belongs_to_entry true column line.text) (list_all (λ line. belongs_to_entry true column line.text) rest) h k
 
--- the lines of a text after its first are inside the column where they are deep
+-- the lines of a text after its first are inside the column if they are deep
 pub deep_lines_inside : (breaks12 : Bool) (column : ℕ) (t : Text) → has_deep_lines breaks12 (suc column) t ≡ true
     → AllInside true column (lines_after_first (lines_of breaks12 t))
 deep_lines_inside breaks12 column [] h = refl

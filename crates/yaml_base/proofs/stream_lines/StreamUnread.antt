@@ -1,4 +1,4 @@
--- No node is read of a line that begins with a directive's `%` or that is a document's marker: so what reads as a node is neither.
+-- No node is read of a line that begins with a directive's `%` or that is a document's marker: a text that reads as a node is neither.
 use Rattle.yaml_base.proofs.Common.{nat_tests, arith, ℕ, if◌then◌else◌, ◌==◌, option_map, Option, None, Some, codes, Bool, false, true, List, [], ◌++◌, ◌∷◌}
 use Rattle.yaml_base.proofs.Common.{refl, ◌≡◌, eqb-true, append_assoc, ap, sym, ◌∙◌, and_parts, false≢true, Text, stood_plain, Tree, begins_with_marker}
 use Rattle.yaml_base.proofs.Common.{start_marker, end_marker, no_exclamation, marker_of, begins_with_percent, Line, without_last_space, key_of_text, key_from}
@@ -6,7 +6,7 @@ use Rattle.yaml_base.proofs.Common.{key_of_line, trimmed, word_text, kind_of_tex
 use Rattle.yaml_base.proofs.stream_lines.{StreamCuts.none_not_some, StreamSections.is_markerless}
 use Rattle.yaml_base.proofs.Common.{no_properties, scalar_parsed, word_after, word_read}
 
--- what a document's text doesn't begin with
+-- a character that doesn't begin a document's text
 data LineStart : Type 0 where
   percent : LineStart
   dashes : LineStart
@@ -35,7 +35,7 @@ indicator_read dots t rules = indicator_word dots t rules None no_properties
 
 -- Keys
 
--- a text's last space is one of what follows the indicator
+-- a text's last space is one of the text after the indicator
 space_after : (symbol : LineStart) (t : Text) → without_last_space (indicator_text symbol ++ t)
     ≡ option_map (λ u. indicator_text symbol ++ u) (without_last_space t)
 space_after symbol t = grind (arith, nat_tests)
@@ -44,7 +44,7 @@ space_after symbol t = grind (arith, nat_tests)
 indicator_key : (symbol : LineStart) (t : Text) (rules : Rules) → key_of_text rules (indicator_text symbol ++ t) ≡ None
 indicator_key symbol t rules = grind (arith, indicator_read, space_after)
 
--- nor does one stand before a `:` later on
+-- nor does one precede a `:` later on
 no_key_after : (symbol : LineStart) (before t : Text) (rules : Rules) → key_from rules (indicator_text symbol ++ before) t ≡ None
 no_key_after symbol before [] rules = refl
 no_key_after symbol before (c ∷ t) rules = grind (arith, nat_tests, append_assoc, indicator_key, no_key_after symbol (before ++ (c ∷ [])) t rules)
@@ -80,11 +80,11 @@ indicator_unread symbol t ending rest depth rules here column = grind (arith, na
 
 -- First lines
 
--- what begins with a marker
+-- a text that begins with a marker
 marker_shape : (symbol : ℕ) (t : Text) → begins_with_marker symbol t ≡ true → (r : Text) × (t ≡ symbol ∷ symbol ∷ symbol ∷ r)
 marker_shape symbol t h = grind (arith, nat_tests, false≢true, and_parts, eqb-true)
 
--- the first line of what reads as a node is no marker
+-- the first line of a text that reads as a node is no marker
 pub read_markerless : (line : Line) (rest : List Line) (depth : ℕ) (rules : Rules) (here : Bool) (column : Option ℕ) (tree : Tree)
     → node_read depth rules here column (line ∷ rest) ≡ Some tree → is_markerless (marker_of line.text) ≡ true
 read_markerless line rest depth rules here column tree h = by (begins_with_marker 0x2D line.text) refl (begins_with_marker 0x2E line.text) refl

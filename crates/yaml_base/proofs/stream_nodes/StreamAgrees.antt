@@ -10,7 +10,7 @@ use Rattle.yaml_base.proofs.Common.{trees_and, no_tree_pairs, tree_pairs_and, Do
 use Rattle.yaml_base.specs.streams.StreamContent.{may_stand, is_same_text, tagging_agrees, tree_agrees, trees_agree, tree_pairs_agree, are_same_directives}
 use Rattle.yaml_base.proofs.TagForms.{same_text}
 
--- how a scalar stands in a style, after the bare tag or not
+-- the form of a scalar in a style, after the bare tag or not
 abbrev pub standing_in : ScalarStyle → (bare : Bool) → Stood
 standing_in style bare = if bare then stood_bare else if is_plain style then stood_plain else stood_quoted
 
@@ -19,7 +19,7 @@ abbrev pub tagging_in : Option Text → ChosenStyle → Tagging
 tagging_in None choice = without_tag (standing_in choice.style choice.bare)
 tagging_in (Some tag) choice = with_tag tag
 
--- the tree of a node at a place, where the column doesn't matter
+-- the tree of a node at a place, if the column doesn't matter
 abbrev mutual
   pub node_tree : Node → Effective → List TagDirective → Place → Tree
   node_tree (alias_node name) s directives place = alias_tree name
@@ -78,12 +78,12 @@ same_option : (text : Option Text) → is_same_text text text ≡ true
 same_option None = refl
 same_option (Some text) = same_text text
 
--- plain is chosen only where it fits
+-- plain is chosen only if it fits
 pub plain_fits : (allowed : Allowances) (fits block_fits : Bool) (style : ScalarStyle)
     → is_plain (fitting_style allowed fits block_fits style) ≡ true → fits ≡ true
 plain_fits allowed fits block_fits style h = grind (arith, nat_tests, false≢true)
 
--- a scalar without a written tag stands as its flags let it
+-- a scalar without a written tag has a form that its flags allow
 stands : (content : Scalar) (style : ScalarStyle) → (is_plain style ≡ true → content.plain_implicit ≡ true)
     → not (lacks_tag_and_flags false content.plain_implicit content.quoted_implicit) ≡ true
     → may_stand content (standing_in style (not false && not content.quoted_implicit && not (is_plain style))) ≡ true

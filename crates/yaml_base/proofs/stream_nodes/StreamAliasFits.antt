@@ -1,4 +1,4 @@
--- An alias that is no simple key fits where it stands in a block.
+-- An alias that is no simple key fits at its place in a block.
 use Rattle.yaml_base.proofs.Common.{ℕ, ◌<◌, if◌then◌else◌, ◌==◌, is_some, Option, None, Some, Bool, false, not, true, ◌&&◌, List, [], ◌++◌, ◌∷◌, refl, ◌≡◌}
 use Rattle.yaml_base.proofs.Common.{eqb-true, true≢false, append-nil, append_assoc, ap, subst, sym, ◌∙◌, arith, and_parts, false≢true, list_all, option_or}
 use Rattle.yaml_base.proofs.Common.{Text, line_feed, space, is_alpha, Cursor, TagDirective, alias_node, render_alias, Place, is_simple_at, is_read_break}
@@ -10,7 +10,7 @@ use Rattle.yaml_base.proofs.stream_lines.StreamLineLaws.{is_closed, OneLine, bre
 use Rattle.yaml_base.proofs.stream_nodes.StreamLeafFits.{TextReads, text_fits}
 use Rattle.yaml_base.proofs.stream_nodes.StreamLeads.{before_count, before_spaces, before_some}
 
--- a letter of a name is none of what names don't hold
+-- a letter of a name is none of the characters that names don't hold
 other_letter : (c n : ℕ) → is_alpha n ≡ false → is_alpha c ≡ true → (c == n) ≡ false
 other_letter c n none h = grind (arith, true≢false, eqb-true)
 
@@ -85,12 +85,12 @@ alias_reads rules column n t h = record {
   read = λ reads at. alias_read rules column n t h;
 }
 
--- what is rendered for an alias, with the break after it
+-- the rendered text of an alias, with the break after it
 alias_text : (n : ℕ) (t : Text) (cursor : Cursor) (count : ℕ) → (if true && not cursor.whitespace then space ∷ [] else []) ≡ spaces count
     → closed (render_alias (n ∷ t) false cursor) ≡ (spaces count ++ (0x2A ∷ n ∷ t)) ++ (line_feed ∷ [])
 alias_text n t cursor count h = grind (arith, append-nil, append_assoc)
 
--- an alias behind some spaces fits
+-- an alias after some spaces fits
 named_fits : (rules : Rules) (n : ℕ) (t : Text) (place : Place) (cursor : Cursor) (count : ℕ) → list_all is_alpha (n ∷ t) ≡ true
     → (if true && not cursor.whitespace then space ∷ [] else []) ≡ spaces count → (cursor.whitespace ≡ false → 0 < count)
     → Fits rules 1 (render_alias (n ∷ t) false cursor) (alias_tree (n ∷ t)) place cursor

@@ -1,4 +1,4 @@
--- The properties of a collection in a block are on one line, after a space where one is needed, and are read there.
+-- The properties of a collection in a block are on one line, after a space if one is needed, and are read there.
 use Rattle.yaml_base.proofs.Common.{ℕ, ◌+◌, if◌then◌else◌, ◌==◌, is_some, Option, None, Some, length, Bool, false, true, ◌&&◌, ◌||◌, List, [], ◌++◌, ◌∷◌, refl}
 use Rattle.yaml_base.proofs.Common.{◌≡◌, append-nil, append_assoc, ap, subst, sym, ◌∙◌, arith, nat_tests, Text, space, is_blank, is_break, Cursor, space_if}
 use Rattle.yaml_base.proofs.Common.{TagDirective, Collection, collection_tag, render_properties, is_read_break, Effective, ParsedTag, is_spaces}
@@ -15,7 +15,7 @@ use Rattle.yaml_base.proofs.stream_nodes.StreamProperties.{holds_white, IsTagged
 
 -- Lines
 
--- what isn't white breaks no line
+-- a character that isn't white breaks no line
 white_line : (breaks12 : Bool) (c : ℕ) → (is_blank c || is_break c) ≡ false → is_read_break breaks12 c ≡ false
 white_line breaks12 c h = grind (arith, nat_tests)
 
@@ -43,7 +43,7 @@ lead_line rules (Some name) (Some tag) parsed named tagged =
 
 -- Layout
 
--- properties are rendered after a space where one is needed
+-- properties are rendered after a space if one is needed
 pub properties_whole : (portable : Bool) (directives : List TagDirective) (anchor tag : Option Text) (cursor : Cursor) (c : ℕ) (t : Text)
     → properties_text anchor (tag_written portable directives tag false) ≡ c ∷ t
     → (render_properties portable directives anchor tag false cursor).text ≡ space_if true cursor ++ (c ∷ t)
@@ -105,7 +105,7 @@ begun_kind s own directives None (Some tag) cursor named stands =
 begun_kind s own directives (Some name) (Some tag) cursor named stands =
     is_parsed (properties_begun s own _ _ _ cursor 0x26 _ named stands refl refl refl refl refl)
 
--- the properties of a collection whose names stand
+-- the properties of a collection whose names are readable
 pub begun_reads : (s : Effective) (own directives : List TagDirective) (start : Collection) (cursor : Cursor) → IsNamed start.anchor
     → TagStands s.portable own directives (collection_tag s.canonical start) → BegunReads (rules_of s own) s directives start cursor
 begun_reads s own directives start cursor named stands =

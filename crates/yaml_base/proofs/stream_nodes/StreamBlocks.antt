@@ -1,5 +1,4 @@
--- A collection in a block, on the line of what stands before it or below, behind its properties or without them, fits where
--- the text of its entries reads.
+-- A collection in a block, on the line of the text before it or below, after its properties or without them, fits if the text of its entries reads.
 use Rattle.yaml_base.proofs.Common.{suc, zero, ℕ, ◌+◌, ◌-◌, ◌<◌, ◌≤◌, if◌then◌else◌, ◌==◌, Option, None, Some, nat_lt, Bool, false, not, true, ◌&&◌, ◌||◌}
 use Rattle.yaml_base.proofs.Common.{List, [], ◌++◌, ◌∷◌, refl, ◌≡◌, append-nil, append_assoc, ap, subst, sym, ◌∙◌, arith, and_parts, list_all, Text, or-true}
 use Rattle.yaml_base.proofs.Common.{line_feed, space, Cursor, Rendered, render_nothing, new_line, Place, Tree, Line, lines_of, is_spaces, without_blank_lines}
@@ -24,7 +23,7 @@ pub record Opened (rules : Rules) (e : ℕ) (lines : List Line) (kind : NodeKind
   pub shows : (head == space) ≡ false
   pub begins : kind_of_node rules (head ∷ tail) ≡ kind
 
--- more lines behind them
+-- more lines after them
 pub opened_more : (rules : Rules) (e : ℕ) (lines more : List Line) (kind : NodeKind) → Opened rules e lines kind → Opened rules e (lines ++ more) kind
 opened_more rules e lines more kind o = grind (arith)
 
@@ -60,7 +59,7 @@ block_below rules n e text make block depth deep reads_text properties tag parse
     ∙ ap (node_at rules (node_read depth rules) reads_text properties true false) (opened_shows rules e lines block.kind block.opened).1
     ∙ block.reads depth deep reads_text properties false tag parsed
 
--- and on its line where a block may begin
+-- and on its line if a block may begin
 block_on_line : (rules : Rules) (n e : ℕ) (text : Text) (make : Option Text → Option Text → Tree) → Block rules n e text make → (depth : ℕ) → n ≤ depth
     → (reads_text : ReadsText) (properties : Properties) (tag : Option Text) → collection_tag_parsed properties.tag ≡ Some tag
     → node_lines rules (node_read depth rules) reads_text properties true (lines_of rules.breaks12 text) ≡ Some (make properties.anchor tag)
@@ -71,7 +70,7 @@ block_on_line rules n e text make block depth deep reads_text properties tag par
 
 -- Cursors
 
--- where indentation goes on, a new line at a column is spaces alone
+-- if indentation goes on, a new line at a column is spaces alone
 pub record Compact (e : ℕ) (cursor : Cursor) : Type 0 where
   pub count : ℕ
   pub sum : cursor.column + count ≡ e
@@ -91,7 +90,7 @@ spaces_both (suc j) k (suc e) t h = ap (λ t. space ∷ t) (spaces_both j k e t 
 
 -- Properties
 
--- what the properties of a collection are to the reader: nothing, or words on the line before it, behind some spaces
+-- the reading of a collection's properties: nothing, or words on the line before it, after some spaces
 pub record Said (rules : Rules) (anchor tag : Option Text) (cursor : Cursor) (begun : Rendered) : Type 0 where
   pub count : ℕ
   pub head : ℕ
@@ -115,7 +114,7 @@ pub data BegunKind (rules : Rules) (anchor tag : Option Text) (cursor : Cursor) 
 
 -- Blocks
 
--- what is rendered for a collection in a block: its properties and its entries, whose end writes nothing
+-- the rendered text of a collection in a block: its properties and its entries, whose end writes nothing
 abbrev pub block_own : Rendered → Rendered → Rendered
 block_own begun entries = record { text = (begun.text ++ entries.text) ++ []; cursor = entries.cursor }
 
@@ -124,7 +123,7 @@ pub own_closed : (begun entries : Rendered) → closed (block_own begun entries)
 own_closed begun entries =
     ap (λ t. t ++ closing entries.cursor) (append-nil (begun.text ++ entries.text)) ∙ append_assoc begun.text entries.text (closing entries.cursor)
 
--- what is known of a collection in a block whose entries stand at a column and are rendered behind its properties
+-- the facts about a collection in a block whose entries are at a column and are rendered after its properties
 pub record Entries (rules : Rules) (e : ℕ) (place : Place) (begun entries : Rendered) (text : Text) : Type 0 where
   pub settled : Settled entries.cursor
   pub ends : is_closed rules.breaks12 text ≡ true
@@ -159,7 +158,7 @@ pub below_inside : (breaks12 : Bool) (a text : Text) (q : Bool) (d : ℕ) → On
 below_inside breaks12 a text q d one h =
     ap (λ ls. list_all (λ line. belongs_to_entry q d line.text) (lines_after_first ls)) (lines_broken breaks12 a text one) ∙ h
 
--- what ends with a break below a line does behind it
+-- a text that ends with a break below a line does so after it
 pub below_ends : (breaks12 : Bool) (a text : Text) → is_closed breaks12 text ≡ true → is_closed breaks12 (a ++ (line_feed ∷ text)) ≡ true
 below_ends breaks12 a text h =
     ap (is_closed breaks12) (sym (append_assoc a (line_feed ∷ []) text)) ∙ closed_both breaks12 (a ++ (line_feed ∷ [])) text (closed_feed a) h
@@ -246,9 +245,9 @@ unsaid_on_line rules n e place cursor entries text make block all h =
         ∙ block_on_line rules n e text make block depth (omega arith)
         (λ at text. text_or_properties (begins_properties text) rules (node_read depth rules) place.column at text) no_properties None refl
 
--- Behind properties
+-- After properties
 
--- what follows the words of properties on a line, where the block stands below
+-- the text after the words of properties on a line, if the block is below
 parsed_reads : (rules : Rules) (n e : ℕ) (column : Option ℕ) (text : Text) (c : ℕ) (t : Text) (make : Option Text → Option Text → Tree)
     → Block rules n e text make
     → (read : PropertiesRead) (anchor tag : Option Text) → properties_read rules.directives (c ∷ t) ≡ Some read → is_spaces read.text ≡ true
@@ -276,7 +275,7 @@ parsed_reads rules n e column text c t make block read anchor tag reads blank an
     (blank_both k read.text blank)
     ∙ ap (λ a. Some (make a tag)) anchor_read
 
--- a collection behind its properties fits
+-- a collection after its properties fits
 parsed_fits : (rules : Rules) (n e : ℕ) (place : Place) (cursor : Cursor) (begun entries : Rendered) (text : Text) (make : Option Text → Option Text → Tree)
     (anchor tag : Option Text)
     → Block rules n e text make → Entries rules e place begun entries text → Said rules anchor tag cursor begun

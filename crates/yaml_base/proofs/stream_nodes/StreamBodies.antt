@@ -1,4 +1,4 @@
--- What holds of each body in the layout of a list holds of the bodies of each document's root, from its own cursor on.
+-- A fact about each body in the layout of a list holds for the bodies of each document's root, from its own cursor on.
 use Rattle.yaml_base.proofs.Common.{ℕ, unwrap_or, option_map, Option, None, Some, slice_index_or, Bool, false, true, List, [], ◌++◌, ◌∷◌, ◌≡◌, ap, subst, ◌∙◌}
 use Rattle.yaml_base.proofs.Common.{and_parts, All-head, All-tail, list_all, TagDirective, collection_tag, Node, alias_node, scalar_node, Nodes, sequence_node}
 use Rattle.yaml_base.proofs.Common.{Pairs, mapping_node, no_nodes, nodes_and, no_pairs, pairs_and, Documents, no_documents, documents_and, Stream}
@@ -25,7 +25,7 @@ abbrev pub PiecesHold : (Body → Type 0) → List Piece → Type 0
 PiecesHold P [] = Unit {0}
 PiecesHold P (piece ∷ rest) = BodyHolds P piece.body × PiecesHold P rest
 
--- what holds of all bodies of pieces does
+-- a fact about all bodies of pieces
 pub pieces_hold : (P : Body → Type 0) (pieces : List Piece) → All P (bodies_of pieces) → PiecesHold P pieces
 pieces_hold P [] all = tt
 pieces_hold P (piece ∷ rest) all = by piece.body all (pieces_hold P rest)
@@ -42,7 +42,7 @@ hold_both P (piece ∷ a) b all = let both = hold_both P a b all.1 in ((all.0, b
 
 -- Nodes
 
--- what holds of the pieces of a node holds of its bodies; with it, of those of items and of pairs
+-- a fact about the pieces of a node holds for its bodies; with it, for those of items and of pairs
 mutual
   pub node_bodies : (P : Body → Type 0) (n : Node) (s : Effective) (directives : List TagDirective) (place : Place) (standing : Standing)
       → PiecesHold P (render_node n s directives place standing).pieces
@@ -106,7 +106,7 @@ DocumentsHold P (documents_and before document) s =
     let start = render_document_start s (has_no_documents before) document.start (render_documents s before first_standing).standing in
     DocumentsHold P before s × BodiesHold P document.root s (directives_in_force document.start.directives) root_place start.cursor
 
--- what holds of all pieces of some documents does
+-- a fact about all pieces of some documents
 pub documents_bodies : (P : Body → Type 0) (documents : Documents) (s : Effective)
     → PiecesHold P (render_documents s documents first_standing).pieces → DocumentsHold P documents s
 documents_bodies P no_documents s all = tt
@@ -119,7 +119,7 @@ documents_bodies P (documents_and before document) s all =
       node_bodies P document.root s (directives_in_force document.start.directives) root_place start.standing (hold_both P root.pieces _ both.1.1).0,
     )
 
--- what holds of all bodies of a list's layout holds of those of its documents' roots
+-- a fact about all bodies of a list's layout holds for those of its documents' roots
 pub stream_bodies : (P : Body → Type 0) (stream : Stream) (s : Effective)
     → All P (bodies_of (list_layout s (stream_events stream))) → DocumentsHold P stream.documents s
 stream_bodies P stream s all =
@@ -128,17 +128,17 @@ stream_bodies P stream s all =
     let whole = pieces_hold P (layout s stream) (subst (λ (pieces : List Piece). All P (bodies_of pieces)) of_stream all) in
     documents_bodies P stream.documents s (hold_both P (render_documents s stream.documents first_standing).pieces _ whole.1).0
 
--- Bodies that stand
+-- Readable bodies
 
--- a tidy body that reads as its value, as it is written, stands
+-- a tidy body that reads as its value, as it is written, is readable
 body_stands : (s : Effective) (body : Body) → BodyIsTidy s body → BodyReads s body → BodyStands s body
 body_stands s body tidy reads = grind (arith, and_parts, tidy_rendered, breaks-round)
 
--- so bodies that are tidy and keep their meaning all stand
+-- so bodies that are tidy and keep their meaning are all readable
 pub bodies_stand : (s : Effective) (bodies : List Body) → All (BodyIsTidy s) bodies → All (BodyMeans s) bodies → All (BodyStands s) bodies
 bodies_stand s bodies tidy mean = λ k d less. body_stands s (slice_index_or bodies k d) (tidy k d less) (mean k d less).reads
 
--- the bodies of the roots of an accepted list's documents stand
+-- the bodies of the roots of an accepted list's documents are readable
 pub roots_stand : (given : Settings) (encoding : Option Encoding) (stream : Stream) → BodiesAreTidy → MeaningIsKept
     → IsAccepted given.canonical (stream_events stream)
     → list_all has_scalar_values (stream_events stream) ≡ true

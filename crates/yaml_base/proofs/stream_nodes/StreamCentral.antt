@@ -1,4 +1,4 @@
--- The central law: a node in a block fits where its leaves do, so its lines read as its tree.
+-- The central law: a node in a block fits if its leaves do, so its lines read as its tree.
 use Rattle.yaml_base.proofs.Common.{arith, ℕ, if◌then◌else◌, is_some, option_map, option_and_then, Some, Bool, false, true, ◌||◌, List, [], ◌++◌, ◌∷◌, refl}
 use Rattle.yaml_base.proofs.Common.{◌≡◌, true≢false, append-nil, ap, subst, sym, ◌∙◌, Text, TagDirective, Node, Nodes, Pairs, no_nodes, nodes_and, no_pairs}
 use Rattle.yaml_base.proofs.Common.{pairs_and, has_no_nodes, has_no_pairs, is_simple, Effective, sequence_tree, mapping_tree, lines_of, begins_with_indicator}

@@ -16,7 +16,7 @@ use Rattle.yaml_base.proofs.stream_nodes.StreamBlocks.{Said, BegunKind, unsaid, 
 abbrev pub emptied : Rendered → Rendered
 emptied begun = record { text = (begun.text ++ []) ++ []; cursor = record { column = begun.cursor.column; whitespace = false; indention = false } }
 
--- where nothing is written
+-- if nothing is written
 nothing_fits : (rules : Rules) (place : Place) (cursor : Cursor)
     → Fits rules 1 (emptied (render_nothing cursor)) (scalar_in None None plain false []) place cursor
 nothing_fits rules place cursor = record {
@@ -36,7 +36,7 @@ nothing_fits rules place cursor = record {
         ap (node_read (suc depth) rules here place.column) (lines_broken rules.breaks12 (spaces k) [] (spaces_line rules.breaks12 k))
         ∙ ap (λ x. node_at rules (node_read depth rules) by no_properties (here || x) (not x) (if x then [] else line ∷ [])) (blank_spaces k)
 
--- what properties say is how the scalar is tagged
+-- the properties give the scalar's tagging
 empty_tagging : (read : Option ParsedTag) (tag : Option Text) → collection_tag_parsed read ≡ Some tag
     → tagging_of read stood_plain ≡ Some (tagging_in tag (record { style = plain; bare = false }))
 empty_tagging read tag h = grind (arith, nat_tests, none_not_some)

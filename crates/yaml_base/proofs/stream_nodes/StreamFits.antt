@@ -1,5 +1,5 @@
--- What a node in a block is to the reader of lines, from its place and its cursor on; and the items of a sequence, where
--- each of them is so: their lines split into one entry each, lie inside the columns around, and read as their trees.
+-- The effect of a node in a block on the reader of lines, from its place and its cursor on; and of the items of a sequence, if each of them has it:
+-- their lines split into one entry each, lie inside the columns around, and read as their trees.
 use Rattle.yaml_base.proofs.Common.{arith, suc, ℕ, ◌+◌, ◌≤◌, Option, None, Some, Bool, false, true, ◌&&◌, List, [], ◌++◌, ◌∷◌, refl, ◌≡◌, true≢false, Text}
 use Rattle.yaml_base.proofs.Common.{Cursor, Rendered, TagDirective, Node, alias_node, scalar_node, Nodes, sequence_node, Pairs, mapping_node, no_nodes}
 use Rattle.yaml_base.proofs.Common.{nodes_and, no_pairs, pairs_and, entry_place, Role, Place, is_in_mapping, Effective, Tree, Line, lines_of, ends_indicator}
@@ -28,16 +28,16 @@ abbrev mutual
 
 -- Fits
 
--- a place lies inside a column, in a mapping by one more where a `-` at its column counts
+-- a place lies inside a column, in a mapping by one more if a `-` at its column counts
 abbrev pub WithinColumn : Bool → ℕ → Role → Option ℕ → Type 0
 WithinColumn s d role None = ⊥
 WithinColumn s d role (Some c) = d + rank (s && is_in_mapping role) ≤ c
 
--- where a cursor stands in indentation, a block may begin on the line, which has so many spaces
+-- if a cursor is in indentation, a block may begin on the line, which has that many spaces
 abbrev pub Here : Cursor → (here : Bool) → ℕ → Type 0
 Here cursor here k = cursor.indention ≡ true → (here ≡ true) × (k ≡ cursor.column)
 
--- a text opens what follows an indicator: a space or a break comes first
+-- a text that an indicator may open: a space or a break comes first
 pub record Opens (breaks12 : Bool) (text : Text) : Type 0 where
   pub head : Text
   pub ending : Text
@@ -45,8 +45,8 @@ pub record Opens (breaks12 : Bool) (text : Text) : Type 0 where
   pub is : lines_of breaks12 text ≡ record { text = head; ending = ending } ∷ rest
   pub symbol : ends_indicator head ≡ true
 
--- what is rendered for a node in a block from a cursor on: it leaves off settled at a line's end, opens what stands behind
--- an indicator, lies inside the columns around, and reads as a tree at every depth from its size on
+-- the rendered text of a node in a block from a cursor on: it ends settled at a line's end, may follow an indicator, lies inside the columns around,
+-- and reads as a tree at every depth from its size on
 pub record Fits (rules : Rules) (size : ℕ) (own : Rendered) (tree : Tree) (place : Place) (cursor : Cursor) : Type 0 where
   pub settled : Settled own.cursor
   pub ends : is_closed rules.breaks12 (closed own) ≡ true
@@ -63,7 +63,7 @@ tree_anywhere (scalar_node content) s directives in_flow role c d = refl
 tree_anywhere (sequence_node start items) s directives in_flow role c d = refl
 tree_anywhere (mapping_node start pairs) s directives in_flow role c d = refl
 
--- Behind an indicator
+-- After an indicator
 
 -- the lines of an indicator and a text that it opens
 pub indicated_lines : (breaks12 : Bool) (e c : ℕ) (t : Text) (o : Opens breaks12 t) → OneLine breaks12 (c ∷ [])
@@ -71,11 +71,11 @@ pub indicated_lines : (breaks12 : Bool) (e c : ℕ) (t : Text) (o : Opens breaks
 indicated_lines breaks12 e c t o one =
     lines_behind breaks12 _ (c ∷ t) _ o.ending o.rest (spaces_line breaks12 e) (lines_behind breaks12 (c ∷ []) t o.head o.ending o.rest one o.is)
 
--- the lines of the text alone, where the indicator is blanked
+-- the lines of the text alone, if the indicator is blanked
 pub blanked_lines : (breaks12 : Bool) (k : ℕ) (t : Text) (o : Opens breaks12 t) → lines_of breaks12 (spaces k ++ t) ≡ blanked k o.head o.ending ∷ o.rest
 blanked_lines breaks12 k t o = lines_behind breaks12 (spaces k) t o.head o.ending o.rest (spaces_line breaks12 k) o.is
 
--- what an indicator opens is closed where its text is
+-- the text that an indicator opens is closed if its own text is
 pub indicated_ends : (breaks12 : Bool) (e c : ℕ) (t : Text) → Opens breaks12 t → is_closed breaks12 t ≡ true → is_closed breaks12 (spaces e ++ (c ∷ t)) ≡ true
 indicated_ends breaks12 e c [] o h = grind (arith, true≢false)
 indicated_ends breaks12 e c (d ∷ t) o h = closed_behind breaks12 (spaces e) c (d ∷ t) h

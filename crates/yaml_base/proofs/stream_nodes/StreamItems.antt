@@ -1,5 +1,5 @@
--- The items of a sequence in a block, where each of them fits: their lines split into one entry each, lie inside the columns
--- around, and read as their trees.
+-- The items of a sequence in a block, if each of them fits: their lines split into one entry each, lie inside the columns around, and read as their
+-- trees.
 use Rattle.yaml_base.proofs.Common.{suc, ℕ, ◌+◌, ◌≤◌, if◌then◌else◌, fold, None, Some, Bool, false, true, List, [], ◌++◌, ◌∷◌, refl, ◌≡◌, true≢false}
 use Rattle.yaml_base.proofs.Common.{append_assoc, ap, subst, sym, ◌∙◌, arith, and_from, list_all, Text, Cursor, Rendered, new_line, TagDirective, Node, Nodes}
 use Rattle.yaml_base.proofs.Common.{no_nodes, nodes_and, entry_place, as_item, Place, has_no_nodes, Effective, no_trees, Line, lines_of, belongs_to_entry}
@@ -15,7 +15,7 @@ use Rattle.yaml_base.specs.streams.StreamNodes.{item_by_indicator, item_read, wi
 abbrev pub item_place : Nodes → ℕ → Place
 item_place items e = entry_place false (as_item (has_no_nodes items)) e
 
--- an item's text behind its indicator
+-- an item's text after its indicator
 abbrev pub item_text : Nodes → Node → Effective → List TagDirective → ℕ → Text
 item_text items last s directives e = closed (node_own last s directives (item_place items e) (indicator_cursor e))
 
@@ -130,12 +130,12 @@ items_read_back rules s directives (nodes_and items last) e fit depth deep rest 
     let one = lines_of rules.breaks12 (spaces e ++ (0x2D ∷ item_text items last s directives e)) in
     grind (arith, append_assoc, item_reads, items_read_back rules s directives items e fit.0 depth (omega arith) (one ∷ rest))
 
--- regrouped: an indicator, what it opens, and the break after it
+-- regrouped: an indicator, the text that it opens, and the break after it
 pub regrouped : (a n o c : Text) (symbol : ℕ) → ((a ++ ((n ++ (symbol ∷ [])) ++ o)) ++ c) ≡ a ++ (n ++ (symbol ∷ (o ++ c)))
 regrouped a n o c symbol =
     append_assoc a ((n ++ (symbol ∷ [])) ++ o) c ∙ ap (λ t. a ++ t) (append_assoc (n ++ (symbol ∷ [])) o c ∙ append_assoc n (symbol ∷ []) (o ++ c))
 
--- what is rendered for entries at a column: a new line, and then their text without its first spaces
+-- the rendered text of entries at a column: a new line, and then their text without its first spaces
 pub record Lays (e : ℕ) (cursor : Cursor) (own : Rendered) (text : Text) : Type 0 where
   pub head : ℕ
   pub tail : Text

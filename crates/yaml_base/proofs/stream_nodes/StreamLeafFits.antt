@@ -1,4 +1,4 @@
--- A node's own text that reads on its lines fits where it stands in a block.
+-- A node's own text that reads on its lines fits at its place in a block.
 use Rattle.yaml_base.proofs.Common.{suc, zero, ℕ, ◌+◌, ◌<◌, ◌≤◌, if◌then◌else◌, ◌==◌, Option, None, Some, Bool, false, not, true, ◌&&◌, ◌||◌, List, [], ◌++◌}
 use Rattle.yaml_base.proofs.Common.{◌∷◌, refl, ◌≡◌, ap, ◌∙◌, arith, and_parts, and_from, list_all, Text, space, Cursor, Rendered, Place, is_in_mapping, Tree}
 use Rattle.yaml_base.proofs.Common.{Line, lines_of, without_blank_lines, ends_indicator, belongs_to_entry, Indented, spaces, LinesReader, begins_text}
@@ -10,7 +10,7 @@ use Rattle.yaml_base.proofs.stream_lines.StreamInside.{indented_spaces, not_blan
 
 -- Inside
 
--- what is deeper than a column is deeper than one farther out
+-- a text deeper than a column is deeper than one farther out
 inside_farther : (d c : ℕ) (t : Text) → d ≤ c → belongs_to_entry true c t ≡ true → belongs_to_entry true d t ≡ true
 inside_farther d c [] le h = refl
 inside_farther zero zero (x ∷ t) le h = h
@@ -41,7 +41,7 @@ pub record TextReads (rules : Rules) (column : Option ℕ) (text : Text) (tree :
   pub deeper : (c : ℕ) → column ≡ Some c → AllInside true c rest
   pub read : (reads : LinesReader) (at : ℕ) → text_or_properties (begins_properties (head ∷ first)) rules reads column at (head ∷ first) ending rest ≡ Some tree
 
--- it reads behind spaces
+-- it reads after spaces
 text_lines : (rules : Rules) (column : Option ℕ) (text : Text) (tree : Tree) → TextReads rules column text tree → (depth : ℕ) → 1 ≤ depth
     → (here : Bool) (k : ℕ)
     → node_read depth rules here column (lines_of rules.breaks12 (spaces k ++ text)) ≡ Some tree
@@ -58,7 +58,7 @@ text_lines rules column text tree t (suc depth) deep here k =
     ∙ ap (λ x. node_by_kind x rules (node_read depth rules) by no_properties (here || false) true begun t.ending t.rest (line ∷ t.rest)) t.kind
     ∙ t.read (node_read depth rules) k
 
--- what is rendered as such a text fits
+-- a node that is rendered as such a text fits
 pub text_fits : (rules : Rules) (own : Rendered) (place : Place) (cursor : Cursor) (count : ℕ) (text : Text) (tree : Tree) → closed own ≡ spaces count ++ text
     → is_closed rules.breaks12 (closed own) ≡ true → Settled own.cursor → (cursor.whitespace ≡ false → 0 < count) → TextReads rules place.column text tree
     → Fits rules 1 own tree place cursor

@@ -1,5 +1,5 @@
--- The parts of a node in a block are read, where its names and bodies stand: what is asked of scalars and of flow collections
--- by themselves, and from it what the central law asks of the whole tree.
+-- The parts of a node in a block are read, if its names and bodies are readable: the conditions for scalars and for flow collections by themselves,
+-- and from them those of the central law for the whole tree.
 use Rattle.yaml_base.proofs.Common.{arith, ℕ, Option, None, Some, Bool, false, true, ◌&&◌, ◌||◌, List, [], ◌∷◌, refl, ◌≡◌, sym, ◌∙◌, or_parts, false≢true, Text}
 use Rattle.yaml_base.proofs.Common.{Cursor, Rendered, TagDirective, Scalar, Collection, Node, alias_node, scalar_node, Nodes, sequence_node, Pairs}
 use Rattle.yaml_base.proofs.Common.{mapping_node, no_nodes, nodes_and, no_pairs, pairs_and, asks_flow, is_written_in_flow, Role, as_item, as_key, as_value}
@@ -16,7 +16,7 @@ use Rattle.yaml_base.proofs.stream_nodes.StreamStands.{NamesStand, AllNamesStand
 abbrev pub block_place : Role → Option ℕ → Place
 block_place role column = record { in_flow = false; role = role; column = column }
 
--- each scalar in a block that is no simple key fits, where its names and its body stand
+-- each scalar in a block that is no simple key fits, if its names and its body are readable
 abbrev pub ScalarsFit : Effective → List TagDirective → List TagDirective → Type 0
 ScalarsFit s own directives =
     (content : Scalar) (role : Role) (column : Option ℕ) (cursor : Cursor)
@@ -32,11 +32,11 @@ is_flow_node s place (sequence_node start items) = is_written_in_flow s place st
 is_flow_node s place (mapping_node start pairs) = is_written_in_flow s place start (has_no_pairs pairs)
 is_flow_node s place _ = false
 
--- in canonical mode no node stands in a block but the root
+-- in canonical mode no node is in a block but the root
 abbrev pub MayStand : Effective → Option ℕ → Type 0
 MayStand s column = s.canonical ≡ true → column ≡ None
 
--- each flow collection in a block that is no simple key fits, where its names and its bodies stand
+-- each flow collection in a block that is no simple key fits, if its names and its bodies are readable
 abbrev pub FlowsFit : Effective → List TagDirective → List TagDirective → Type 0
 FlowsFit s own directives =
     (n : Node) (role : Role) (column : Option ℕ) (cursor : Cursor)
@@ -48,7 +48,7 @@ FlowsFit s own directives =
     → BodiesHold (BodyStands s) n s directives (block_place role column) cursor
     → LeafFits (rules_of s own) s directives n (block_place role column) cursor
 
--- each simple key in a block is cut off before its `:`, where its names and its body stand
+-- each simple key in a block is cut off before its `:`, if its names and its body are readable
 abbrev pub SimpleKeysFit : Effective → List TagDirective → List TagDirective → Type 0
 SimpleKeysFit s own directives =
     (key : Node) (pairs : Pairs) (e : ℕ)
@@ -87,18 +87,18 @@ pair_leaves s own directives keys pairs key value e before names true h bodies o
 pair_leaves s own directives keys pairs key value e before names false h bodies of_key of_value =
     (of_key h bodies.0, of_value false (indicator_cursor e) (refl, λ i. refl) bodies.1)
 
--- what is written in a block isn't written in canonical mode
+-- a collection that is written in a block isn't written in canonical mode
 no_canonical : (s : Effective) (start : Collection) (empty : Bool) → (s.canonical || asks_flow start.style || empty) ≡ false → s.canonical ≡ false
 no_canonical s start empty h =
     (or_parts s.canonical (asks_flow start.style) (or_parts (s.canonical || asks_flow start.style) empty h).0).0
 
--- so its parts may stand at any column
+-- so its parts may be at any column
 may_stand : (s : Effective) (column : Option ℕ) → s.canonical ≡ false → MayStand s column
 may_stand s column block h = absurd (false≢true (sym block ∙ h))
 
 module _ (s : Effective) (own directives : List TagDirective) (scalars : ScalarsFit s own directives) (flows : FlowsFit s own directives)
     (keys : SimpleKeysFit s own directives) where
-  -- what is asked of the parts of a node in a block, where its names and bodies stand
+  -- the conditions for the parts of a node in a block, if its names and bodies are readable
   mutual
     pub leaves_stand : (n : Node) (role : Role) (column : Option ℕ) (cursor : Cursor) → MayStand s column
         → (is_key role && is_simple s.canonical directives n) ≡ false → Stands column cursor → NamesStand s.portable own s.canonical directives n

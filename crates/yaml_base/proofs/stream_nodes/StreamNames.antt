@@ -72,7 +72,7 @@ module _ (portable canonical : Bool) (own : List TagDirective) (sound : directiv
       by e = cc
   tag_stands anchor (Some (c ∷ tag)) h scalars allowed = written_tag portable own c tag sound scalars allowed
 
-  -- the names and tags of a node stand; with it, those of items and of pairs
+  -- the names and tags of a node are readable; with it, those of items and of pairs
   mutual
     pub names_stand : (node : Node) → list_all (is_good canonical) (node_events node) ≡ true
         → (portable || not (node_has_flow_indicator canonical directives node)) ≡ true → NamesStand portable own canonical directives node
@@ -126,14 +126,14 @@ module _ (portable canonical : Bool) (own : List TagDirective) (sound : directiv
 
 -- Documents
 
--- of a sound document its version and its directives are without a fault, its prefixes are of scalar values, and its names and tags stand
+-- of a sound document its version and its directives are without a fault, its prefixes are of scalar values, and its names and tags are readable
 pub record IsSoundDocument (portable canonical : Bool) (document : Document) : Type 0 where
   pub version : option_and_then version_fault document.start.version ≡ None
   pub directives : directives_fault document.start.directives ≡ None
   pub prefixes : list_all directive_scalars document.start.directives ≡ true
   pub names : NamesStand portable document.start.directives canonical (directives_in_force document.start.directives) document.root
 
--- a document of such events is sound, in portable mode or where no tag has a flow indicator
+-- a document of such events is sound, in portable mode or if no tag has a flow indicator
 document_is_sound : (portable canonical : Bool) (document : Document) → list_all (is_good canonical) (document_events document) ≡ true
     → (portable || not (document_has_flow_indicator canonical document)) ≡ true → IsSoundDocument portable canonical document
 document_is_sound portable canonical document good allowed = grind (arith, and_parts, no_faults, neither, all_of_both, names_stand)
@@ -146,7 +146,7 @@ all_allowed portable canonical (document ∷ rest) h =
     let parts = open_parts portable (document_has_flow_indicator canonical document) (list_any (document_has_flow_indicator canonical) rest) h in
     (parts.0, all_allowed portable canonical rest parts.1)
 
--- what portable mode and what no flow indicator allow, of a list's documents
+-- the facts about a list's documents in portable mode, and if no tag has a flow indicator
 pub accepted_allowed : (portable canonical : Bool) (events : List Event) (stream : Stream) → tree_of events ≡ Some stream
     → reads_alike portable canonical events ≡ true
     → ((portable || not (loses_document canonical (documents_in_order stream.documents))) ≡ true)

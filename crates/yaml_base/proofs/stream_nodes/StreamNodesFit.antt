@@ -1,4 +1,4 @@
--- The central law: a node in a block fits where its leaves, its simple keys and the properties of its collections do.
+-- The central law: a node in a block fits if its leaves, its simple keys and the properties of its collections do.
 use Rattle.yaml_base.proofs.Common.{suc, zero, ℕ, ◌+◌, ◌-◌, ◌<◌, ◌≤◌, if◌then◌else◌, ◌==◌, Option, None, Some, nat_lt, Bool, false, not, true, ◌&&◌, ◌||◌}
 use Rattle.yaml_base.proofs.Common.{List, ◌∷◌, refl, ◌≡◌, eqb-true, le-ltb, true≢false, ap, ◌∙◌, arith, or_parts, false≢true, Text, line_feed, Cursor}
 use Rattle.yaml_base.proofs.Common.{Rendered, TagDirective, Collection, collection_tag, Node, alias_node, scalar_node, Nodes, sequence_node, Pairs}
@@ -40,8 +40,8 @@ abbrev pub BegunReads : Rules → Effective → List TagDirective → Collection
 BegunReads rules s directives start cursor =
     BegunKind rules start.anchor (collection_tag s.canonical start) cursor (render_begun s directives start cursor)
 
--- what is asked of the parts of a node in a block: each alias, scalar and flow collection fits, each simple key is cut off,
--- and the properties of each block collection are read
+-- the conditions for the parts of a node in a block: each alias, scalar and flow collection fits, each simple key is cut off, and the properties of
+-- each block collection are read
 abbrev mutual
   pub Leaves : Node → Rules → Effective → List TagDirective → Place → Cursor → Type 0
   Leaves (alias_node name) rules s directives place cursor = LeafFits rules s directives (alias_node name) place cursor
@@ -74,7 +74,7 @@ abbrev mutual
 
 -- Places
 
--- a cursor stands behind the indicators of a place in a block at a column, or where the root begins
+-- a cursor is after the indicators of a place in a block at a column, or at the beginning of the root
 abbrev pub Stands : Option ℕ → Cursor → Type 0
 Stands None cursor = Settled cursor
 Stands (Some c) cursor = (cursor.whitespace ≡ false) × (cursor.indention ≡ true → cursor.column ≡ c + 1)
@@ -83,7 +83,7 @@ Stands (Some c) cursor = (cursor.whitespace ≡ false) × (cursor.indention ≡ 
 less_not : (a b : ℕ) → a < b → (a == b) ≡ false
 less_not a b h = grind (arith, eqb-true)
 
--- behind an indicator a new line one indent further in is spaces
+-- after an indicator a new line one indent deeper is spaces
 compact_behind : (c k : ℕ) (cursor : Cursor) → 1 ≤ k → cursor.column ≡ c + 1 → cursor.indention ≡ true → Compact (c + suc k) cursor
 compact_behind c k cursor deep at h =
     let more : cursor.column < c + suc k = omega arith in
@@ -102,40 +102,40 @@ compact_behind c k cursor deep at h =
       some = λ w. omega arith;
     }
 
--- where the root begins it is nothing
+-- at the beginning of the root it is nothing
 compact_root : (cursor : Cursor) → Settled cursor → cursor.indention ≡ true → Compact 0 cursor
 compact_root cursor settled h = grind (arith, new_line_closes, true≢false)
 
--- the column of a collection's entries where indentation goes on
+-- the column of a collection's entries if indentation goes on
 compact_at : (column : Option ℕ) (undented : Bool) (indent : ℕ) (cursor : Cursor) → 2 ≤ indent → Stands column cursor → cursor.indention ≡ true
     → Compact (entries_column false undented indent column cursor) cursor
 compact_at None undented indent cursor deep stands h = compact_root cursor stands h
 compact_at (Some c) undented zero cursor deep stands h = absurd (omega arith)
 compact_at (Some c) undented (suc k) cursor deep stands h = grind (arith, compact_behind)
 
--- behind properties or without them
+-- after properties or without them
 compact_begun : (rules : Rules) (anchor tag : Option Text) (column : Option ℕ) (undented : Bool) (indent : ℕ) (cursor : Cursor) (begun : Rendered) → 2 ≤ indent
     → Stands column cursor
     → BegunKind rules anchor tag cursor begun → begun.cursor.indention ≡ true → Compact (entries_column false undented indent column begun.cursor) begun.cursor
 compact_begun rules anchor tag column undented indent cursor begun deep stands h10 h = grind (false≢true, arith, compact_at)
 
--- the items of a sequence in a block stand within the columns around
+-- the items of a sequence in a block are within the columns around
 items_within : (s : Effective) (q : Bool) (d : ℕ) (role : Role) (column : Option ℕ) (cursor : Cursor) → 2 ≤ s.indent → WithinColumn q d role column
     → d + rank q ≤ entries_column false (is_undented s role) s.indent column cursor
 items_within s q d role column cursor deep within = grind (arith)
 
--- the pairs of a mapping in a block stand deeper than the columns around
+-- the pairs of a mapping in a block are deeper than the columns around
 pairs_within : (q : Bool) (d : ℕ) (role : Role) (column : Option ℕ) (indent : ℕ) (cursor : Cursor) → 2 ≤ indent → WithinColumn q d role column
     → d < entries_column false false indent column cursor
 pairs_within q d role column indent cursor deep within = grind (arith)
 
 -- The law
 
--- what isn't written in flow isn't empty
+-- a collection that isn't written in flow isn't empty
 not_empty : (s : Effective) (place : Place) (start : Collection) (empty : Bool) → is_written_in_flow s place start empty ≡ false → empty ≡ false
 not_empty s place start empty h = (or_parts (place.in_flow || s.canonical || asks_flow start.style) empty h).1
 
--- a collection fits where its entries in a block do, or by itself
+-- a collection fits if its entries in a block do, or by itself
 collection_fits : {Read : Type 0} (rules : Rules) (s : Effective) (place : Place) (cursor : Cursor) (brackets : Brackets) (undented empty : Bool)
     (begun : Rendered) (size : ℕ) (text : Text) (own : Bool → ℕ → Cursor → Rendered) (make : Bool → Option Text → Option Text → Tree)
     (anchor tag : Option Text) (in_flow x : Bool)
@@ -154,7 +154,7 @@ collection_fits rules s place cursor brackets undented empty begun size text own
     let parts = each h read in
     block_fits rules size e place cursor begun (own false e begun.cursor) text (make false) anchor tag read.0 parts.0 parts.1
 
--- a sequence fits where its items do, or by itself
+-- a sequence fits if its items do, or by itself
 sequence_fits : (start : Collection) (items : Nodes) (rules : Rules) (s : Effective) (directives : List TagDirective) (place : Place) (cursor : Cursor)
     → 2 ≤ s.indent → Stands place.column cursor
     → Leaves (sequence_node start items) rules s directives place cursor
@@ -207,7 +207,7 @@ mapping_fits start pairs rules s directives place cursor deep stands leaves each
       },
     ))
 
--- a pair fits where its key and its value do
+-- a pair fits if its key and its value do
 pair_fits : (x : Bool) (pairs : Pairs) (key value : Node) (rules : Rules) (s : Effective) (directives : List TagDirective) (e : ℕ)
     → EitherType x
     (KeyFits rules (simple_key pairs key s directives e).text (node_tree key s directives (key_place pairs e))
@@ -225,7 +225,7 @@ pair_fits false pairs key value rules s directives e leaves value_fits
     key_fits = (key_fits leaves.0, value_fits false (indicator_cursor e) (refl, λ h. refl) leaves.1)
 
 module _ (rules : Rules) (s : Effective) (directives : List TagDirective) (deep : 2 ≤ s.indent) where
-  -- a node in a block fits where its leaves do; so do the items of a sequence and the pairs of a mapping
+  -- a node in a block fits if its leaves do; so do the items of a sequence and the pairs of a mapping
   mutual
     pub node_fits : (n : Node) (place : Place) (cursor : Cursor) → Stands place.column cursor → Leaves n rules s directives place cursor
         → Fits rules (size n) (node_own n s directives place cursor) (node_tree n s directives place) place cursor

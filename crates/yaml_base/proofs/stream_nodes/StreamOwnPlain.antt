@@ -14,7 +14,7 @@ first_after : (breaks12 : Bool) (c : ℕ) (t : Text) → is_read_break breaks12 
     → first_text (lines_of breaks12 (c ∷ t)) ≡ c ∷ first_text (lines_of breaks12 t)
 first_after breaks12 c t h = grind (arith)
 
--- where a line ends or goes on with a space, so does its text
+-- if a line ends or goes on with a space, so does its text
 ends_begins : (breaks12 : Bool) (t : Text) → ends_indicator (first_text (lines_of breaks12 (t ++ feed))) ≡ true → begins_white breaks12 t ≡ true
 ends_begins breaks12 t h = grind (arith, nat_tests, first_after)
 

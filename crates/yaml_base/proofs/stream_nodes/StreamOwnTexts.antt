@@ -1,4 +1,4 @@
--- A node's own text that reads on its lines does so behind its anchor and its tag.
+-- A node's own text that reads on its lines does so after its anchor and its tag.
 use Rattle.yaml_base.proofs.Common.{arith, ℕ, ◌+◌, if◌then◌else◌, ◌==◌, option_map, Option, None, Some, length, Bool, false, not, true, ◌&&◌, ◌||◌, List, []}
 use Rattle.yaml_base.proofs.Common.{◌++◌, ◌∷◌, refl, ◌≡◌, append-nil, append_assoc, ap, sym, ◌∙◌, and_parts, false≢true, Text, space, ScalarStyle}
 use Rattle.yaml_base.proofs.Common.{is_read_break, ParsedTag, is_plain, scalar_tree, Line, lines_of, text_of_lines, ends_indicator, begins_with_indicator}
@@ -45,15 +45,15 @@ own_read rules column properties c t h deeper =
 
 -- Keys
 
--- where no key ends in a text, one in what follows it is looked for
+-- if no key ends in a text, one in the text after it is looked for
 nowhere_skips : (rules : Rules) (before a t : Text) → KeyNowhere rules before a → key_from rules before (a ++ t) ≡ key_from rules (before ++ a) t
 nowhere_skips rules before [] t none = ap (λ b. key_from rules b t) (sym (append-nil before))
 nowhere_skips rules before (c ∷ a) t none = grind (arith, nat_tests, and_parts, append_assoc, nowhere_skips rules (before ++ (c ∷ [])) a t none.1)
 
 -- Own texts
 
--- a scalar's own text up to its last line's end, without its anchor and tag: its first line begins no block, also behind
--- these, its other lines are deeper than the column around, and it reads as a value that stood in a style
+-- a scalar's own text up to its last line's end, without its anchor and tag: its first line begins no block, also after these, its other lines are
+-- deeper than the column around, and it reads as a value in the form of a style
 pub record OwnText (rules : Rules) (column : Option ℕ) (text : Text) (style : ScalarStyle) (value : Text) : Type 0 where
   pub head : ℕ
   pub tail : Text
@@ -68,7 +68,7 @@ pub record OwnText (rules : Rules) (column : Option ℕ) (text : Text) (style : 
   pub read : (properties : Properties)
       → text_by_kind (kind_of_text (head ∷ [])) rules column properties (head ∷ tail) ≡ scalar_parsed properties (stood_in_style style) (Some value)
 
--- its first line begins a text, behind properties or without them
+-- its first line begins a text, after properties or without them
 pub own_kind : (rules : Rules) (anchor tag : Option Text) (parsed : Option ParsedTag) (c : ℕ) (f : Text) → Given rules anchor tag parsed
     → begins_with_indicator 0x2D (c ∷ f) ≡ false → begins_with_indicator 0x3F (c ∷ f) ≡ false → key_from rules (lead anchor tag) (c ∷ f) ≡ None
     → kind_of_node rules (lead anchor tag ++ (c ∷ f)) ≡ begins_text
@@ -76,7 +76,7 @@ own_kind rules anchor tag parsed c f given no_item no_key keyless = grind (arith
 
 -- Properties
 
--- what stands behind spaces in the place of properties is read with them
+-- the text after spaces in the place of properties is read with them
 behind_reads : (rules : Rules) (reads : LinesReader) (column : Option ℕ) (properties : Properties) (k c : ℕ) (f ending : Text) (rest : List Line)
     → (c == space) ≡ false
     → kind_of_node rules (c ∷ f) ≡ begins_text
@@ -84,11 +84,11 @@ behind_reads : (rules : Rules) (reads : LinesReader) (column : Option ℕ) (prop
     ≡ text_read rules column properties (c ∷ f) ending rest
 behind_reads rules reads column properties k c f ending rest shows kind = grind (arith, not_blank, indented_spaces)
 
--- what begins a node's own text is no space and no indicator of a property
+-- the first character of a node's own text is no space and no indicator of a property
 pub own_shows : (c : ℕ) → begins_content (c ∷ []) ≡ true → ((c == space) ≡ false) × ((c == 0x26 || c == 0x21) ≡ false)
 own_shows c h = grind (arith, false≢true)
 
--- a text behind properties or without them is read with these
+-- a text after properties or without them is read with these
 pub parsed_reads : (rules : Rules) (reads : LinesReader) (column : Option ℕ) (at : ℕ) (anchor tag : Option Text) (parsed : Option ParsedTag) (c : ℕ)
     (f ending : Text)
     (rest : List Line)
@@ -140,7 +140,7 @@ headed rules (Some name) (Some tag) parsed c f given h =
 headed rules None (Some tag) (Some parsed) c f given h = grind (arith)
 headed rules None (Some tag) None c f given h = absurd given.tagged
 
--- such a text reads on its lines behind its properties
+-- such a text reads on its lines after its properties
 pub own_reads : (rules : Rules) (column : Option ℕ) (text value : Text) (style : ScalarStyle) (anchor tag given_tag : Option Text) (bare : Bool)
     → OwnText rules column text style value → Given rules anchor tag (tag_meant given_tag bare) → (bare ≡ true → is_plain style ≡ false)
     → TextReads rules column (lead anchor tag ++ text) (scalar_in anchor given_tag style bare value)

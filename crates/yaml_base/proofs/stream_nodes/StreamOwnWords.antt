@@ -21,7 +21,7 @@ blank_more : (breaks12 : Bool) (t : Text) → begins_with_blank_line breaks12 (t
 blank_more breaks12 [] = refl
 blank_more breaks12 (c ∷ t) = ap (λ x. is_read_break breaks12 c || (is_blank c && x)) (blank_more breaks12 t)
 
--- and spaces where they are
+-- and the spaces that it has
 spaces_more : (n : ℕ) (t : Text) → begins_with_spaces n t ≡ true → begins_with_spaces n (t ++ feed) ≡ true
 spaces_more zero t h = refl
 spaces_more (suc n) [] h = absurd (false≢true h)
@@ -55,7 +55,7 @@ pub tidy_deep : (style : ScalarStyle) (breaks12 : Bool) (column : Option ℕ) (t
     → (c : ℕ) → column ≡ Some c → has_deep_lines breaks12 (suc c) text ≡ true
 tidy_deep style breaks12 column text tidy c e = grind (arith, nat_tests, and_parts)
 
--- it is cut off where nothing white stands before it
+-- it is cut off if nothing white precedes it
 pub shown_trimmed : (breaks12 : Bool) (c : ℕ) (t : Text) → ends_white breaks12 (c ∷ t) ≡ false → trimmed breaks12 (c ∷ (t ++ feed)) ≡ c ∷ t
 shown_trimmed true c [] h = ap (λ x. prepend_to_trimmed x c []) (not_white true c h)
 shown_trimmed false c [] h = ap (λ x. prepend_to_trimmed x c []) (not_white false c h)
@@ -63,7 +63,7 @@ shown_trimmed breaks12 c (d ∷ t) h = grind (arith, shown_trimmed breaks12 d t 
 
 -- No key
 
--- where no key ends in a text, none ends in its first line
+-- if no key ends in a text, none ends in its first line
 first_nowhere : (rules : Rules) (breaks12 : Bool) (before t : Text) → KeyNowhere rules before t
     → KeyNowhere rules before (first_text (lines_of breaks12 (t ++ feed)))
 first_nowhere rules breaks12 before [] none = tt

@@ -1,4 +1,4 @@
--- The entries of a mapping read as its pairs, where each of them fits; and how a mapping's text is rendered.
+-- The entries of a mapping read as its pairs, if each of them fits; and how a mapping's text is rendered.
 use Rattle.yaml_base.proofs.Common.{suc, ℕ, ◌+◌, ◌≤◌, if◌then◌else◌, fold, option_and_then, Option, None, Some, length, Bool, false, true, List, [], ◌++◌, ◌∷◌}
 use Rattle.yaml_base.proofs.Common.{refl, ◌≡◌, true≢false, append-nil, append_assoc, ap, sym, ◌∙◌, arith, false≢true, Text, Cursor, Rendered, render_then}
 use Rattle.yaml_base.proofs.Common.{new_line, TagDirective, Node, Pairs, no_pairs, pairs_and, entry_place, Role, as_key, has_no_pairs, is_simple, render_place}
@@ -68,7 +68,7 @@ keyed rules text key_tree n own tree role e cursor key fit w i depth deep pairs 
     ∙ ap (λ ls. with_held_value pairs (Some key_tree) (node_read depth rules false (Some e) ls)) (sym (blanked_lines _ (suc (e + length text)) _ o))
     ∙ ap (with_held_value pairs (Some key_tree)) (fit.reads depth deep false (suc (e + length text)) (λ h. absurd (false≢true (sym i ∙ h))))
 
--- no cursor stands in indentation behind the `:` of a simple key
+-- no cursor is in indentation after the `:` of a simple key
 pub colon_ends : (cursor : Cursor) → (colon_cursor cursor).indention ≡ false
 colon_ends cursor = grind (arith)
 
@@ -110,7 +110,7 @@ pairs_read_back rules s directives (pairs_and pairs key value) e fit depth deep 
 
 -- Layout
 
--- what is rendered for a pair after other text
+-- the rendered text of a pair after other text
 abbrev pair_own : (simple : Bool) → Pairs → Node → Node → Effective → List TagDirective → ℕ → Rendered → Rendered
 pair_own x pairs key value s directives e before =
     render_then

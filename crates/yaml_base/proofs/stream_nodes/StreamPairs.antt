@@ -1,5 +1,5 @@
--- The pairs of a mapping in a block, where each of them fits: their lines split into one entry for a pair with a simple key
--- and two for another, lie inside the columns around, and read as their trees.
+-- The pairs of a mapping in a block, if each of them fits: their lines split into one entry for a pair with a simple key and two for another, lie
+-- inside the columns around, and read as their trees.
 use Rattle.yaml_base.proofs.Common.{ℕ, ◌+◌, ◌<◌, ◌≤◌, ◌==◌, Some, codes, length, Bool, false, not, true, List, [], ◌++◌, ◌∷◌, refl, ◌≡◌, append_assoc, ap}
 use Rattle.yaml_base.proofs.Common.{subst, sym, ◌∙◌, arith, and_from, list_all, Text, space, Cursor, Rendered, indicator, TagDirective, Node, Pairs, no_pairs}
 use Rattle.yaml_base.proofs.Common.{pairs_and, entry_place, Role, as_key, as_value, Place, has_no_pairs, is_simple, Effective, Tree, marker_of, nat_tests}
@@ -11,8 +11,8 @@ use Rattle.yaml_base.proofs.stream_lines.StreamLineLaws.{is_closed, OneLine, lin
 use Rattle.yaml_base.proofs.stream_lines.StreamInside.{inside_deeper, begins_entry, outside, AllInside, Splits, splits_none, splits_both, splits_one}
 use Rattle.yaml_base.proofs.stream_nodes.StreamFits.{size, Opens, Fits, indicated_lines, indicated_ends}
 
--- what the text of a simple key is to the reader, before `:` and what an indicator opens: a line begins with it, no indicator of an
--- entry does, it is no marker, and it is cut off as the key
+-- the effect of a simple key's text on the reader, before `:` and a text that an indicator opens: a line begins with it, no indicator of an entry
+-- does, it is no marker, and it is cut off as the key
 pub record KeyFits (rules : Rules) (text : Text) (tree : Tree) : Type 0 where
   pub first : ℕ
   pub tail : Text
@@ -32,18 +32,18 @@ key_place pairs e = entry_place false (as_key (has_no_pairs pairs)) e
 abbrev pub value_place : (simple : Bool) → ℕ → Place
 value_place simple e = entry_place false (as_value simple) e
 
--- the cursor behind the `:` after a simple key
+-- the cursor after the `:` of a simple key
 abbrev pub colon_cursor : Cursor → Cursor
 colon_cursor cursor = (indicator (codes ":") false false false cursor).cursor
 
--- what is rendered for a simple key, and for a key behind `?`
+-- the rendered text of a simple key, and of a key after `?`
 abbrev pub simple_key : Pairs → Node → Effective → List TagDirective → ℕ → Rendered
 simple_key pairs key s directives e = node_own key s directives (key_place pairs e) (margin_cursor e)
 
 abbrev pub indicated_key : Pairs → Node → Effective → List TagDirective → ℕ → Rendered
 indicated_key pairs key s directives e = node_own key s directives (key_place pairs e) (indicator_cursor e)
 
--- what is rendered for a value behind a simple key, and behind a `:` of its own
+-- the rendered text of a value after a simple key, and after a `:` of its own
 abbrev pub simple_value : Pairs → Node → Node → Effective → List TagDirective → ℕ → Rendered
 simple_value pairs key value s directives e =
     node_own value s directives (value_place true e) (colon_cursor (simple_key pairs key s directives e).cursor)
@@ -94,7 +94,7 @@ PairsFit rules s directives no_pairs e = Unit {0}
 PairsFit rules s directives (pairs_and pairs key value) e =
     PairsFit rules s directives pairs e × PairFits (is_simple s.canonical directives key) rules s directives pairs key value e
 
--- the lines of a simple key and what its `:` opens
+-- the lines of a simple key and the text that its `:` opens
 pub keyed_lines : (rules : Rules) (text t : Text) (tree : Tree) (e : ℕ) → KeyFits rules text tree → (o : Opens rules.breaks12 t)
     → lines_of rules.breaks12 (spaces e ++ (text ++ (0x3A ∷ t))) ≡ record { text = spaces e ++ (text ++ (0x3A ∷ o.head)); ending = o.ending } ∷ o.rest
 keyed_lines rules text t tree e key o =
@@ -108,13 +108,13 @@ keyed_begins rules text after tree key h =
     ap (λ t. begins_entry false (t ++ (0x3A ∷ after))) key.is
     ∙ and_from _ _ (ap not key.shows) (ap not (ap (λ t. begins_with_indicator 0x2D (t ++ (0x3A ∷ after))) (sym key.is) ∙ key.no_dash after h))
 
--- the lines after the first of what an indicator opens are inside the column, where the node fits there
+-- the lines after the first of the text that an indicator opens are inside the column, if the node fits there
 pub rest_inside : (rules : Rules) (n : ℕ) (own : Rendered) (tree : Tree) (role : Role) (cursor : Cursor) (e : ℕ)
     (fit : Fits rules n own tree (entry_place false role e) cursor) (w : cursor.whitespace ≡ false)
     (q : Bool) (d : ℕ) → d + rank q ≤ e → AllInside q d (fit.opens w).rest
 rest_inside rules n own tree role cursor e fit w q d h = grind (arith, nat_tests)
 
--- all lines of an indicator and what it opens are deeper than a column farther out
+-- all lines of an indicator and the text that it opens are deeper than a column farther out
 indicated_inside : (rules : Rules) (n : ℕ) (own : Rendered) (tree : Tree) (role : Role) (cursor : Cursor) (e c : ℕ)
     (fit : Fits rules n own tree (entry_place false role e) cursor) (w : cursor.whitespace ≡ false)
     → OneLine rules.breaks12 (c ∷ []) → (q : Bool) (d : ℕ) → d < e → AllInside q d (lines_of rules.breaks12 (spaces e ++ (c ∷ closed own)))

@@ -11,14 +11,14 @@ use Rattle.yaml_base.proofs.AllPass.{all_pass}
 abbrev pub holds_white : Text → Bool
 holds_white text = list_any (λ c. is_blank c || is_break c) text
 
--- a written tag, and what it says
+-- a written tag, and its meaning
 pub record WrittenTag (directives : List TagDirective) (text : Text) (parsed : ParsedTag) : Type 0 where
   pub rest : Text
   pub begins : text ≡ 0x21 ∷ rest
   pub no_white : holds_white text ≡ false
   pub says : parse_tag directives text ≡ Some parsed
 
--- a written tag, if there is one, and what it says
+-- a written tag, if there is one, and its meaning
 abbrev pub IsTagged : List TagDirective → Option Text → Option ParsedTag → Type 0
 IsTagged directives None None = Unit {0}
 IsTagged directives (Some text) (Some parsed) = WrittenTag directives text parsed
@@ -69,11 +69,11 @@ letter_no_space c h = grind (arith, false≢true, eqb-true)
 pub letters_no_space : (name : Text) → list_all is_alpha name ≡ true → has_no_space name ≡ true
 letters_no_space name h = all_pass is_alpha (λ c. not (c == space)) letter_no_space name h
 
--- what is a name consists of letters
+-- a name consists of letters
 pub name_letters : (name : Text) → name_read name ≡ Some name → list_all is_alpha name ≡ true
 name_letters name h = grind (arith, nat_tests, none_not_some)
 
--- where nothing is white no space is
+-- if nothing is white no character is a space
 pub no_white_no_space : (text : Text) → holds_white text ≡ false → has_no_space text ≡ true
 no_white_no_space [] h = refl
 no_white_no_space (c ∷ text) h =
@@ -93,7 +93,7 @@ spaces_both zero n t = let e : n ≡ zero + n = omega arith in ap (λ k. spaces 
 spaces_both (suc m) n t =
     let e : suc (m + n) ≡ suc m + n = omega arith in ap (λ s. space ∷ s) (spaces_both m n t) ∙ ap (λ k. spaces k ++ t) e
 
--- what stands after spaces, where it begins with none
+-- the text after spaces, if it begins with none
 pub content_indented : (n : ℕ) (t : Text) → begins_content t ≡ true → past_indentation (spaces n ++ t) ≡ record { column = n; text = t }
 content_indented zero [] h = refl
 content_indented zero (c ∷ t) h =
@@ -102,7 +102,7 @@ content_indented (suc n) t h = ap (λ (after : Indented). indented_step true (sp
 
 -- Properties
 
--- what is read of properties, and spaces in their place
+-- the reading of properties, and spaces in their place
 abbrev pub read_as : Option Text → Option ParsedTag → ℕ → Text → Option PropertiesRead
 read_as anchor parsed count rest =
     Some (record { properties = record { anchor = anchor; tag = parsed }; text = spaces count ++ rest })
@@ -127,12 +127,12 @@ no_anchor : (n : ℕ) (rest : Text) → begins_content rest ≡ true
     → anchor_first (spaces n ++ rest) ≡ Some (record { properties = no_properties; text = spaces n ++ rest })
 no_anchor n rest h = grind (arith, nat_tests, and_parts, not-true)
 
--- what follows the reading of an anchor
+-- the text after the reading of an anchor
 abbrev then_tag : List TagDirective → Option PropertiesRead → Option PropertiesRead
 then_tag directives found =
     option_and_then (λ read. let after : Indented = past_indentation read.text in leading_tag directives read.properties.anchor after.column after.text) found
 
--- where a tag begins the text after spaces
+-- if a tag begins the text after spaces
 tag_content : (directives : List TagDirective) (n : ℕ) (tag rest : Text) (parsed : ParsedTag) → WrittenTag directives tag parsed
     → past_indentation (spaces n ++ (tag ++ rest)) ≡ record { column = n; text = tag ++ rest }
 tag_content directives n tag rest parsed written =
@@ -144,7 +144,7 @@ tag_content directives n tag rest parsed written =
     spaced zero t = refl
     spaced (suc n) t = ap (λ (after : Indented). indented_step true (spaces (suc n) ++ (0x21 ∷ t)) after) (spaced n t)
 
--- written properties are read as they were given, before spaces and what they belong to
+-- written properties are read as they were given, before spaces and the node that they belong to
 pub properties_parsed : (directives : List TagDirective) (anchor tag : Option Text) (parsed : Option ParsedTag) (n : ℕ) (rest : Text)
     → IsNamed anchor → IsTagged directives tag parsed → begins_content rest ≡ true
     → (has_properties anchor tag ≡ true → ends_indicator (spaces n ++ rest) ≡ true)
@@ -183,7 +183,7 @@ properties_parsed directives None (Some tag) None n rest named tagged own ends =
 properties_parsed directives (Some name) None (Some parsed) n rest named tagged own ends = absurd tagged
 properties_parsed directives (Some name) (Some tag) None n rest named tagged own ends = absurd tagged
 
--- a word with properties is what follows them, with these properties
+-- a word with properties is the text after them, with these properties
 pub word_with_properties : (rules : Rules) (flow : Bool) (anchor tag : Option Text) (parsed : Option ParsedTag) (n : ℕ) (rest : Text)
     → IsNamed anchor → IsTagged rules.directives tag parsed → begins_content rest ≡ true
     → (has_properties anchor tag ≡ true → ends_indicator (spaces n ++ rest) ≡ true)

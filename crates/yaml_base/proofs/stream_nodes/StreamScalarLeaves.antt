@@ -1,4 +1,4 @@
--- Each scalar in a block fits where its names and its body stand.
+-- Each scalar in a block fits if its names and its body are readable.
 use Rattle.yaml_base.proofs.Common.{ℕ, ◌≤◌, if◌then◌else◌, is_some, Option, None, Some, Bool, false, not, true, ◌&&◌, ◌||◌, List, [], refl, ◌≡◌, true≢false}
 use Rattle.yaml_base.proofs.Common.{and_parts, Text, Cursor, ScalarStyle, plain, TagDirective, scalar_tag, scalar_node, render_body, allowed_under}
 use Rattle.yaml_base.proofs.Common.{style_asked_at, choice_of, Place, deeper, is_simple_at, read_in_style, Effective, is_tidy, Allowances, is_empty}
@@ -9,7 +9,7 @@ use Rattle.yaml_base.proofs.{stream_nodes.StreamLeaves.ScalarsFit, stream_nodes.
 use Rattle.yaml_base.proofs.Common.{allows_literal, is_plain, is_block, requested_style, fits_plain}
 use Rattle.yaml_base.proofs.stream_nodes.StreamScalarsFit.{body_fits, render_styled, body_cursor, styled_fits}
 
--- a scalar in a style fits where its body is tidy and reads as its value
+-- a scalar in a style fits if its body is tidy and reads as its value
 scalar_fits : (s : Effective) (own directives : List TagDirective) (anchor tag : Option Text) (bare : Bool) (style : ScalarStyle) (limit : Option ℕ)
     (indent : ℕ) (value : Text)
     (place : Place) (cursor : Cursor) → 2 ≤ s.indent → s.indent ≤ 9 → IsNamed anchor → TagStands s.portable own directives tag

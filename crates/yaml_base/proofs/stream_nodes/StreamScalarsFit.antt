@@ -1,4 +1,4 @@
--- Scalars that stand in blocks fit: in each style, behind an anchor and a tag or without them, and where nothing is written.
+-- Scalars in blocks fit: in each style, after an anchor and a tag or without them, and if nothing is written.
 use Rattle.yaml_base.proofs.Common.{nat_tests, ℕ, ◌≤◌, if◌then◌else◌, Option, None, Some, Bool, false, true, ◌&&◌, List, [], ◌++◌, ◌∷◌, refl, ◌≡◌, true≢false}
 use Rattle.yaml_base.proofs.Common.{append-nil, append_assoc, ap, subst, sym, ◌∙◌, arith, false≢true, Text, Cursor, Rendered, render_then, column_after}
 use Rattle.yaml_base.proofs.Common.{space_if, ScalarStyle, any_style, plain, single_quoted, double_quoted, literal, folded, TagDirective, render_properties}
@@ -20,7 +20,7 @@ use Rattle.yaml_base.proofs.stream_nodes.StreamOwnBlocks.{block_indicator, block
 
 -- Bodies
 
--- what is rendered for a scalar's body: it leaves off settled at a line's end, and up to there it is its own text
+-- the rendered text of a scalar's body: it ends settled at a line's end, and up to there it is its own text
 pub record BodyFits (rules : Rules) (column : Option ℕ) (style : ScalarStyle) (value : Text) (body : Rendered) : Type 0 where
   pub settled : Settled body.cursor
   pub ends : is_closed rules.breaks12 (closed body) ≡ true
@@ -68,7 +68,7 @@ block_text : (symbol best_indent : ℕ) (value lines : Text) (cursor : Cursor)
     → (block_body symbol best_indent value lines cursor).text ≡ symbol ∷ header_rest best_indent value lines
 block_text symbol best_indent value lines cursor = grind (arith, hint_text, append_assoc)
 
--- where the value ends in a break, so do its lines
+-- if the value ends in a break, so do its lines
 block_kept : (s : Effective) (own : List TagDirective) (column : Option ℕ) (l : Bool) (value lines : Text) (cursor : Cursor)
     → ends_in_break (ending value) ≡ true → (end : EndsBreak value) → EndsLines lines end.last
     → allows_literal (record { unicode = s.unicode; breaks12 = s.breaks12 }) value ≡ true
@@ -140,19 +140,19 @@ body_fits s own column style limit indent value cursor low high allowed some tid
 
 -- Scalars
 
--- what is rendered for a scalar after the indicators of its place
+-- the rendered text of a scalar after the indicators of its place
 abbrev pub render_styled : Effective → List TagDirective → Option Text → Option Text → (bare : Bool) → ScalarStyle → Option ℕ → ℕ → Text → Cursor → Rendered
 render_styled s directives anchor tag bare style limit indent value cursor =
     render_then
     (render_then (render_properties s.portable directives anchor tag bare cursor) (render_separation style false value))
     (render_body style s limit indent value)
 
--- the cursor where its body begins
+-- the cursor at which its body begins
 abbrev pub body_cursor : Effective → List TagDirective → Option Text → Option Text → (bare : Bool) → ScalarStyle → Text → Cursor → Cursor
 body_cursor s directives anchor tag bare style value cursor =
     (render_separation style false value (render_properties s.portable directives anchor tag bare cursor).cursor).cursor
 
--- a space stands before each body but an empty plain one
+-- a space precedes each body but an empty plain one
 pub separation_text : (style : ScalarStyle) (value : Text) (cursor : Cursor) → (is_plain style && is_empty value) ≡ false
     → (render_separation style false value cursor).text ≡ space_if true cursor
 separation_text style value cursor h = grind (arith, nat_tests, true≢false)

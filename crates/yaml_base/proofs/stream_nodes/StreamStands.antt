@@ -1,5 +1,5 @@
--- What is asked of a layout's parts so that it is read: names and tags that are read as they were given, and tidy bodies that
--- read as their values.
+-- The conditions under which a layout's parts are readable: names and tags that are read as they were given, and tidy bodies that read as their
+-- values.
 use Rattle.yaml_base.proofs.Common.{ℕ, if◌then◌else◌, Option, None, Some, codes, Bool, false, true, List, ◌≡◌, Text, Cursor, TagDirective, Scalar, scalar_tag}
 use Rattle.yaml_base.proofs.Common.{collection_tag, Node, alias_node, scalar_node, Nodes, sequence_node, Pairs, mapping_node, no_nodes, nodes_and, no_pairs}
 use Rattle.yaml_base.proofs.Common.{pairs_and, Body, render_properties, render_separation, render_body, choice_of, body_at, is_written_in_flow, entry_place}
@@ -16,7 +16,7 @@ tag_written portable directives (Some tag) bare = Some (spelled portable (spelli
 tag_written portable directives None true = Some (codes "!")
 tag_written portable directives None false = None
 
--- what the reader is to take it for
+-- the tag as the reader is to read it
 abbrev pub tag_meant : Option Text → (bare : Bool) → Option ParsedTag
 tag_meant (Some tag) bare = Some (name_parsed tag)
 tag_meant None true = Some bare_parsed

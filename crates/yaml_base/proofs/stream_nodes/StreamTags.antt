@@ -12,7 +12,7 @@ use Rattle.yaml_base.proofs.TagForms.{closing_angle_dropped, IsHandle, handle_fo
 
 -- Characters
 
--- what is written of a tag may stand in a URI
+-- a character that is written of a tag may be in a URI
 pub uri_character : (c : ℕ) → stands_written c ≡ true → is_uri_character c ≡ true
 uri_character c h = grind (arith, nat_tests)
 
@@ -23,7 +23,7 @@ uri_text text h = all_pass stands_written is_uri_character uri_character text h
 abbrev is_flow_indicator : ℕ → Bool
 is_flow_indicator c = is_among (codes ",[]") c
 
--- after a handle no flow indicator is written, in portable mode or where the text holds none
+-- after a handle no flow indicator is written, in portable mode or if the text holds none
 pub suffix_has_no_flow_indicator : (portable : Bool) (text : Text) → (portable || not (list_any is_flow_indicator text)) ≡ true
     → list_any is_flow_indicator (suffix_escaped portable text) ≡ false
 suffix_has_no_flow_indicator true text h = portable_suffix_has_no_flow_indicator text
@@ -37,7 +37,7 @@ suffix_has_no_flow_indicator false text h = by text (not-true (list_any is_flow_
         ∙ or_from (list_any is_flow_indicator (character_written (is_tag_character c) c)) (list_any is_flow_indicator (suffix_escaped false text))
         (character_is_no_flow_indicator (is_tag_character c) c (λ k. parts.0)) (by text parts.1)
 
--- a text in a URI without such an indicator may stand after a handle
+-- a text in a URI without such an indicator may come after a handle
 suffix_text : (text : Text) → list_all is_uri_character text ≡ true → list_any is_flow_indicator text ≡ false → list_all may_follow_handle text ≡ true
 suffix_text [] h k = refl
 suffix_text (c ∷ text) h k =
@@ -45,14 +45,14 @@ suffix_text (c ∷ text) h k =
     let none = or_parts _ _ k in
     and_from _ _ (and_from _ _ parts.0 (ap not none.0)) (suffix_text text parts.1 none.1)
 
--- what is written after a handle may stand there
+-- a character that is written after a handle may come there
 pub suffix_reads : (portable : Bool) (text : Text) → (portable || not (list_any is_flow_indicator text)) ≡ true
     → list_all may_follow_handle (suffix_escaped portable text) ≡ true
 suffix_reads portable text h = grind (arith, suffix_text, uri_text, suffix_stands, suffix_has_no_flow_indicator)
 
 -- Tags
 
--- where what stands in a tag may stand there, a stream's tag says what a canonical one says
+-- if the characters of a tag may come there, a stream's tag has the meaning of a canonical one
 verbatim_as_read : (own : List TagDirective) (c : ℕ) (name : Text) → list_all is_uri_character (c ∷ name) ≡ true
     → parse_tag own (codes "!<" ++ ((c ∷ name) ++ codes ">")) ≡ read_tag own (codes "!<" ++ ((c ∷ name) ++ codes ">"))
 verbatim_as_read own c name h = grind (arith, closing_angle_dropped)
@@ -63,7 +63,7 @@ by_handle : (own : List TagDirective) (d : ℕ) (rest handle : Text) (c : ℕ) (
     → parse_tag own (exclamation_mark ∷ d ∷ rest) ≡ read_tag own (exclamation_mark ∷ d ∷ rest)
 by_handle own d rest handle c suffix less cut h = grind (arith)
 
--- a handle and what stands after it go on so
+-- a handle and the text after it go on so
 second_indicator : (handle : Text) (c : ℕ) (suffix : Text) → IsHandle handle → stands_written c ≡ true
     → (d : ℕ) × (rest : Text) × (handle ++ (c ∷ suffix) ≡ exclamation_mark ∷ d ∷ rest) × ((d == 0x3C) ≡ false)
 second_indicator handle c suffix (inl e) h = (c, suffix, ap (λ t. t ++ (c ∷ suffix)) e, written_is_no_less c h)
@@ -76,7 +76,7 @@ second_indicator handle c suffix (inr form) h = by form.0 form.1 form.2
         let first = (and_parts (is_alpha m) (list_all is_alpha middle) k).0 in
         (m, (middle ++ exclamation_mark ∷ []) ++ (c ∷ suffix), ap (λ t. t ++ (c ∷ suffix)) e, alpha_is_no_less m first)
 
--- a shorthand says what a canonical one says
+-- a shorthand has the meaning of a canonical one
 shorthand_as_read : (own : List TagDirective) (handle : Text) (c : ℕ) (suffix : Text) → IsHandle handle → list_all stands_written (c ∷ suffix) ≡ true
     → list_all may_follow_handle (c ∷ suffix) ≡ true → parse_tag own (handle ++ (c ∷ suffix)) ≡ read_tag own (handle ++ (c ∷ suffix))
 shorthand_as_read own handle c suffix form stands h =
@@ -124,7 +124,7 @@ begins_exclamation portable own tag sound =
     by handle (inl e) suffix = (suffix, ap (λ t. t ++ suffix) e)
     by handle (inr form) suffix = ((form.0 ++ exclamation_mark ∷ []) ++ suffix, ap (λ t. t ++ suffix) form.1)
 
--- a tag of at least one character that is written is read as the tag, in portable mode or where no flow indicator stands after its handle
+-- a tag of at least one character that is written is read as the tag, in portable mode or if no flow indicator follows its handle
 pub written_tag : (portable : Bool) (own : List TagDirective) (c : ℕ) (tag : Text) → directives_fault own ≡ None → all_scalars (c ∷ tag) ≡ true
     → (portable || not (has_flow_indicator (spelling (directives_in_force own) (c ∷ tag)))) ≡ true
     → WrittenTag own (spelled portable (spelling (directives_in_force own) (c ∷ tag))) (name_parsed (c ∷ tag))

@@ -1,4 +1,4 @@
--- A node's text by itself: what is rendered for it after the indicators of its place, as one text in place of pieces.
+-- A node's text by itself: the text that is rendered for it after the indicators of its place, as one text in place of pieces.
 use Rattle.yaml_base.proofs.Common.{arith, ℕ, if◌then◌else◌, Option, None, Bool, false, List, [], ◌++◌, ◌∷◌, refl, ◌≡◌, append-nil, append_assoc, ap, ◌∙◌}
 use Rattle.yaml_base.proofs.Common.{flat_map-append, Text, Cursor, Rendered, render_nothing, render_then, TagDirective, Scalar, scalar_tag, collection_tag}
 use Rattle.yaml_base.proofs.Common.{Node, alias_node, scalar_node, Nodes, sequence_node, Pairs, mapping_node, no_nodes, nodes_and, no_pairs, pairs_and, Piece}

@@ -1,4 +1,4 @@
--- What contracts see of a document.
+-- Documents as contracts see them.
 use Rattle.yaml_base.specs.graphs.Meetings.{Graph}
 use Rattle.yaml_base.specs.graphs.SeenNodes.{seen_document}
 use Rattle.yaml_base.specs.declared.documents.yaml_document_t.{yaml_document_t}

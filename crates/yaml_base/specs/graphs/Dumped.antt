@@ -1,4 +1,4 @@
--- Graphs that were dumped one after another, and what is read back of them.
+-- Streams of dumped graphs, and the reading of their bytes.
 use Rattle.std.specs.Prelude.{◌≡◌, Bool, Option, Some, List, [], ◌∷◌, ◌++◌, ℕ, ⊤, All, flat_map}
 use Rattle.yaml_base.specs.Settings.{Encoding}
 use Rattle.yaml_base.specs.Event.{Event, stream_start, stream_end}
@@ -7,7 +7,7 @@ use Rattle.yaml_base.specs.reading.CanonicalReader.{canonical_content}
 use Rattle.yaml_base.specs.graphs.Meetings.{Graph, document_event_list}
 use Rattle.yaml_base.specs.graphs.Unfolding.{IsWholeGraph, ContentUnfolds}
 
--- a stream's events are those of documents with these graphs
+-- events are a dump of graphs: those of a stream of documents with these graphs, in order
 pub record AreDumped (graphs : List Graph) (events : List Event) : Type 0 where
   pub encoding : Option Encoding
   pub documents : All IsWholeGraph graphs
@@ -19,13 +19,13 @@ pub record DocumentContentUnfolds (graph : Graph) (content : DocumentContent) : 
   pub directives : content.directives ≡ graph.start.directives
   pub unfolds : ContentUnfolds graph content.root
 
--- contents unfold graphs, document by document
+-- each content unfolds its graph, in order and as many
 abbrev pub ContentsUnfold : List Graph → List DocumentContent → Type 0
 ContentsUnfold [] [] = ⊤
 ContentsUnfold (graph ∷ graphs) (content ∷ contents) = DocumentContentUnfolds graph content × ContentsUnfold graphs contents
 ContentsUnfold _ _ = ⊥
 
--- what the canonical reader finds in bytes unfolds these graphs
+-- the canonical reader finds contents in some bytes, and they unfold these graphs
 pub record GraphsRead (breaks12 : Bool) (graphs : List Graph) (bytes : List ℕ) : Type 0 where
   pub contents : List DocumentContent
   pub read : canonical_content breaks12 bytes ≡ Some contents

@@ -1,5 +1,5 @@
--- The canonical text of a document that was dumped: one document without directives, each node with its anchor and its tag,
--- two spaces for each level.
+-- The canonical text of a dumped document: one document without directives, each node with its anchor and its tag, and two spaces for each
+-- level.
 use Rattle.std.specs.Prelude.{◌≡◌, ℕ, ◌+◌, Bool, true, false, not, Option, None, Some, List, [], ◌∷◌, ◌++◌, codes}
 use Rattle.yaml_base.specs.Characters.{Text, line_feed, space}
 use Rattle.yaml_base.specs.Event.{Scalar, Collection, DocumentStart, Event}
@@ -11,26 +11,26 @@ use Rattle.yaml_base.specs.graphs.Meetings.{Graph, document_event_list}
 use Rattle.yaml_base.specs.graphs.Unfolding.{TreeUnfolds}
 use Rattle.yaml_base.specs.values.ValueText.{in_quotes, line_at}
 
--- `&` and the anchor, where there is one
+-- `&` and the anchor, if there is one
 abbrev pub anchor_text : Option Text → Text
 anchor_text None = []
 anchor_text (Some name) = codes "&" ++ (name ++ space ∷ [])
 
--- the tag behind `!!` or `!`, or else verbatim; without a tag the bare one, or nothing
+-- the tag after `!!` or `!`, or else verbatim; without a tag the bare one, or nothing
 abbrev pub tag_text : Option Text → (bare : Bool) → Text
 tag_text (Some tag) bare = spelled false (spelling default_directives tag) ++ space ∷ []
 tag_text None true = codes "! "
 tag_text None false = []
 
--- what stands before a scalar's value; the bare tag stands where it has none and may not be quoted without one
+-- the text before a scalar's value; a scalar that has no tag and may not be quoted without one has the bare tag
 abbrev pub scalar_properties : Scalar → Text
 scalar_properties content = anchor_text content.anchor ++ tag_text content.tag (not content.quoted_implicit)
 
--- what stands before a collection's bracket
+-- the text before a collection's bracket
 abbrev pub collection_properties : Collection → Text
 collection_properties start = anchor_text start.anchor ++ tag_text start.tag false
 
--- the closing bracket has a line of its own, unless nothing stands between the brackets
+-- the line of the closing bracket; none if nothing is between the brackets
 abbrev pub closing_line : ℕ → (empty : Bool) → Text
 closing_line column true = []
 closing_line column false = line_at column
@@ -57,17 +57,17 @@ abbrev mutual
       node_pairs_text column pairs
       ++ (line_at column ++ (codes "? " ++ (node_text column key ++ (line_at column ++ (codes ": " ++ (node_text column value ++ codes ","))))))
 
--- a document, by its root
+-- the text of a document, by its root
 abbrev pub dumped_text : Node → Text
 dumped_text root = codes "---\n" ++ (node_text 0 root ++ line_feed ∷ [])
 
--- without version and directives, and with an end that isn't written
+-- a document without version and directives, whose end isn't written
 pub record IsBareDocument (start : DocumentStart) (end_implicit : Bool) : Type 0 where
   pub version : start.version ≡ None
   pub directives : start.directives ≡ []
   pub implicit : end_implicit ≡ true
 
--- events are those of a document with this text
+-- events are those of a document, and this is its text
 pub record HaveText (events : List Event) (text : Text) : Type 0 where
   pub document : Document
   pub is_document : document_events document ≡ events

@@ -1,4 +1,4 @@
--- When the parts of two documents' graphs that their roots reach are the same but for the numbers of the nodes, and for styles.
+-- When the parts of two documents' graphs that their roots reach are the same except for the numbers of the nodes and the styles.
 --
 -- For example, the first two of these graphs are isomorphic: 2 and 3 change places. The third is neither's: its two scalars `a`
 -- are equal, and yet two nodes.
@@ -10,7 +10,7 @@ use Rattle.std.specs.Prelude.{◌≡◌, ℕ, true, false, Option, None, List, [
 use Rattle.yaml_base.specs.graphs.Meetings.{Graph, node_numbered, children}
 use Rattle.yaml_base.specs.graphs.Unfolding.{Label, label_of, IsReached}
 
--- what the node of a number shows by itself: its tag, its kind, and a scalar's value
+-- the label of the node of a number: its tag, its kind, and a scalar's value
 abbrev pub label_at : Graph → ℕ → Option Label
 label_at graph number = option_map (label_of false) (node_numbered graph number)
 
@@ -26,24 +26,24 @@ pub record Isomorphic (first second : Graph) : Type 0 where
   pub one_to_one : (number : ℕ) → IsReached first number → back (partner number) ≡ number
   pub onto : (number : ℕ) → IsReached second number → partner (back number) ≡ number
 
--- documents of isomorphic graphs, with the same version and the same directives
+-- two documents have isomorphic graphs, the same version and the same directives
 pub record AreEquivalent (first second : Graph) : Type 0 where
   pub version : first.start.version ≡ second.start.version
   pub directives : first.start.directives ≡ second.start.directives
   pub graphs : Isomorphic first second
 
--- so do documents of two streams, in order and as many
+-- each document of one stream is so equivalent to that of another, in order and as many
 abbrev pub AllAreEquivalent : List Graph → List Graph → Type 0
 AllAreEquivalent [] [] = ⊤
 AllAreEquivalent (first ∷ firsts) (second ∷ seconds) = AreEquivalent first second × AllAreEquivalent firsts seconds
 AllAreEquivalent _ _ = ⊥
 
--- documents that canonical mode writes alike: they say the same, and the ends of both are written, or of none
+-- canonical mode writes two documents alike: they are equivalent, and the ends of both are written, or of neither
 pub record IsWrittenAlike (first second : Graph) : Type 0 where
   pub says : AreEquivalent first second
   pub end_implicit : first.end_implicit ≡ second.end_implicit
 
--- so are documents of two streams, in order and as many
+-- it writes each document of one stream like that of another, in order and as many
 abbrev pub AreWrittenAlike : List Graph → List Graph → Type 0
 AreWrittenAlike [] [] = ⊤
 AreWrittenAlike (first ∷ firsts) (second ∷ seconds) = IsWrittenAlike first second × AreWrittenAlike firsts seconds

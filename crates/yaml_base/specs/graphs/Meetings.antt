@@ -1,5 +1,5 @@
--- A document as a graph of numbered nodes, the walk over it, and its events (libyaml's dumper; here a shared node gets
--- its anchor however deep it lies).
+-- A document as a graph of numbered nodes, the walk over it, and its events (libyaml's dumper; here a shared node gets its anchor at any
+-- depth).
 use Rattle.std.specs.Prelude.{ℕ, zero, suc, Bool, true, false, Option, None, Some, List, [], ◌∷◌, ◌++◌, ◌==◌, ◌+◌, ◌-◌, ◌&&◌, nat_le, not, length, replicate}
 use Rattle.std.specs.Prelude.{filter, filter_map, flat_map, fold, position, codes, bytes_eq, slice_get, option_map, unwrap_or, if◌then◌else◌}
 use Rattle.std.specs.List.{list_any, list_all}
@@ -15,13 +15,13 @@ pub record NumberPair : Type 0 where
   pub key : ℕ
   pub value : ℕ
 
--- what a node holds: a value, or the numbers of other nodes
+-- the contents of a node: a value, or the numbers of other nodes
 pub data Held : Type 0 where
   scalar_held : Text → ScalarStyle → Held
   sequence_held : List ℕ → CollectionStyle → Held
   mapping_held : List NumberPair → CollectionStyle → Held
 
--- a node: its tag, and what it holds
+-- a node: its tag and its contents
 pub record GraphNode : Type 0 where
   pub tag : Text
   pub held : Held
@@ -37,13 +37,13 @@ abbrev pub node_numbered : Graph → ℕ → Option GraphNode
 node_numbered graph zero = None
 node_numbered graph (suc before) = slice_get graph.nodes before
 
--- the numbers that a node holds, in order, keys before values
+-- the numbers that a node contains, in order, keys before values
 abbrev pub numbers_held : Held → List ℕ
 numbers_held (scalar_held value style) = []
 numbers_held (sequence_held items style) = items
 numbers_held (mapping_held pairs style) = flat_map (λ pair. pair.key ∷ pair.value ∷ []) pairs
 
--- the numbers that a node refers to, none where there is no such node
+-- the numbers that a node refers to; none if there is no such node
 abbrev pub numbers_in : Option GraphNode → List ℕ
 numbers_in None = []
 numbers_in (Some node) = numbers_held node.held
@@ -52,24 +52,24 @@ numbers_in (Some node) = numbers_held node.held
 abbrev pub children : Graph → ℕ → List ℕ
 children graph number = numbers_in (node_numbered graph number)
 
--- each number that a node of the graph holds names a node of it
+-- true if each number that a node of the graph contains names a node of it
 abbrev pub is_whole : Graph → Bool
 is_whole graph = list_all (λ node. list_all (λ number. nat_le 1 number && nat_le number (length graph.nodes)) (numbers_held node.held)) graph.nodes
 
 -- ---- the walk
 
--- the walk enters a node where it first meets it, and leaves it behind its children; elsewhere it meets it again
+-- a step of the walk: it enters a node at the first meeting and leaves it after its children; at each other meeting it meets it again
 pub data Step : Type 0 where
   enters : ℕ → Step
   leaves : ℕ → Step
   meets_again : ℕ → Step
 
--- a step of the walk enters this node
+-- true if a step of the walk enters this node
 abbrev pub is_entry_of : ℕ → Step → Bool
 is_entry_of number (enters other) = number == other
 is_entry_of number _ = false
 
--- steps, and then those of the walk from a node on, at most so many nodes deep
+-- steps, and then those of the walk from a node on, to this depth
 abbrev pub steps_from : ℕ → Graph → List Step → ℕ → List Step
 steps_from zero graph before number = before
 steps_from (suc depth) graph before number =
@@ -78,7 +78,7 @@ steps_from (suc depth) graph before number =
       | false ↦ fold (steps_from depth graph) (before ++ enters number ∷ []) (children graph number) ++ leaves number ∷ []
     ]
 
--- the depth-first walk from node 1: no more nodes can be entered inside each other than there are
+-- the depth-first walk from node 1; its depth never exceeds the number of nodes
 abbrev pub graph_steps : Graph → List Step
 graph_steps graph = steps_from (suc (length graph.nodes)) graph [] 1
 
@@ -99,20 +99,20 @@ abbrev pub node_met_again : Step → Option ℕ
 node_met_again (meets_again number) = Some number
 node_met_again _ = None
 
--- each number of a list where it first stands
+-- each number of a list once, at its first place
 abbrev pub first_of_each : List ℕ → List ℕ
 first_of_each [] = []
 first_of_each (number ∷ rest) = number ∷ filter (λ other. not (other == number)) (first_of_each rest)
 
--- the nodes that are met twice or more, in the order of their second meetings
+-- the nodes that are met at least twice, in the order of their second meetings
 abbrev pub shared_nodes : List Step → List ℕ
 shared_nodes walk = first_of_each (filter_map node_met_again walk)
 
--- the decimal digits of a number, however many they are
+-- the decimal digits of a number, without a bound on their number
 unfoldable pub decimal_digits : ℕ → Text
 decimal_digits number = digits_onto (suc number) 10 false number []
 
--- `id` and a number of at least three digits
+-- `id` and the digits of a number, at least three
 abbrev pub numbered_name : ℕ → Text
 numbered_name number = codes "id" ++ replicate (3 - length (decimal_digits number)) 0x30 ++ decimal_digits number
 
@@ -134,7 +134,7 @@ sequence_tag = codes "tag:yaml.org,2002:seq"
 abbrev pub mapping_tag : Text
 mapping_tag = codes "tag:yaml.org,2002:map"
 
--- the event that begins a node; its flags are on exactly where it has the tag of its kind
+-- the event that begins a node; its flags are on exactly if it has the tag of its kind
 abbrev pub opening_event_of : Option Text → Text → Held → Event
 opening_event_of anchor tag (scalar_held value style) =
     let implicit = bytes_eq tag string_tag in
@@ -144,18 +144,18 @@ opening_event_of anchor tag (sequence_held items style) =
 opening_event_of anchor tag (mapping_held pairs style) =
     mapping_start (record { anchor = anchor; tag = Some tag; implicit = bytes_eq tag mapping_tag; style = style })
 
--- the event with which a node begins, none where there is no such node
+-- the event that begins a node, if there is one
 abbrev pub opening_events : Option Text → Option GraphNode → List Event
 opening_events anchor None = []
 opening_events anchor (Some node) = opening_event_of anchor node.tag node.held ∷ []
 
--- the event that ends a node, where it has one
+-- the event that ends a node, if it has one
 abbrev pub closing_event_of : Held → List Event
 closing_event_of (scalar_held value style) = []
 closing_event_of (sequence_held items style) = sequence_end ∷ []
 closing_event_of (mapping_held pairs style) = mapping_end ∷ []
 
--- the event with which a node ends, if it is a collection
+-- the event that ends a node, if it is a collection
 abbrev pub closing_events : Option GraphNode → List Event
 closing_events None = []
 closing_events (Some node) = closing_event_of node.held

@@ -1,4 +1,4 @@
--- What contracts see of nodes and documents: numbered nodes as plain data, no capacity and no allocator.
+-- Nodes and documents as contracts see them: numbered nodes as plain data, without capacity and allocator.
 use Rattle.std.specs.Prelude.{ℕ, ℤ, pos, negsuc, Bool, false, ◌&&◌, nat_le, not, Option, List, [], ◌∷◌, map, option_map, find}
 use Rattle.std.specs.List.{flat_map}
 use Rattle.yaml_base.specs.graphs.Meetings.{NumberPair, Held, scalar_held, sequence_held, mapping_held, GraphNode, Graph}
@@ -19,7 +19,7 @@ seen_number (negsuc _) = 0
 abbrev pub seen_pair : yaml_node_pair_t → NumberPair
 seen_pair pair = record { key = seen_number pair.key; value = seen_number pair.value }
 
--- what a node holds
+-- the contents of a node
 abbrev pub seen_held : {A : Type 0} → yaml_node_data_t A → Held
 seen_held (Scalar value style) = scalar_held (seen_text value) (seen_scalar_style style)
 seen_held (Sequence items style) = sequence_held (map seen_number items.items) (seen_sequence_style style)
@@ -37,25 +37,25 @@ seen_document version directives nodes start_implicit end_implicit = record {
   end_implicit = end_implicit;
 }
 
--- one of so many nodes has this number
+-- true if one of so many nodes has this number
 abbrev pub names_node : ℕ → ℤ → Bool
 names_node count (pos number) = nat_le 1 number && nat_le number count
 names_node count (negsuc _) = false
 
--- the numbers in pairs, keys before their values
+-- the numbers of pairs, keys before their values
 abbrev pub numbers_of_pairs : List yaml_node_pair_t → List ℤ
 numbers_of_pairs pairs = flat_map (λ pair. pair.key ∷ pair.value ∷ []) pairs
 
--- the numbers that a node holds, in order, keys before values
+-- the numbers that a node contains, in order, keys before values
 abbrev pub numbers_of : {A : Type 0} → yaml_node_data_t A → List ℤ
 numbers_of (Scalar value style) = []
 numbers_of (Sequence items style) = items.items
 numbers_of (Mapping pairs style) = numbers_of_pairs pairs.items
 
--- the numbers that nodes hold, in order
+-- the numbers that nodes contain, in order
 abbrev pub all_numbers : {A : Type 0} → List (yaml_node_t A) → List ℤ
 all_numbers nodes = flat_map (λ node. numbers_of node.contents) nodes
 
--- the first number that names none of so many nodes
+-- the first number that names none of so many nodes; none if each names one
 abbrev pub first_outside : ℕ → List ℤ → Option ℤ
 first_outside count numbers = find (λ number. not (names_node count number)) numbers

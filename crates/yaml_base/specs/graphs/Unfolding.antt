@@ -1,5 +1,5 @@
--- What it means that a tree unfolds a document's graph (YAML 1.1, section 3.2.2, from the graph's side: each alias stands
--- for the node that carries its anchor).
+-- When a tree unfolds a document's graph (YAML 1.1, section 3.2.2, from the graph's side: each alias means the node that carries its
+-- anchor).
 --
 -- For example, the graph of three nodes on the left is unfolded by the tree on the right, since its occurrences can be numbered:
 --     1  a sequence of 2 and 3              &id002 [ &id001 a, { *id001 : *id002 } ]
@@ -18,20 +18,20 @@ use Rattle.yaml_base.specs.reading.Content.{no_contents, contents_and, ContentPa
 use Rattle.yaml_base.specs.graphs.Meetings.{Held, scalar_held, sequence_held, mapping_held, GraphNode, Graph, is_whole, node_numbered, children}
 use Rattle.yaml_base.specs.graphs.Meetings.{document_event_list}
 
--- ---- what trees of events and contents have in common
+-- ---- the common form of trees of events and contents
 
--- a kind, with a style where styles count
+-- a kind, with its style if styles count
 pub data StyledKind : Type 0 where
   scalar_kind : Text → Option ScalarStyle → StyledKind
   sequence_kind : Option CollectionStyle → StyledKind
   mapping_kind : Option CollectionStyle → StyledKind
 
--- what a node shows by itself: its tag and its kind
+-- the label of a node: its tag and its kind
 pub record Label : Type 0 where
   pub tag : Option Text
   pub kind : StyledKind
 
--- an alias, or a node with its anchor, its label and its children in order; in a mapping a key stands before its value
+-- an alias, or a node with its anchor, its label and its children in order; in a mapping a key comes before its value
 mutual
   pub data Shape : Type 0 where
     alias_shape : Text → Shape
@@ -60,7 +60,7 @@ abbrev mutual
   pairs_shapes no_pairs = no_shapes
   pairs_shapes (pairs_and pairs key value) = shapes_and (shapes_and (pairs_shapes pairs) (node_shape_of key)) (node_shape_of value)
 
--- the tag, where one was written
+-- the tag, if one was written
 abbrev pub explicit_tag : ScalarTag → Option Text
 explicit_tag (tagged tag) = Some tag
 explicit_tag (untagged quoted_implicit) = None
@@ -106,7 +106,7 @@ abbrev pub numbers_at : PlacedNodes → List ℕ
 numbers_at none_placed = []
 numbers_at (placed_and before last) = numbers_at before ++ number_at last ∷ []
 
--- the label of a graph's node, with its style or without
+-- the kind of a node's contents, with its style or without
 abbrev pub kind_held : Bool → Held → StyledKind
 kind_held styled (scalar_held value style) = scalar_kind value (if styled then Some style else None)
 kind_held styled (sequence_held items style) = sequence_kind (if styled then Some style else None)
@@ -151,12 +151,12 @@ abbrev mutual
   occurrences_below none_placed = []
   occurrences_below (placed_and before last) = occurrences_below before ++ occurrences last
 
--- a node that carries this anchor
+-- true of a node that carries this anchor
 abbrev pub has_anchor : Text → Occurrence → Bool
 has_anchor name (node_occurrence (Some anchor) number) = bytes_eq name anchor
 has_anchor name _ = false
 
--- the node with this number, and no alias of it
+-- true of the node with this number, and of no alias
 abbrev pub is_occurrence_of : ℕ → Occurrence → Bool
 is_occurrence_of number (node_occurrence anchor other) = number == other
 is_occurrence_of number (alias_occurrence name other) = false
@@ -167,20 +167,20 @@ NamesItsNode all before (alias_occurrence name number) =
     (count_by (has_anchor name) all ≡ 1) × Contains before (node_occurrence (Some name) number)
 NamesItsNode all before (node_occurrence anchor number) = ⊤
 
--- each alias among some occurrences, after those before them
+-- each of some occurrences that is an alias names its node so; the occurrences before them are given
 abbrev pub NameTheirNodes : List Occurrence → List Occurrence → List Occurrence → Type 0
 NameTheirNodes all before [] = ⊤
 NameTheirNodes all before (first ∷ rest) = NamesItsNode all before first × NameTheirNodes all (before ++ first ∷ []) rest
 
 -- ---- unfolding
 
--- node 1 and the children of each node that is reached are reached
+-- node 1 is reached, and so are the children of each reached node
 pub data IsReached (graph : Graph) : ℕ → Type 0 where
   first_reached : IsReached graph 1
   child_reached : {number child : ℕ} → IsReached graph number → Contains (children graph number) child → IsReached graph child
 
--- a shape unfolds a graph: its occurrences are numbered; the root has 1; each node that is reached occurs exactly once but for its
--- aliases, and no other node does
+-- a shape unfolds a graph: its occurrences are numbered; the root has 1; each reached node occurs exactly once apart from its aliases, and
+-- no other node occurs
 pub record Unfolds (styled : Bool) (graph : Graph) (shape : Shape) : Type 0 where
   pub placed : Placed
   pub root : number_at placed ≡ 1
@@ -193,13 +193,13 @@ pub record Unfolds (styled : Bool) (graph : Graph) (shape : Shape) : Type 0 wher
 abbrev pub TreeUnfolds : Graph → Node → Type 0
 TreeUnfolds graph tree = Unfolds true graph (node_shape_of tree)
 
--- a content unfolds a graph but for its styles
+-- a content unfolds a graph apart from its styles
 abbrev pub ContentUnfolds : Graph → Content → Type 0
 ContentUnfolds graph content = Unfolds false graph (content_shape content)
 
 -- ---- documents
 
--- events are those of a document whose tree unfolds the graph
+-- events are those of a document with the graph's markers, version and directives, whose tree unfolds the graph
 pub record EventsUnfold (graph : Graph) (events : List Event) : Type 0 where
   pub document : Document
   pub is_document : document_events document ≡ events
@@ -207,7 +207,7 @@ pub record EventsUnfold (graph : Graph) (events : List Event) : Type 0 where
   pub end_implicit : document.end_implicit ≡ graph.end_implicit
   pub unfolds : TreeUnfolds graph document.root
 
--- a graph with nodes, each of whose numbers names one of them
+-- a graph has nodes, and each number that a node contains names one of them
 pub record IsWholeGraph (graph : Graph) : Type 0 where
   pub whole : is_whole graph ≡ true
   pub has_nodes : (length graph.nodes == 0) ≡ false

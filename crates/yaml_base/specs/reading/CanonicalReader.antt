@@ -1,4 +1,4 @@
--- Reading canonical bytes back, without any word of what writes them: bytes to characters (`ReadBytes`), characters to tokens
+-- Reading canonical bytes back, independently of the definitions that write them: bytes to characters (`ReadBytes`), characters to tokens
 -- (`CanonicalTokens`), and here tokens to contents, in flow style and double quotes alone.
 --     canonical_content breaks12 bytes      the documents' contents, or nothing
 -- Source, unless a definition names its own: helpers of this project's reader for l-yaml-stream (YAML 1.1, section 7.4 Complete Stream).
@@ -19,12 +19,12 @@ use Rattle.yaml_base.specs.reading.CanonicalTokens.{value_token, comma, free}
 
 -- ---- written tags
 
--- a handle's prefix, by a document's own directives and those assumed, and what stands after the handle
+-- the tag of a handle and the text after it: the handle's prefix, by a document's own directives and those assumed, and then that text
 -- (YAML 1.1, section 8.2 Node Tags, c-ns-shorthand-tag)
 abbrev pub shorthand_read : List TagDirective → CutText → Option ParsedTag
 shorthand_read own text = name_joined (prefix_among (own ++ directives_assumed) text.prefix) (percent_read text.rest)
 
--- what stands between `!<` and `>`, where that ends it (YAML 1.1, section 8.2 Node Tags, c-verbatim-tag)
+-- the tag between `!<` and `>`, if `>` ends it (YAML 1.1, section 8.2 Node Tags, c-verbatim-tag)
 abbrev pub verbatim_read : Option Text → Option ParsedTag
 verbatim_read text = option_map name_parsed (option_and_then percent_read text)
 
@@ -39,13 +39,13 @@ read_tag own (c ∷ d ∷ rest) =
 
 -- ---- tokens to contents
 
--- an open collection: its anchor, its tag, what it holds so far, and in a mapping a key without its value
+-- an open collection: its anchor, its tag, its contents so far, and in a mapping perhaps a key without its value
 pub data OpenContent : Type 0 where
   open_sequence : Option Text → Option Text → Contents → OpenContent
   open_mapping : Option Text → Option Text → ContentPairs → Option Content → OpenContent
 
--- what may come next in a document: a node after these properties, an entry or the collection's end, the comma after
--- an entry, or the sign between a key and its value
+-- the tokens that may come next in a document: a node after these properties, an entry or the collection's end, the comma after an entry,
+-- or the sign between a key and its value
 pub data CanonicalAwaited : Type 0 where
   node_awaited : Option Text → Option ParsedTag → CanonicalAwaited
   entry_awaited : CanonicalAwaited
@@ -57,18 +57,18 @@ pub record Head : Type 0 where
   pub version : Option Version
   pub directives : List TagDirective
 
--- the finished documents, and outside them the directives of the next one and whether `...` may stand; within one its
+-- the state of reading: the finished documents, and outside them the directives of the next one and whether `...` may come; within one its
 -- open collections, the innermost first
 pub data Reading : Type 0 where
   failed : Reading
   outside : List DocumentContent → Head → (may_end : Bool) → Reading
   within : List DocumentContent → Head → List OpenContent → CanonicalAwaited → Reading
 
--- nothing said before `---` (YAML 1.1, section 7.1 Directives, l-directive)
+-- no directive before `---` (YAML 1.1, section 7.1 Directives, l-directive)
 abbrev pub no_head : Head
 no_head = record { version = None; directives = [] }
 
--- a finished node is the document's root, or takes its place in the innermost open collection
+-- a finished node is the document's root, or joins the innermost open collection
 abbrev pub with_content : List DocumentContent → Head → List OpenContent → Content → Reading
 with_content documents head [] content =
     outside (documents ++ record { version = head.version; directives = head.directives; root = content } ∷ []) no_head true
@@ -79,8 +79,8 @@ with_content documents head (open_mapping anchor tag pairs None ∷ levels) cont
 with_content documents head (open_mapping anchor tag pairs (Some key) ∷ levels) content =
     within documents head (open_mapping anchor tag (content_pairs_and pairs key content) None ∷ levels) comma_awaited
 
--- a scalar without a tag may go without one where it isn't plain, unless it has the bare tag
--- (this project, for YAML 1.1, section 8.2 Node Tags, c-ns-non-specific-tag)
+-- the tag of a scalar; one that has neither a tag nor the bare tag may go without a tag in any style but plain (this project, for YAML
+-- 1.1, section 8.2 Node Tags, c-ns-non-specific-tag)
 abbrev pub scalar_tag_read : Option ParsedTag → ScalarTag
 scalar_tag_read None = untagged true
 scalar_tag_read (Some bare_parsed) = untagged false
@@ -97,8 +97,8 @@ with_open documents head levels opened None = within documents head (opened None
 with_open documents head levels opened (Some (name_parsed name)) = within documents head (opened (Some name) ∷ levels) entry_awaited
 with_open documents head levels opened (Some bare_parsed) = failed
 
--- where a node is awaited: an anchor, then a tag, then the node; an alias has neither
--- (YAML 1.1, sections 8.4 Alias Nodes and 8.5.1 Flow Nodes, c-ns-alias-node, ns-flow-node(n,c))
+-- a token at which a node is awaited: an anchor, then a tag, then the node; an alias has neither (YAML 1.1, sections 8.4 Alias Nodes and
+-- 8.5.1 Flow Nodes, c-ns-alias-node, ns-flow-node(n,c))
 abbrev pub canonical_node_read : List DocumentContent → Head → List OpenContent → Option Text → Option ParsedTag → Token → Reading
 canonical_node_read documents head levels None None (anchor_token name) = within documents head levels (node_awaited (Some name) None)
 canonical_node_read documents head levels given None (tag_token text) = with_tag documents head levels given (read_tag head.directives text)
@@ -110,8 +110,8 @@ canonical_node_read documents head levels given read opens_mapping =
     with_open documents head levels (λ named. open_mapping given named no_content_pairs None) read
 canonical_node_read documents head levels _ _ _ = failed
 
--- where an entry is awaited: the innermost collection ends, or another entry begins
--- (YAML 1.1, sections 10.1.1 Flow Sequences and 10.2.1 Flow Mappings, c-flow-sequence(n,c), c-flow-mapping(n,c))
+-- a token at which an entry is awaited: the innermost collection ends, or another entry begins (YAML 1.1, sections 10.1.1 Flow Sequences
+-- and 10.2.1 Flow Mappings, c-flow-sequence(n,c), c-flow-mapping(n,c))
 abbrev pub canonical_entry_read : List DocumentContent → Head → List OpenContent → Token → Reading
 canonical_entry_read documents head (open_sequence given named items ∷ levels) closes_sequence =
     with_content documents head levels (sequence_content given named items)
@@ -143,18 +143,19 @@ outside_read documents head may_end document_begins = within documents head [] (
 outside_read documents head true document_ends = outside documents head false
 outside_read documents head may_end _ = failed
 
--- one token more
+-- the state after one more token
 abbrev pub token_read : Reading → Token → Reading
 token_read failed token = failed
 token_read (outside documents head may_end) token = outside_read documents head may_end token
 token_read (within documents head levels awaited) token = within_read documents head levels awaited token
 
--- the documents read, where no directive waits for a document (YAML 1.1, section 7.3 Documents, l-explicit-document)
+-- the documents read, if no directive waits for a document (YAML 1.1, section 7.3 Documents, l-explicit-document)
 abbrev pub without_head : List DocumentContent → Option Version → List TagDirective → Option (List DocumentContent)
 without_head documents None [] = Some documents
 without_head documents _ _ = None
 
--- the stream may end outside documents, where no directives await one (YAML 1.1, section 7.4 Complete Stream, l-yaml-stream)
+-- the documents at the end of a stream, which is outside documents and after no waiting directive (YAML 1.1, section 7.4 Complete Stream,
+-- l-yaml-stream)
 abbrev pub canonical_documents_at_end : Reading → Option (List DocumentContent)
 canonical_documents_at_end (outside documents head may_end) = without_head documents head.version head.directives
 canonical_documents_at_end _ = None

@@ -1,4 +1,4 @@
--- Characters to the tokens of a canonical stream, in flow style and double quotes alone, without any word of what writes them.
+-- Characters to the tokens of a canonical stream, in flow style and double quotes alone, independently of the definitions that write them.
 -- Source, unless a definition names its own: helpers of this project's reader for l-yaml-stream (YAML 1.1, section 7.4 Complete Stream).
 use Rattle.std.specs.Prelude.{ℕ, zero, suc, pos, Bool, Option, None, Some, List, [], ◌∷◌, ◌++◌, ◌==◌, ◌||◌, not, length, filter, codes, bytes_eq, if◌then◌else◌}
 use Rattle.std.specs.List.{slice_split}
@@ -10,7 +10,7 @@ use Rattle.yaml_base.specs.reading.ReadTags.{is_handle_text}
 use Rattle.yaml_base.specs.reading.ReadFolding.{FoldUnit, folding_read}
 use Rattle.yaml_base.specs.reading.ReadDouble.{QuotePlace, between, QuoteStep, goes_on, gives, ends_quotes, has_no_reading, quote_step}
 
--- the words of a canonical stream, a line for each; bad is a fault of the text
+-- the tokens of a canonical stream, one a line; bad is a fault of the text
 pub data Token : Type 0 where
   version_line : Version → Token
   tag_line : TagDirective → Token
@@ -29,8 +29,8 @@ pub data Token : Type 0 where
   comma : Token
   bad : Token
 
--- a character stands between tokens, in a directive's line, name or tag after these characters, between quotes after
--- these units, or in a document marker of which so many indicators follow the next one
+-- the place of a character: between tokens; in a directive's line, a name or a tag, after these characters; between quotes, after these
+-- units; or in a document marker, with so many indicators after the next one
 pub data TokenPlace : Type 0 where
   free : TokenPlace
   in_line : Text → TokenPlace
@@ -45,24 +45,24 @@ pub record CanonicalStep : Type 0 where
   pub tokens : List Token
   pub place : TokenPlace
 
--- a character that ends no token
+-- the step of a character that ends no token
 abbrev pub moves_to : TokenPlace → CanonicalStep
 moves_to place = record { tokens = []; place = place }
 
--- a character that ends a token
+-- the step of a character that ends a token
 abbrev pub ends_token : Token → CanonicalStep
 ends_token token = record { tokens = token ∷ []; place = free }
 
--- a token, and then what a turn completes
+-- a token, and then the tokens that a step completes
 abbrev pub completes_before : Token → CanonicalStep → CanonicalStep
 completes_before token next = record { tokens = token ∷ next.tokens; place = next.place }
 
--- a name has at least one character (YAML 1.1, section 8.1 Node Anchors, c-ns-anchor-property)
+-- the token of an anchor: a name has at least one character (YAML 1.1, section 8.1 Node Anchors, c-ns-anchor-property)
 abbrev pub anchor_named : Text → Token
 anchor_named [] = bad
 anchor_named (c ∷ rest) = anchor_token (c ∷ rest)
 
--- an alias has a name of at least one character (YAML 1.1, section 8.4 Alias Nodes, c-ns-alias-node)
+-- the token of an alias, whose name has at least one character (YAML 1.1, section 8.4 Alias Nodes, c-ns-alias-node)
 abbrev pub alias_named : Text → Token
 alias_named [] = bad
 alias_named (c ∷ rest) = alias_token (c ∷ rest)
@@ -93,15 +93,15 @@ directive_token _ = bad
 abbrev pub marker_token : ℕ → Token
 marker_token symbol = if symbol == 0x2D then document_begins else document_ends
 
--- an indicator that is a token by itself (YAML 1.1, section 5.3 Indicator Characters, c-mapping-key to c-mapping-end)
+-- the token of an indicator that is one by itself (YAML 1.1, section 5.3 Indicator Characters, c-mapping-key to c-mapping-end)
 abbrev pub indicator_token : ℕ → Token
 indicator_token c =
     if c == 0x5B then opens_sequence else (if c == 0x5D then closes_sequence
     else (if c == 0x7B then opens_mapping else (if c == 0x7D then closes_mapping
     else (if c == 0x3F then key_token else (if c == 0x3A then value_token else (if c == 0x2C then comma else bad))))))
 
--- between tokens: blanks and breaks are free, and a first character tells what begins
--- (YAML 1.1, section 6.3 Separation Spaces, s-separate(n,c), in canonical streams)
+-- the step between tokens: blanks and breaks are free, and a first character tells what begins (YAML 1.1, section 6.3 Separation Spaces,
+-- s-separate(n,c), in canonical streams)
 abbrev pub step_between_tokens : Bool → ℕ → CanonicalStep
 step_between_tokens breaks12 c =
     if is_blank c || is_read_break breaks12 c then moves_to free
@@ -112,20 +112,20 @@ step_between_tokens breaks12 c =
     else (if c == 0x22 then moves_to (in_quotes between [])
     else (if c == 0x2D || c == 0x2E then moves_to (in_marker c 1) else ends_token (indicator_token c)))))))
 
--- between quotes it is the reader of double quotes that goes on (YAML 1.1, section 9.1.1 Double Quoted, c-double-quoted(n,c))
+-- the step between quotes: that of the reader of double quotes (YAML 1.1, section 9.1.1 Double Quoted, c-double-quoted(n,c))
 abbrev pub quotes_step : List FoldUnit → QuoteStep → CanonicalStep
 quotes_step units (goes_on place) = moves_to (in_quotes place units)
 quotes_step units (gives unit) = moves_to (in_quotes between (units ++ unit ∷ []))
 quotes_step units ends_quotes = ends_token (scalar_token (folding_read units))
 quotes_step units has_no_reading = ends_token bad
 
--- one more `-` or `.` of a document marker, of which so many are still to come
--- (YAML 1.1, section 7.2 Document Boundary Markers, c-document-start, c-document-end)
+-- the step of one more `-` or `.` of a document marker, of which so many are still missing (YAML 1.1, section 7.2 Document Boundary
+-- Markers, c-document-start, c-document-end)
 abbrev pub marker_step : (symbol more : ℕ) → CanonicalStep
 marker_step symbol zero = ends_token (marker_token symbol)
 marker_step symbol (suc more) = moves_to (in_marker symbol more)
 
--- what a character does at a place: a name ends before any other character than its own, a tag at a space, a directive at a break
+-- the step of a character at a place: a name ends before any character that isn't its own, a tag at a space, a directive at a break
 abbrev pub token_step : Bool → TokenPlace → ℕ → CanonicalStep
 token_step breaks12 free c = step_between_tokens breaks12 c
 token_step breaks12 (in_line line) c =
@@ -138,7 +138,7 @@ token_step breaks12 (in_tag text) c = if c == space then ends_token (tag_token t
 token_step breaks12 (in_quotes place units) c = quotes_step units (quote_step breaks12 place c)
 token_step breaks12 (in_marker symbol more) c = if c == symbol then marker_step symbol more else ends_token bad
 
--- what is left at the end: a name may end there, nothing else
+-- the tokens at the end of the text: a name may end there, nothing else
 abbrev pub canonical_tokens_at_end : TokenPlace → List Token
 canonical_tokens_at_end free = []
 canonical_tokens_at_end (in_anchor name) = anchor_named name ∷ []

@@ -1,5 +1,5 @@
--- What canonical bytes keep of a list of events: versions, directives, and the trees of kinds, anchors, tags, values and aliases.
--- Styles, other flags and document markers are dropped.
+-- The content of a list of events, which canonical bytes keep: versions, directives, and the trees of kinds, anchors, tags, values and
+-- aliases. Styles, other flags and document markers are dropped.
 -- Source, unless a definition names its own: YAML 1.1, section 3.2.2 Serialization Tree, no production.
 use Rattle.std.specs.Prelude.{Bool, Option, None, Some, List, [], ◌∷◌, ◌++◌, option_map}
 use Rattle.yaml_base.specs.Characters.{Text}
@@ -7,7 +7,8 @@ use Rattle.yaml_base.specs.Event.{Version, TagDirective, Event}
 use Rattle.yaml_base.specs.Grammar.{Node, alias_node, scalar_node, sequence_node, mapping_node, Nodes, no_nodes, nodes_and, Pairs, no_pairs, pairs_and}
 use Rattle.yaml_base.specs.Grammar.{Document, Documents, no_documents, documents_and, tree_of}
 
--- a scalar has a tag; else it counts whether it may go without one where it isn't plain (this project, from libyaml's flags)
+-- the tag of a scalar, or without one the flag that says whether it may go without a tag in any style but plain (this project, from
+-- libyaml's flags)
 pub data ScalarTag : Type 0 where
   tagged : Text → ScalarTag
   untagged : (quoted_implicit : Bool) → ScalarTag
@@ -34,7 +35,8 @@ pub record DocumentContent : Type 0 where
   pub directives : List TagDirective
   pub root : Content
 
--- a scalar with its tag, or one whose flag for quoted styles tells whether the bare tag stands before it (this project, from libyaml's flags)
+-- a scalar's tag; without one, its flag for quoted styles, which tells whether the bare tag precedes it (this project, from libyaml's
+-- flags)
 abbrev pub content_tag : Option Text → Bool → ScalarTag
 content_tag (Some tag) quoted_implicit = tagged tag
 content_tag None quoted_implicit = untagged quoted_implicit

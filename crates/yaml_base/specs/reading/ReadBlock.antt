@@ -11,7 +11,7 @@ pub data Element : Type 0 where
   content : Text → Element
   line_end : ℕ → Element
 
--- a character before elements: it begins their first content, or is one of its own
+-- a character before elements: it begins their first content, or is a content by itself
 abbrev pub prepend_to_elements : ℕ → List Element → List Element
 prepend_to_elements c [] = content (c ∷ []) ∷ []
 prepend_to_elements c (content text ∷ rest) = content (c ∷ text) ∷ rest
@@ -26,7 +26,7 @@ abbrev pub elements : Bool → Text → List Element
 elements breaks12 [] = []
 elements breaks12 (c ∷ rest) = prepend_element breaks12 c (elements breaks12 rest)
 
--- how many spaces a text begins with (YAML 1.1, section 6.1 Indentation Spaces, s-indent(n))
+-- the number of spaces that a text begins with (YAML 1.1, section 6.1 Indentation Spaces, s-indent(n))
 abbrev pub leading_spaces : Text → ℕ
 leading_spaces [] = 0
 leading_spaces (c ∷ rest) = if is_space c then suc (leading_spaces rest) else 0
@@ -37,37 +37,37 @@ detected_indentation [] = 0
 detected_indentation (content text ∷ rest) = leading_spaces text
 detected_indentation (line_end b ∷ rest) = detected_indentation rest
 
--- the indentation: what the digit adds to the column of the enclosing block's entries (the digit itself at the root), or else what
--- the first content shows (YAML 1.1, section 9.2.2 Block Indentation Indicator, c-indentation-indicator)
+-- the indentation: the digit plus the column of the enclosing block's entries (the digit itself at the root), or else that of the first
+-- content (YAML 1.1, section 9.2.2 Block Indentation Indicator, c-indentation-indicator)
 abbrev pub read_indentation : (digit column : Option ℕ) → List Element → ℕ
 read_indentation None column lines = detected_indentation lines
 read_indentation (Some digit) None lines = digit
 read_indentation (Some digit) (Some column) lines = column + digit
 
--- a text without so many leading spaces; none where it has fewer (YAML 1.1, section 6.1 Indentation Spaces, s-indent(n))
+-- a text without that many leading spaces; none if it has fewer (YAML 1.1, section 6.1 Indentation Spaces, s-indent(n))
 abbrev pub unindented : ℕ → Text → Option Text
 unindented zero text = Some text
 unindented (suc n) [] = None
 unindented (suc n) (c ∷ rest) = if is_space c then unindented n rest else None
 
--- a content without so many leading spaces, or a line's end as it is (YAML 1.1, section 6.1 Indentation Spaces, s-indent(n))
+-- a content without that many leading spaces, or a line's end as it is (YAML 1.1, section 6.1 Indentation Spaces, s-indent(n))
 abbrev pub element_unindented : ℕ → Element → Option Element
 element_unindented n (content text) = option_map content (unindented n text)
 element_unindented n (line_end b) = Some (line_end b)
 
--- all contents without the indentation (YAML 1.1, section 6.1 Indentation Spaces, s-indent(n))
+-- all contents without the indentation; none if one has less (YAML 1.1, section 6.1 Indentation Spaces, s-indent(n))
 abbrev pub all_unindented : ℕ → List Element → Option (List Element)
 all_unindented n [] = Some []
 all_unindented n (element ∷ rest) =
     option_and_then (λ first. option_map (λ others. first ∷ others) (all_unindented n rest)) (element_unindented n element)
 
--- some content is there
+-- true if there is a content
 abbrev pub has_content : List Element → Bool
 has_content [] = false
 has_content (content text ∷ rest) = true
 has_content (line_end b ∷ rest) = has_content rest
 
--- all up to the last content (YAML 1.1, section 9.2.3 Block Chomping Indicator, before b-chomped-last(t))
+-- all elements up to the last content (YAML 1.1, section 9.2.3 Block Chomping Indicator, before b-chomped-last(t))
 abbrev pub kept_lines : List Element → List Element
 kept_lines [] = []
 kept_lines (content text ∷ rest) = content text ∷ kept_lines rest
@@ -79,64 +79,64 @@ final_ends [] = []
 final_ends (content text ∷ rest) = final_ends rest
 final_ends (line_end b ∷ rest) = (if has_content rest then [] else b ∷ []) ++ final_ends rest
 
--- literal: all is kept (YAML 1.1, section 9.3.1 Literal, c-l+literal(n))
+-- the text of elements as they are, for literal (YAML 1.1, section 9.3.1 Literal, c-l+literal(n))
 abbrev pub joined : List Element → Text
 joined [] = []
 joined (content text ∷ rest) = text ++ joined rest
 joined (line_end b ∷ rest) = b ∷ joined rest
 
--- the text doesn't begin with a blank (YAML 1.1, section 9.3.2 Folded, l-nb-folded-lines(n))
+-- true if the text doesn't begin with a blank (YAML 1.1, section 9.3.2 Folded, l-nb-folded-lines(n))
 abbrev pub begins_unindented : Text → Bool
 begins_unindented [] = true
 begins_unindented (c ∷ rest) = not (is_blank c)
 
--- there is a next content, and it doesn't begin with a blank (YAML 1.1, section 9.3.2 Folded, l-nb-folded-lines(n))
+-- true if there is a next content, and it doesn't begin with a blank (YAML 1.1, section 9.3.2 Folded, l-nb-folded-lines(n))
 abbrev pub next_content_unindented : List Element → Bool
 next_content_unindented [] = false
 next_content_unindented (content text ∷ rest) = begins_unindented text
 next_content_unindented (line_end b ∷ rest) = next_content_unindented rest
 
--- what a folded LF reads as: a space where it stands alone, else nothing beside the breaks that follow it
--- (YAML 1.1, sections 6.5 Line Folding and 9.3.2 Folded, b-l-folded-as-space, b-l-folded-trimmed(n,s))
+-- the reading of a folded LF, by the elements after it: a space before a content, nothing before a break (YAML 1.1, sections 6.5 Line
+-- Folding and 9.3.2 Folded, b-l-folded-as-space, b-l-folded-trimmed(n,s))
 abbrev pub fold_read : List Element → Text
 fold_read [] = []
 fold_read (content text ∷ rest) = space ∷ []
 fold_read (line_end b ∷ rest) = []
 
--- folded: a LF at the end of a content is folded, where neither that content nor the next begins with a blank
--- (YAML 1.1, section 9.3.2 Folded, l-nb-folded-lines(n), l-nb-spaced-lines(n))
+-- the text of elements, folded: a LF at the end of a content is folded if neither that content nor the next one begins with a blank (YAML
+-- 1.1, section 9.3.2 Folded, l-nb-folded-lines(n), l-nb-spaced-lines(n))
 abbrev pub unfolded : (after_even : Bool) → List Element → Text
 unfolded after_even [] = []
 unfolded after_even (content text ∷ rest) = text ++ unfolded (begins_unindented text) rest
 unfolded after_even (line_end b ∷ rest) =
     (if after_even && b == line_feed && next_content_unindented rest then fold_read rest else b ∷ []) ++ unfolded false rest
 
--- what becomes of the final breaks (YAML 1.1, section 9.2.3 Block Chomping Indicator, c-chomping-indicator(t))
+-- the treatment of the final breaks (YAML 1.1, section 9.2.3 Block Chomping Indicator, c-chomping-indicator(t))
 pub data Chomping : Type 0 where
   strip : Chomping
   clip : Chomping
   keep : Chomping
 
--- none, all, or the first where a content stands before it (YAML 1.1, section 9.2.3 Block Chomping Indicator, b-chomped-last(t), l-chomped-empty(n,t))
+-- the final breaks that remain: none, all, or the first if a content precedes it (YAML 1.1, section 9.2.3 Block Chomping Indicator,
+-- b-chomped-last(t), l-chomped-empty(n,t))
 abbrev pub chomped : Chomping → (content_before : Bool) → Text → Text
 chomped strip content_before ends = []
 chomped clip content_before ends = if content_before then take 1 ends else []
 chomped keep content_before ends = ends
 
--- what lines without their indentation read as: all up to the last content, joined or folded, and what is kept of the final breaks
--- (YAML 1.1, section 9.3 Block Scalar Styles, c-l+literal(n), c-l+folded(n))
+-- the reading of lines without their indentation: all up to the last content, joined or folded, and the final breaks that remain (YAML
+-- 1.1, section 9.3 Block Scalar Styles, c-l+literal(n), c-l+folded(n))
 abbrev pub lines_read : (folded : Bool) → Chomping → List Element → Text
 lines_read folded chomping lines =
     (if folded then unfolded false (kept_lines lines) else joined (kept_lines lines))
     ++ chomped chomping (has_content lines) (final_ends lines)
 
--- the header's digit, 1 to 9, where one comes next, and what follows it
--- (YAML 1.1, section 9.2.2 Block Indentation Indicator, c-indentation-indicator)
+-- the header's digit, 1 to 9, if one comes next (YAML 1.1, section 9.2.2 Block Indentation Indicator, c-indentation-indicator)
 abbrev pub digit_first : Text → Option ℕ
 digit_first [] = None
 digit_first (c ∷ rest) = if is_between 49 57 c then Some (c - 48) else None
 
--- what follows the digit, or all where there is none (YAML 1.1, section 9.2.2 Block Indentation Indicator, c-indentation-indicator)
+-- the text after the digit, or all if there is none (YAML 1.1, section 9.2.2 Block Indentation Indicator, c-indentation-indicator)
 abbrev pub after_digit : Text → Text
 after_digit [] = []
 after_digit (c ∷ rest) = if is_between 49 57 c then rest else c ∷ rest
@@ -146,24 +146,24 @@ abbrev pub chomping_first : Text → Chomping
 chomping_first [] = clip
 chomping_first (c ∷ rest) = if c == 45 then strip else (if c == 43 then keep else clip)
 
--- what follows the chomping indicator, or all where there is none (YAML 1.1, section 9.2.3 Block Chomping Indicator, c-chomping-indicator(t))
+-- the text after the chomping indicator, or all if there is none (YAML 1.1, section 9.2.3 Block Chomping Indicator,
+-- c-chomping-indicator(t))
 abbrev pub after_chomping : Text → Text
 after_chomping [] = []
 after_chomping (c ∷ rest) = if c == 45 || c == 43 then rest else c ∷ rest
 
--- what follows a break; none where no break comes first (YAML 1.1, section 9.2 Block Scalar Header, c-b-block-header)
+-- the text after a break; none if no break comes first (YAML 1.1, section 9.2 Block Scalar Header, c-b-block-header)
 abbrev pub after_break : Bool → Text → Option Text
 after_break breaks12 [] = None
 after_break breaks12 (c ∷ rest) = if is_read_break breaks12 c then Some rest else None
 
--- the lines after a header
+-- the reading of the lines after a header
 abbrev pub read_lines : (folded : Bool) → Chomping → (digit column : Option ℕ) → List Element → Option Text
 read_lines folded chomping digit column lines =
     option_map (lines_read folded chomping) (all_unindented (read_indentation digit column lines) lines)
 
--- a block scalar from its indicator on: `|` or `>`, a digit or none, a chomping indicator or none, a break, lines;
--- the column is that of the enclosing block's entries, none at the root
--- (YAML 1.1, section 9.3 Block Scalar Styles, c-l+literal(n), c-l+folded(n))
+-- a block scalar from its indicator on: `|` or `>`, a digit or none, a chomping indicator or none, a break, lines; the column is that of
+-- the enclosing block's entries (none at the root) (YAML 1.1, section 9.3 Block Scalar Styles, c-l+literal(n), c-l+folded(n))
 abbrev pub read_block : (breaks12 : Bool) (column : Option ℕ) → Text → Option Text
 read_block breaks12 column [] = None
 read_block breaks12 column (symbol ∷ rest) =

@@ -5,14 +5,14 @@ use Rattle.std.specs.Str.{is_utf8}
 use Rattle.std.specs.Char.Utf16.{is_high_surrogate, is_low_surrogate, surrogate_pair_char}
 use Rattle.yaml_base.specs.Characters.{Text}
 
--- bytes in pairs as code units, the upper byte of each first or second; nothing where one is left over (RFC 2781, section 3.1)
+-- bytes in pairs as code units, each with its upper byte first or second; none if a byte is left over (RFC 2781, section 3.1)
 abbrev pub units_read : (upper_first : Bool) → List ℕ → Option (List ℕ)
 units_read upper_first [] = Some []
 units_read upper_first (byte ∷ []) = None
 units_read upper_first (a ∷ b ∷ rest) =
     option_map (λ units. (if upper_first then a * 0x100 + b else b * 0x100 + a) ∷ units) (units_read upper_first rest)
 
--- the characters of code units, after one that begins a pair or none; each surrogate has its partner (RFC 2781, section 2.2)
+-- the characters of code units, after one that begins a pair or none; none if a surrogate has no partner (RFC 2781, section 2.2)
 abbrev pub utf16_read : (high : Option ℕ) → List ℕ → Option Text
 utf16_read None [] = Some []
 utf16_read (Some high) [] = None

@@ -5,38 +5,38 @@ use Rattle.std.specs.Prelude.{ℕ, Bool, List, [], ◌∷◌, ◌++◌, ◌==◌
 use Rattle.yaml_base.specs.Characters.{Text, is_blank, line_feed, space}
 use Rattle.yaml_base.specs.LineBreaks.{is_read_break}
 
--- a text inside a scalar is a list of blanks, breaks, and characters that stand for themselves, escapes among them
--- (YAML 1.1, sections 5.4 Line Break Characters and 5.5 Miscellaneous Characters, b-normalized, s-char, ns-char)
+-- a text inside a scalar is a list of blanks, breaks, and characters that mean themselves, escapes among them (YAML 1.1, sections 5.4 Line
+-- Break Characters and 5.5 Miscellaneous Characters, b-normalized, s-char, ns-char)
 pub data FoldUnit : Type 0 where
   literal_blank : ℕ → FoldUnit
   literal_break : ℕ → FoldUnit
   itself : ℕ → FoldUnit
 
--- a character that isn't escaped (YAML 1.1, sections 5.4 Line Break Characters and 5.5 Miscellaneous Characters, b-normalized, s-char, ns-char)
+-- the unit of a character that isn't escaped (YAML 1.1, sections 5.4 Line Break Characters and 5.5 Miscellaneous Characters, b-normalized,
+-- s-char, ns-char)
 abbrev pub unit_of : Bool → ℕ → FoldUnit
 unit_of breaks12 c =
     if is_blank c then literal_blank c else if is_read_break breaks12 c then literal_break c else itself c
 
--- a text seen from its start: the blanks that stand there or the run of breaks, and what the rest reads as
+-- a text seen from its start: the blanks or the run of breaks there, and the reading of the rest
 pub record FoldState : Type 0 where
   pub blanks : Text
   pub breaks : Text
   pub rest : Text
 
--- a run that begins with LF reads as a space where it is that LF alone, else as the breaks that follow it;
--- a run that begins with U+2028 or U+2029 is kept
--- (YAML 1.1, section 6.5 Line Folding, b-l-folded-specific(n,s), b-l-folded-as-space, b-l-folded-trimmed(n,s))
+-- the reading of a run of breaks: if it begins with LF, a space if it is that LF alone, else the breaks after it; a run that begins with
+-- U+2028 or U+2029 is kept (YAML 1.1, section 6.5 Line Folding, b-l-folded-specific(n,s), b-l-folded-as-space, b-l-folded-trimmed(n,s))
 abbrev pub run_read : Text → Text
 run_read [] = []
 run_read (first ∷ []) = if first == line_feed then space ∷ [] else first ∷ []
 run_read (first ∷ second ∷ more) = if first == line_feed then second ∷ more else first ∷ second ∷ more
 
--- the text that a fold state stands for
+-- the text of a fold state
 abbrev pub fold_state_text : FoldState → Text
 fold_state_text prefix = prefix.blanks ++ (run_read prefix.breaks ++ prefix.rest)
 
--- a blank more before others, or before the breaks of a run, where it is dropped
--- (YAML 1.1, sections 6.4 Ignored Line Prefix and 9.1 Flow Scalar Styles, s-ignored-prefix(n,s))
+-- one blank more before other blanks; before a run of breaks it is dropped (YAML 1.1, sections 6.4 Ignored Line Prefix and 9.1 Flow Scalar
+-- Styles, s-ignored-prefix(n,s))
 abbrev pub blanks_before : (breaks : Text) → (blanks : Text) → Text
 blanks_before [] blanks = blanks
 blanks_before (first ∷ more) blanks = []
@@ -53,6 +53,7 @@ abbrev pub fold_state_of : List FoldUnit → FoldState
 fold_state_of [] = record { blanks = []; breaks = []; rest = [] }
 fold_state_of (unit ∷ units) = prepend_unit unit (fold_state_of units)
 
--- what units read as: runs of breaks fold, blanks beside them are dropped, all else stays (YAML 1.1, section 6.5 Line Folding, b-l-folded-any(n,s))
+-- the reading of units: runs of breaks fold, blanks beside them are dropped, all else stays (YAML 1.1, section 6.5 Line Folding,
+-- b-l-folded-any(n,s))
 abbrev pub folding_read : List FoldUnit → Text
 folding_read units = fold_state_text (fold_state_of units)

@@ -1,16 +1,16 @@
--- Reading percent forms, in tags and prefixes, without any word of what writes them.
+-- Reading percent forms, in tags and prefixes, independently of the definitions that write them.
 -- Source, unless a definition names its own: helpers of this project's reader for ns-uri-char (YAML 1.1, section 5.5 Miscellaneous Characters), after
 -- RFC 2396, section 2.4, over the bytes of UTF-8.
 use Rattle.std.specs.Prelude.{ℕ, Bool, Option, None, Some, List, [], ◌∷◌, ◌++◌, ◌==◌, ◌||◌, ◌+◌, ◌-◌, ◌*◌, codes, chars, encode_utf8, if◌then◌else◌}
 use Rattle.std.specs.Str.{is_utf8}
 use Rattle.yaml_base.specs.Characters.{Text, is_alpha, is_among, is_between}
 
--- may stand in a tag or a prefix: the anchor alphabet, the signs of a URI, and `%`
--- (YAML 1.1, section 5.5 Miscellaneous Characters, ns-uri-char; without `!` by this project)
+-- true of a character that a tag or a prefix may hold: the anchor alphabet, the signs of a URI, and `%` (YAML 1.1, section 5.5
+-- Miscellaneous Characters, ns-uri-char; without `!` by this project)
 abbrev pub is_uri_character : ℕ → Bool
 is_uri_character c = is_alpha c || is_among (codes "%;/?:@&=+$,.~*'()[]") c
 
--- a character stands between percent forms, after a `%`, or after its first digit, if it was one
+-- the place of a character: between percent forms, after a `%`, or after the first character of a form, with its value if it is a digit
 pub data PercentPlace : Type 0 where
   between_forms : PercentPlace
   after_percent : PercentPlace
@@ -22,7 +22,7 @@ digit_given c =
     if is_between 48 57 c then Some (c - 48)
     else (if is_between 65 70 c then Some (c - 55) else (if is_between 97 102 c then Some (c - 87) else None))
 
--- the byte of two digits; 255, which stands nowhere in UTF-8, where one of them is no digit
+-- the byte of two digits; if one of them is no digit, 255, which occurs nowhere in UTF-8
 abbrev pub byte_given : Option ℕ → Option ℕ → ℕ
 byte_given (Some high) (Some low) = high * 16 + low
 byte_given _ _ = 255
@@ -36,7 +36,7 @@ form_bytes between_forms (c ∷ rest) =
 form_bytes after_percent (c ∷ rest) = form_bytes (after_high (digit_given c)) rest
 form_bytes (after_high high) (c ∷ rest) = byte_given high (digit_given c) ∷ form_bytes between_forms rest
 
--- the text that a text of percent forms stands for; none where a form is broken or the bytes aren't UTF-8
--- (YAML 1.1, section 5.5 Miscellaneous Characters, ns-uri-char)
+-- the text of percent forms; none if a form is broken or the bytes aren't UTF-8 (YAML 1.1, section 5.5 Miscellaneous Characters,
+-- ns-uri-char)
 abbrev pub percent_read : Text → Option Text
 percent_read text = let bytes = form_bytes between_forms text in if is_utf8 bytes then Some (chars bytes) else None

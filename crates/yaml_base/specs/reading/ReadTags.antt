@@ -1,4 +1,4 @@
--- Reading written tags and handles, without any word of what writes them.
+-- Reading written tags and handles, independently of the definitions that write them.
 -- Source, unless a definition names its own: helpers of this project's reader for c-ns-tag-property (YAML 1.1, section 8.2 Node Tags).
 use Rattle.std.specs.Prelude.{ℕ, Bool, false, Option, None, Some, List, [], ◌∷◌, ◌++◌, ◌==◌, ◌||◌, ◌&&◌, not, codes, bytes_eq, option_map, if◌then◌else◌}
 use Rattle.std.specs.List.{list_all, list_any}
@@ -6,7 +6,7 @@ use Rattle.yaml_base.specs.Characters.{Text, is_alpha, is_among}
 use Rattle.yaml_base.specs.Event.{TagDirective}
 use Rattle.yaml_base.specs.reading.ReadPercent.{is_uri_character, percent_read}
 
--- what a written tag says: the bare tag `!`, or a tag by its name (YAML 1.1, section 8.2 Node Tags, c-ns-tag-property)
+-- a written tag as it is read: the bare tag `!`, or a tag by its name (YAML 1.1, section 8.2 Node Tags, c-ns-tag-property)
 pub data ParsedTag : Type 0 where
   bare_parsed : ParsedTag
   name_parsed : Text → ParsedTag
@@ -22,19 +22,21 @@ prefix_among [] handle = None
 prefix_among (directive ∷ rest) handle =
     if bytes_eq directive.handle handle then Some directive.prefix else prefix_among rest handle
 
--- what `!` and `!!` stand for where a document doesn't say (YAML 1.1, section 7.1.2.2 Tag Handles, c-primary-tag-handle, ns-secondary-tag-handle)
+-- the prefixes of `!` and `!!`, unless a document gives others (YAML 1.1, section 7.1.2.2 Tag Handles, c-primary-tag-handle,
+-- ns-secondary-tag-handle)
 abbrev pub directives_assumed : List TagDirective
 directives_assumed =
     record { handle = codes "!"; prefix = codes "!" }
     ∷ record { handle = codes "!!"; prefix = codes "tag:yaml.org,2002:" } ∷ []
 
--- the anchor alphabet, and then `!` (YAML 1.1, section 7.1.2.2 Tag Handles, c-named-tag-handle; the alphabet is libyaml's)
+-- true of a text of the anchor alphabet, and then `!` (YAML 1.1, section 7.1.2.2 Tag Handles, c-named-tag-handle; the alphabet is
+-- libyaml's)
 abbrev pub closes_handle : Text → Bool
 closes_handle [] = false
 closes_handle (c ∷ []) = c == 0x21
 closes_handle (c ∷ d ∷ rest) = is_alpha c && closes_handle (d ∷ rest)
 
--- `!`, or the anchor alphabet between two `!` (YAML 1.1, section 7.1.2.2 Tag Handles, c-tag-handle; the alphabet is libyaml's)
+-- true of `!`, and of the anchor alphabet between two `!` (YAML 1.1, section 7.1.2.2 Tag Handles, c-tag-handle; the alphabet is libyaml's)
 abbrev pub is_handle_text : Text → Bool
 is_handle_text [] = false
 is_handle_text (c ∷ []) = c == 0x21
@@ -50,29 +52,30 @@ abbrev pub cut_after_exclamation : Text → CutText
 cut_after_exclamation [] = record { prefix = []; rest = [] }
 cut_after_exclamation (c ∷ text) = let cut = cut_after_exclamation text in prepend_to_cut c cut.prefix cut.rest
 
--- may stand after a handle: what may stand in a URI but for the flow indicators (this project, since readers end a tag at these signs)
+-- true of a character that may come after a handle: one of a URI but for the flow indicators (this project, since readers end a tag at
+-- these signs)
 abbrev pub may_follow_handle : ℕ → Bool
 may_follow_handle c = is_uri_character c && not (is_among (codes ",[]") c)
 
--- a prefix, and the text that stands after it (YAML 1.1, section 8.2 Node Tags, c-ns-shorthand-tag)
+-- the tag of a prefix and the text after it (YAML 1.1, section 8.2 Node Tags, c-ns-shorthand-tag)
 abbrev pub name_joined : Option Text → Option Text → Option ParsedTag
 name_joined (Some prefix) (Some suffix) = Some (name_parsed (prefix ++ suffix))
 name_joined _ _ = None
 
--- a handle's prefix and what stands after the handle, which is at least one character (YAML 1.1, section 8.2 Node Tags, c-ns-shorthand-tag)
+-- the tag of a handle and the text after it, which has at least one character (YAML 1.1, section 8.2 Node Tags, c-ns-shorthand-tag)
 abbrev pub shorthand_parsed : List TagDirective → Text → Text → Option ParsedTag
 shorthand_parsed own handle [] = None
 shorthand_parsed own handle (c ∷ suffix) =
     if list_all may_follow_handle (c ∷ suffix) then name_joined (prefix_among (own ++ directives_assumed) handle) (percent_read (c ∷ suffix))
     else None
 
--- a text without a `>` at its end; none where it doesn't end so (YAML 1.1, section 8.2 Node Tags, c-verbatim-tag)
+-- a text without the `>` that ends it; none if it doesn't end so (YAML 1.1, section 8.2 Node Tags, c-verbatim-tag)
 abbrev pub without_closing_angle : Text → Option Text
 without_closing_angle [] = None
 without_closing_angle (c ∷ []) = if c == 0x3E then Some [] else None
 without_closing_angle (c ∷ d ∷ rest) = option_map (λ text. c ∷ text) (without_closing_angle (d ∷ rest))
 
--- a name of at least one character (YAML 1.1, section 8.2 Node Tags, c-verbatim-tag)
+-- the tag of this name, which has at least one character (YAML 1.1, section 8.2 Node Tags, c-verbatim-tag)
 abbrev pub verbatim_parsed : Option Text → Option ParsedTag
 verbatim_parsed None = None
 verbatim_parsed (Some []) = None
@@ -87,12 +90,13 @@ parse_tag own (c ∷ d ∷ rest) =
     else (if d == 0x3C then verbatim_parsed (without_closing_angle rest)
     else (let cut = cut_after_exclamation (c ∷ d ∷ rest) in shorthand_parsed own cut.prefix cut.rest))
 
--- a prefix of a directive: percent forms and characters of a URI, at least one; a `!` may begin it (YAML 1.1, section 7.1.2.1 Tag Prefixes, ns-tag-prefix)
+-- the prefix of a directive: percent forms and characters of a URI, at least one; a `!` may begin it (YAML 1.1, section 7.1.2.1 Tag
+-- Prefixes, ns-tag-prefix)
 abbrev pub prefix_parsed : Text → Option Text
 prefix_parsed [] = None
 prefix_parsed (c ∷ rest) =
     if (c == 0x21 || is_uri_character c) && list_all is_uri_character rest then percent_read (c ∷ rest) else None
 
--- some directive gives this handle (YAML 1.1, section 7.1.2 "TAG" Directive, ns-tag-directive)
+-- true if some directive gives this handle (YAML 1.1, section 7.1.2 "TAG" Directive, ns-tag-directive)
 abbrev pub is_handle_given : Text → List TagDirective → Bool
 is_handle_given handle directives = list_any (λ directive. bytes_eq directive.handle handle) directives

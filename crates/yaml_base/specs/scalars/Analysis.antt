@@ -1,11 +1,11 @@
--- Which styles a scalar's value allows, as tests on the whole value.
+-- The styles that a scalar's value allows, as tests on the whole value.
 -- Source, unless a definition names its own: libyaml's emitter, in this project's form.
 use Rattle.std.specs.Prelude.{ℕ, Bool, true, false, [], ◌∷◌, ◌==◌, ◌||◌, ◌&&◌, not, codes}
 use Rattle.std.specs.List.{list_any}
 use Rattle.yaml_base.specs.Characters.{Text, is_among, is_ascii, is_blank, is_break, is_printable, is_space, line_separator, paragraph_separator, tab}
 
--- what may stand as itself: all printable characters or ASCII alone; and whether U+2028 and U+2029 are
--- taken for ordinary characters, as YAML 1.2 does (libyaml's emitter; `breaks12` is this project's)
+-- the characters that may be written as themselves: all printable ones or ASCII alone; and whether U+2028 and U+2029 are ordinary
+-- characters, as in YAML 1.2 (libyaml's emitter; `breaks12` is this project's)
 pub record Charset : Type 0 where
   pub unicode : Bool
   pub breaks12 : Bool
@@ -19,48 +19,50 @@ pub record Allowances : Type 0 where
   pub single_quoted : Bool
   pub block : Bool
 
--- some character, seen together with what follows it, meets the test
+-- true if some character, seen together with the text after it, meets the test
 abbrev pub somewhere : (ℕ → Text → Bool) → Text → Bool
 somewhere test [] = false
 somewhere test (c ∷ rest) = test c rest || somewhere test rest
 
--- the first character, where there is one, meets the test
+-- true if there is a first character and it meets the test
 abbrev pub begins_with : (ℕ → Bool) → Text → Bool
 begins_with test [] = false
 begins_with test (c ∷ rest) = test c
 
--- the text holds no character
+-- true if the text holds no character
 abbrev pub is_empty : Text → Bool
 is_empty [] = true
 is_empty (c ∷ rest) = false
 
--- a blank, a break or NUL
+-- true of a blank, a break or NUL
 abbrev pub is_gap : ℕ → Bool
 is_gap c = is_blank c || is_break c || c == 0
 
--- a gap or the end stands here
+-- true at the end of a text and before a gap
 abbrev pub ends_word : Text → Bool
 ends_word rest = is_empty rest || begins_with is_gap rest
 
--- cannot stand as itself in a text of this charset: only double quotes can write it (libyaml's emitter; `breaks12` is this project's)
+-- true of a character that can't be itself in a text of this charset, so that only double quotes can write it (libyaml's emitter;
+-- `breaks12` is this project's)
 abbrev pub is_special : Charset → ℕ → Bool
 is_special charset c =
     not (is_printable c)
     || (not charset.unicode && not (is_ascii c))
     || (charset.breaks12 && (c == line_separator || c == paragraph_separator))
 
--- `---` or `...` (libyaml's emitter, for YAML 1.1, section 7.2 Document Boundary Markers, c-document-start, c-document-end)
+-- true if a text begins with `---` or `...` (libyaml's emitter, for YAML 1.1, section 7.2 Document Boundary Markers, c-document-start,
+-- c-document-end)
 abbrev pub begins_like_marker : Text → Bool
 begins_like_marker (a ∷ b ∷ c ∷ rest) = (a == 45 || a == 46) && b == a && c == a
 begins_like_marker _ = false
 
--- a first character that means something else to a reader of plain text
--- (YAML 1.1, section 5.3 Indicator Characters, c-indicator; without `-`, `?` and `:`)
+-- true of a first character that has another meaning to a reader of plain text (YAML 1.1, section 5.3 Indicator Characters, c-indicator;
+-- without `-`, `?` and `:`)
 abbrev pub is_indicator : ℕ → Bool
 is_indicator c = is_among (codes "#,[]{}&*!|>'\"%@`") c
 
--- the value begins as no plain text may: with a space, a mark, an indicator, or `?`, `:`, `-` by itself
--- (libyaml's emitter, for YAML 1.1, section 9.1.3 Plain, ns-plain-first-char(c))
+-- true if the value begins as no plain text may: with a space, a mark, an indicator, or `?`, `:`, `-` by itself (libyaml's emitter, for
+-- YAML 1.1, section 9.1.3 Plain, ns-plain-first-char(c))
 abbrev pub begins_unlike_plain : Text → Bool
 begins_unlike_plain [] = false
 begins_unlike_plain (c ∷ rest) =
@@ -69,12 +71,12 @@ begins_unlike_plain (c ∷ rest) =
     || is_indicator c
     || (is_among (codes "?:-") c && ends_word rest)
 
--- `:` before a gap or the end, or a gap before `#` (libyaml's emitter, for YAML 1.1, section 9.1.3 Plain, ns-plain-char(c))
+-- true of `:` before a gap or the end, and of a gap before `#` (libyaml's emitter, for YAML 1.1, section 9.1.3 Plain, ns-plain-char(c))
 abbrev pub is_key_or_comment : ℕ → Text → Bool
 is_key_or_comment c rest = (c == 58 && ends_word rest) || (is_gap c && begins_with (λ d. d == 35) rest)
 
--- no plain text holds a special character, a break, a last space, a key or comment indicator; in flow also
--- none of the flow indicators (libyaml's emitter, for YAML 1.1, section 9.1.3 Plain, ns-plain(n,c))
+-- true if a character bars plain: a special character, a break, a last space, a key or comment indicator; in flow also a flow indicator
+-- (libyaml's emitter, for YAML 1.1, section 9.1.3 Plain, ns-plain(n,c))
 abbrev pub bars_plain : Charset → Bool → ℕ → Text → Bool
 bars_plain charset flow c rest =
     is_special charset c
@@ -83,52 +85,54 @@ bars_plain charset flow c rest =
     || is_key_or_comment c rest
     || (flow && is_among (codes ",?:[]{}") c)
 
--- a space before a break
+-- true of a space before a break
 abbrev pub is_trailing_space : ℕ → Text → Bool
 is_trailing_space c rest = is_space c && begins_with is_break rest
 
--- no single-quoted text holds a special character, or a space next to a break
+-- true if a character bars single quotes: a special character, or a space next to a break
 abbrev pub bars_single_quoted : Charset → ℕ → Text → Bool
 bars_single_quoted charset c rest =
     is_special charset c || is_trailing_space c rest || (is_break c && begins_with is_space rest)
 
--- no block text holds a special character, a last space, or a space before a break
+-- true if a character bars both block styles: a special character, a last space, or a space before a break
 abbrev pub bars_block : Charset → ℕ → Text → Bool
 bars_block charset c rest =
     is_special charset c || is_trailing_space c rest || (is_space c && is_empty rest)
 
--- a special character other than a tab
+-- true of a special character other than a tab
 abbrev pub is_special_but_tab : Charset → ℕ → Bool
 is_special_but_tab charset c = not (c == tab) && is_special charset c
 
--- up to the end of its line a text is of blanks alone
+-- true if a text is blanks alone up to the end of its line
 abbrev pub is_blank_to_line_end : Text → Bool
 is_blank_to_line_end [] = true
 is_blank_to_line_end (c ∷ rest) = is_break c || (is_blank c && is_blank_to_line_end rest)
 
--- the line that begins here is of blanks alone, and isn't empty
+-- true if the line that begins here is blanks alone, and isn't empty
 abbrev pub begins_with_blanks_alone : Text → Bool
 begins_with_blanks_alone [] = false
 begins_with_blanks_alone (c ∷ rest) = is_blank c && is_blank_to_line_end rest
 
--- where blanks are literal, no literal text holds a special character but tabs, or a nonempty line of blanks alone (this project)
+-- true if a character bars literal when blanks are literal: a special character other than a tab, or a break before a nonempty line of
+-- blanks alone (this project)
 abbrev pub bars_literal : Charset → ℕ → Text → Bool
 bars_literal charset c rest = is_special_but_tab charset c || (is_break c && begins_with_blanks_alone rest)
 
--- plain, in flow or in block; there the empty value too
+-- true if a value may be plain, in flow or in a block; in a block the empty value may
 abbrev pub allows_plain : Charset → Bool → Text → Bool
 allows_plain charset flow value =
     not (is_empty value && flow) && not (begins_unlike_plain value || somewhere (bars_plain charset flow) value)
 
--- single quotes; the empty value too
+-- true if a value may be in single quotes; the empty value may
 abbrev pub allows_single_quoted : Charset → Text → Bool
 allows_single_quoted charset value = not (somewhere (bars_single_quoted charset) value)
 
--- literal and folded; never the empty value
+-- true if a value may be literal and folded; the empty value may not
 abbrev pub allows_block : Charset → Text → Bool
 allows_block charset value = not (is_empty value || somewhere (bars_block charset) value)
 
--- literal, where blanks are literal: also with tabs, and with spaces before a break and at the end; never the empty value (this project)
+-- true if a value may be literal when blanks are literal: also with tabs, and with spaces before a break and at the end; the empty value
+-- may not (this project)
 abbrev pub allows_literal : Charset → Text → Bool
 allows_literal charset value =
     not (is_empty value || begins_with_blanks_alone value || somewhere (bars_literal charset) value)

@@ -5,35 +5,35 @@ use Rattle.yaml_base.specs.Characters.{Text, is_blank, is_break, line_feed}
 use Rattle.yaml_base.specs.scalars.Analysis.{begins_with}
 use Rattle.yaml_base.specs.Cursor.{Cursor, Rendered, render_nothing, render_then, render_text, with_flags, indicator}
 
--- how a text ends: not in a break, in exactly one break after another character, or otherwise
+-- the ending of a text: not in a break, in exactly one break after another character, or any other
 pub data Ending : Type 0 where
   without_break : Ending
   one_break : Ending
   more_breaks : Ending
 
--- it shows in the last two characters
+-- the ending of a text; its last two characters show it
 abbrev pub ending : Text → Ending
 ending [] = without_break
 ending (c ∷ []) = if is_break c then more_breaks else without_break
 ending (c ∷ d ∷ []) = if is_break d then (if is_break c then more_breaks else one_break) else without_break
 ending (c ∷ d ∷ e ∷ rest) = ending (d ∷ e ∷ rest)
 
--- the text's first character is a blank or a break
+-- true if the text's first character is a blank or a break
 abbrev pub begins_blank : Text → Bool
 begins_blank value = begins_with (λ c. is_blank c || is_break c) value
 
--- the digit of the indent, where the first line would not show the indentation
--- (YAML 1.1, section 9.2.2 Block Indentation Indicator, c-indentation-indicator)
+-- the digit of the indent, if the first line would not show the indentation (YAML 1.1, section 9.2.2 Block Indentation Indicator,
+-- c-indentation-indicator)
 abbrev pub indentation_hint : ℕ → Text → Text
 indentation_hint best_indent value = if begins_blank value then (48 + best_indent) ∷ [] else []
 
--- `-`, nothing or `+`: what becomes of the final breaks (YAML 1.1, section 9.2.3 Block Chomping Indicator, c-chomping-indicator(t))
+-- `-`, nothing or `+`: the treatment of the final breaks (YAML 1.1, section 9.2.3 Block Chomping Indicator, c-chomping-indicator(t))
 abbrev pub ending_hint : Ending → Text
 ending_hint without_break = 45 ∷ []
 ending_hint one_break = []
 ending_hint more_breaks = 43 ∷ []
 
--- a hint, where there is one
+-- a hint, if there is one
 abbrev pub render_hint : Text → Cursor → Rendered
 render_hint [] cursor = render_nothing cursor
 render_hint (c ∷ rest) cursor = indicator (c ∷ rest) false false false cursor
@@ -50,7 +50,7 @@ render_header symbol best_indent value cursor =
     (λ signed. render_then (render_hints best_indent value signed)
     (λ hinted. with_flags true true (render_text (line_feed ∷ []) hinted)))
 
--- the open-ended state after a header: 2 where `+` keeps all final breaks, so that the document's end must be written
+-- the open-ended state after a header: 2 if `+` keeps all final breaks, so that the document's end must be written
 abbrev pub ending_open_ended : Ending → ℕ
 ending_open_ended without_break = 0
 ending_open_ended one_break = 0
@@ -60,14 +60,14 @@ ending_open_ended more_breaks = 2
 abbrev pub header_open_ended : Text → ℕ
 header_open_ended value = ending_open_ended (ending value)
 
--- the value's last character is a break
+-- true if the value's last character is a break
 abbrev pub ends_in_break : Ending → Bool
 ends_in_break without_break = false
 ends_in_break one_break = true
 ends_in_break more_breaks = true
 
--- lines as they are rendered under a value's header: after them the cursor stands in white space, and in
--- indentation where the value ends in a break
+-- lines as they are rendered under a value's header: after them the cursor is in white space, and in indentation if the value ends in a
+-- break
 abbrev pub render_lines : (value lines : Text) → Cursor → Rendered
 render_lines value lines cursor = with_flags true (ends_in_break (ending value)) (render_text lines cursor)
 
@@ -76,8 +76,8 @@ abbrev pub block_body : (symbol best_indent : ℕ) (value lines : Text) → Curs
 block_body symbol best_indent value lines cursor =
     render_then (render_header symbol best_indent value cursor) (render_lines value lines)
 
--- the entries of the enclosing block stand at the scalar's indentation less the indent; at the root there are none,
--- and the two are equal (this project)
+-- the entries of the enclosing block are at the scalar's indentation less the indent; at the root there are none, and the two are equal
+-- (this project)
 abbrev pub Encloses : (indent best_indent : ℕ) → (column : Option ℕ) → Type 0
 Encloses indent best_indent None = indent ≡ best_indent
 Encloses indent best_indent (Some column) = indent ≡ column + best_indent

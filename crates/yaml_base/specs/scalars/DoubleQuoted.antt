@@ -30,18 +30,18 @@ abbrev pub letter_among : List ShortEscape → ℕ → Option ℕ
 letter_among [] c = None
 letter_among (entry ∷ more) c = if c == entry.character then Some entry.letter else letter_among more c
 
--- what follows the backslash: a letter alone, or `x`, `u`, `U` and two, four, eight digits, the fewest that do
--- (YAML 1.1, section 5.6 Escape Sequences, ns-esc-8-bit, ns-esc-16-bit, ns-esc-32-bit; the fewest is libyaml's rule)
+-- the text after the backslash: a letter alone, or `x`, `u`, `U` and two, four, eight digits, the fewest that suffice (YAML 1.1, section
+-- 5.6 Escape Sequences, ns-esc-8-bit, ns-esc-16-bit, ns-esc-32-bit; the fewest is libyaml's rule)
 abbrev pub escape_after_backslash : Option ℕ → ℕ → Text
 escape_after_backslash (Some letter) c = letter ∷ []
 escape_after_backslash None c =
     if nat_le c 0xFF then 120 ∷ hex_digits 2 c else (if nat_le c 0xFFFF then 117 ∷ hex_digits 4 c else 85 ∷ hex_digits 8 c)
 
--- a backslash and what follows it (YAML 1.1, section 5.6 Escape Sequences, ns-esc-char)
+-- an escape: a backslash and the text after it (YAML 1.1, section 5.6 Escape Sequences, ns-esc-char)
 abbrev pub escape_text : ℕ → Text
 escape_text c = backslash ∷ escape_after_backslash (letter_among short_escapes c) c
 
--- unprintable, past ASCII where that isn't kept, a break, the quote or the backslash
+-- true of a character that needs an escape: unprintable, past ASCII if that isn't kept, a break, the quote or the backslash
 abbrev pub needs_escape : Bool → ℕ → Bool
 needs_escape unicode c =
     not (is_printable c) || (not unicode && not (is_ascii c)) || is_break c || c == quote || c == backslash
@@ -50,17 +50,17 @@ needs_escape unicode c =
 abbrev pub character_text : Bool → ℕ → Text
 character_text unicode c = if needs_escape unicode c then escape_text c else c ∷ []
 
--- the character next to a space is there and is another than a space
+-- true if there is a character and it is no space
 abbrev pub is_other : Option ℕ → Bool
 is_other None = false
 is_other (Some c) = not (is_space c)
 
--- a space may be a fold where it is the first of a run and neither the value's first character nor its last
+-- true if a space may be a fold: it is the first of a run, and neither the value's first character nor its last
 abbrev pub may_fold : (before : Option ℕ) → (rest : Text) → Bool
 may_fold before [] = false
 may_fold before (c ∷ rest) = is_other before
 
--- where a space follows the fold, a backslash keeps it (YAML 1.1, section 5.6 Escape Sequences, ns-esc-space)
+-- a backslash that keeps the space after a fold, if one follows (YAML 1.1, section 5.6 Escape Sequences, ns-esc-space)
 abbrev pub space_kept : Text → Text
 space_kept [] = []
 space_kept (c ∷ rest) = if is_space c then backslash ∷ [] else []
@@ -97,7 +97,7 @@ double_quoted_body unicode limit indent value cursor =
     (render_then (render_quote cursor) (double_inside unicode limit indent None value))
     render_quote
 
--- a space before it, where none stands there
+-- a space before it, if none precedes
 abbrev pub render_double_quoted : (unicode : Bool) → (limit : Option ℕ) → (indent : ℕ) → (value : Text) → Cursor → Rendered
 render_double_quoted unicode limit indent value cursor =
     render_then (render_text (space_if true cursor) cursor) (double_quoted_body unicode limit indent value)

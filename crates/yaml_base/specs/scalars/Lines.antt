@@ -8,7 +8,7 @@ pub data Part : Type 0 where
   line : Text → Part
   line_break : ℕ → Part
 
--- a character before parts: it begins their first line, or is a line of its own
+-- a character before parts: it begins their first line, or is a line by itself
 abbrev pub begun : ℕ → List Part → List Part
 begun c [] = line (c ∷ []) ∷ []
 begun c (line text ∷ rest) = line (c ∷ text) ∷ rest

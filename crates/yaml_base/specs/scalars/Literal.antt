@@ -1,4 +1,4 @@
--- How a literal scalar is rendered.
+-- The layout of a literal scalar.
 -- Source, unless a definition names its own: libyaml's emitter.
 use Rattle.std.specs.Prelude.{ℕ, true, List, [], ◌∷◌, ◌++◌, replicate}
 use Rattle.yaml_base.specs.Characters.{Text, space}
@@ -16,7 +16,7 @@ indented indent (line_break b ∷ rest) = b ∷ indented indent rest
 abbrev pub literal_body : (indent best_indent : ℕ) (value : Text) → Cursor → Rendered
 literal_body indent best_indent value cursor = block_body 124 best_indent value (indented indent (parts value)) cursor
 
--- a separating space where one is needed, and the body
+-- a separating space if one is needed, and the body
 abbrev pub render_literal : (indent best_indent : ℕ) (value : Text) → Cursor → Rendered
 render_literal indent best_indent value cursor =
     render_then (render_text (space_if true cursor) cursor) (literal_body indent best_indent value)

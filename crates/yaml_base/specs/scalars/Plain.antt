@@ -1,4 +1,4 @@
--- Laying out a plain scalar, and the lines that it shares with single quotes.
+-- The layout of a plain scalar, and the lines that it shares with single quotes.
 -- Source, unless a definition names its own: libyaml's emitter, in this project's steps.
 use Rattle.std.specs.Prelude.{ℕ, Bool, true, false, Option, List, [], ◌∷◌, ◌++◌, ◌==◌, ◌||◌, ◌&&◌, not, replicate, if◌then◌else◌}
 use Rattle.yaml_base.specs.Characters.{Text, is_break, is_space, line_feed, space}
@@ -15,7 +15,7 @@ pub data Kind : Type 0 where
 abbrev pub kind_of : ℕ → Kind
 kind_of c = if is_space c then spaces else if is_break c then breaks else others
 
--- two kinds are the same
+-- true if two kinds are the same
 abbrev pub is_same_kind : Kind → Kind → Bool
 is_same_kind spaces spaces = true
 is_same_kind breaks breaks = true
@@ -27,7 +27,7 @@ pub record Run : Type 0 where
   pub kind : Kind
   pub text : Text
 
--- a character before runs joins the first of them where that is of its kind
+-- a character before runs: it joins the first of them if that is of its kind
 abbrev pub cons_run : ℕ → List Run → List Run
 cons_run c [] = record { kind = kind_of c; text = c ∷ [] } ∷ []
 cons_run c (first ∷ more) =
@@ -39,7 +39,7 @@ abbrev pub runs : Text → List Run
 runs [] = []
 runs (c ∷ rest) = cons_run c (runs rest)
 
--- a run of one character
+-- true of a run of one character
 abbrev pub is_single_character : Text → Bool
 is_single_character (c ∷ []) = true
 is_single_character _ = false
@@ -48,9 +48,9 @@ is_single_character _ = false
 abbrev pub indentation : ℕ → Text
 indentation indent = replicate indent space
 
--- a run's text: a lone space past the limit, neither first nor last, becomes a break and the indentation;
--- the first break of a run is written twice if it is LF, and the indentation follows; others stand as they are written
--- (YAML 1.1, section 6.5 Line Folding, b-l-folded-any(n,s); which space folds is libyaml's rule)
+-- a run's text: a lone space past the limit, neither first nor last, becomes a break and the indentation; the first break of a run is
+-- written twice if it is LF, and the indentation follows; other characters are written as they are (YAML 1.1, section 6.5 Line Folding,
+-- b-l-folded-any(n,s); which space folds is libyaml's rule)
 abbrev pub run_text : (written : Text → Text) (folds : Bool) (indent : ℕ) → Kind → Text → Text
 run_text written folds indent spaces text =
     if folds && is_single_character text then line_feed ∷ indentation indent else text
@@ -58,24 +58,24 @@ run_text written folds indent breaks text =
     (if begins_with (λ c. c == line_feed) text then line_feed ∷ [] else []) ++ (text ++ indentation indent)
 run_text written folds indent others text = written text
 
--- no run follows
+-- true if no run follows
 abbrev pub is_last : List Run → Bool
 is_last [] = true
 is_last _ = false
 
--- runs one after another; no fold stands at an edge
+-- runs one after another; no fold is at an edge
 abbrev pub render_runs : (written : Text → Text) (limit : Option ℕ) (indent : ℕ) (edge : Bool) → List Run → Cursor → Rendered
 render_runs written limit indent edge [] cursor = render_nothing cursor
 render_runs written limit indent edge (run ∷ more) cursor =
     let folds = is_past_width limit cursor && not (edge || is_last more) in
     render_then (render_text (run_text written folds indent run.kind run.text) cursor) (render_runs written limit indent false more)
 
--- a plain scalar's characters stand for themselves (YAML 1.1, section 9.1.3 Plain, ns-plain(n,c))
+-- the body of a plain scalar, whose characters mean themselves (YAML 1.1, section 9.1.3 Plain, ns-plain(n,c))
 abbrev pub plain_body : (limit : Option ℕ) (indent : ℕ) (value : Text) → Cursor → Rendered
 plain_body limit indent value cursor =
     with_flags false false (render_runs (λ text. text) limit indent true (runs value) cursor)
 
--- a space first where one is needed: the empty value needs none in a block
+-- a separating space if one is needed, and the body; the empty value needs none in a block
 abbrev pub render_plain : (flow : Bool) (limit : Option ℕ) (indent : ℕ) (value : Text) → Cursor → Rendered
 render_plain flow limit indent value cursor =
     render_then (render_text (space_if (flow || not (is_empty value)) cursor) cursor) (plain_body limit indent value)

@@ -1,5 +1,5 @@
--- Scripts of events: what the bytes of a script say, line by line (this project's own notation).
---     line_read text       what a line says, or nothing where it is bad by itself
+-- Scripts of events: the reading of a script's bytes, line by line (this project's own notation).
+--     line_read text       the meaning of a line, or nothing if it is bad by itself
 --     script_of bytes      the settings and the numbered events of a script, or the number of its first bad line
 use Rattle.std.specs.Prelude.{ℕ, suc, ℤ, pos, Bool, Option, None, Some, List, [], ◌∷◌, ◌++◌, ◌==◌, ◌&&◌, not, length, codes, chars, option_map}
 use Rattle.std.specs.Prelude.{option_and_then, if◌then◌else◌}
@@ -22,7 +22,7 @@ pub use Rattle.yaml_base.specs.Words.{named}
 pub use Rattle.yaml_base.specs.scripts.ScriptWords.{signed_number, at_character, at_escape, at_brace, at_digits, goes_on, stands_for, ends, fails, bare, quoted}
 pub use Rattle.yaml_base.specs.scripts.ScriptWords.{outside, inside, escaped}
 
--- ---- what a script says
+-- ---- the parts of a script
 
 -- a setting's line
 pub data Setting : Type 0 where
@@ -56,7 +56,7 @@ pub data Script : Type 0 where
 
 -- ---- settings
 
--- what a setting's line says, by its name
+-- the setting of a line, by its name
 abbrev pub setting_of : Text → Text → Option Setting
 setting_of name value =
     if is_word name (codes "limit") then option_map limit_set (number_up_to 4294967295 value)
@@ -85,7 +85,7 @@ setting_name (portable_set _) = codes "portable"
 setting_name (sequences_set _) = codes "sequences"
 setting_name (blanks_set _) = codes "blanks"
 
--- the settings where no line sets anything
+-- the settings if no line sets anything
 abbrev pub unset : Settings
 unset = record nothing_given { limit = 1000000000 }
 
@@ -103,7 +103,7 @@ with_setting given (portable_set on) = record given { portable = on }
 with_setting given (sequences_set indented) = record given { indented_sequences = indented }
 with_setting given (blanks_set literal) = record given { literal_blanks = literal }
 
--- what several lines set together
+-- the settings of several lines
 abbrev pub settings_of : Settings → List Setting → Settings
 settings_of given [] = given
 settings_of given (setting ∷ rest) = settings_of (with_setting given setting) rest
@@ -136,7 +136,7 @@ abbrev pub stream_start_of : List Field → Option Event
 stream_start_of (bare encoding ∷ []) = option_map stream_start (named encodings encoding)
 stream_start_of _ = None
 
--- a document's start, where each of its parts has a reading
+-- a document's start, if each of its parts has a reading
 abbrev pub document_start_with : Option Bool → Option (Option Version) → Option (List TagDirective) → Option Event
 document_start_with (Some implicit) (Some version) (Some directives) = Some
     (document_start (record { version = version; directives = directives; implicit = implicit }))
@@ -157,7 +157,7 @@ abbrev pub alias_of : List Field → Option Event
 alias_of (quoted anchor ∷ []) = Some (alias anchor)
 alias_of _ = None
 
--- a scalar, where each of its parts has a reading
+-- a scalar, if each of its parts has a reading
 abbrev pub scalar_with : Option ScalarStyle → Option Bool → Option Bool → Option (Option Text) → Option (Option Text) → Text → Option Event
 scalar_with (Some style) (Some plain_implicit) (Some quoted_implicit) (Some anchor) (Some tag) value =
     Some (scalar (record { anchor = anchor; tag = tag; value = value; plain_implicit = plain_implicit; quoted_implicit = quoted_implicit; style = style }))
@@ -169,7 +169,7 @@ scalar_of (bare style ∷ bare plain_implicit ∷ bare quoted_implicit ∷ ancho
     scalar_with (named scalar_styles style) (named flags plain_implicit) (named flags quoted_implicit) (text_or_none anchor) (text_or_none tag) value
 scalar_of _ = None
 
--- the start of a collection, where each of its parts has a reading
+-- the start of a collection, if each of its parts has a reading
 abbrev pub collection_with : Option CollectionStyle → Option Bool → Option (Option Text) → Option (Option Text) → Option Collection
 collection_with (Some style) (Some implicit) (Some anchor) (Some tag) = Some (record { anchor = anchor; tag = tag; implicit = implicit; style = style })
 collection_with _ _ _ _ = None
@@ -180,7 +180,7 @@ collection_of (bare style ∷ bare implicit ∷ anchor ∷ tag ∷ []) =
     collection_with (named collection_styles style) (named flags implicit) (text_or_none anchor) (text_or_none tag)
 collection_of _ = None
 
--- an event without any field
+-- an event without fields
 abbrev pub alone : Event → List Field → Option Event
 alone event [] = Some event
 alone event _ = None
@@ -201,40 +201,40 @@ event_of name fields =
 
 -- ---- lines
 
--- a name and one value set something
+-- a setting by its name and one value
 abbrev pub setting_line : Text → List Field → Option Setting
 setting_line name (bare value ∷ []) = setting_of name value
 setting_line name _ = None
 
--- what a line's fields say: the first is the name of a setting or of an event
+-- the meaning of a line's fields; the first is the name of a setting or of an event
 abbrev pub script_line : List Field → Option ScriptLine
 script_line (bare name ∷ fields) = option_or (option_map sets (setting_line name fields)) (option_map gives (event_of name fields))
 script_line _ = None
 
--- what a line says: nothing where it is empty or, without a CR, a comment
+-- the meaning of a line: it says nothing if it is empty or, without a CR, a comment
 abbrev pub line_read : Text → Option ScriptLine
 line_read [] = Some says_nothing
 line_read (c ∷ rest) =
     if c == number_sign then (if list_any (λ d. d == carriage_return) rest then None else Some says_nothing)
     else option_and_then script_line (fields_read (c ∷ rest))
 
--- what a line's bytes say: they have to be UTF-8
+-- the meaning of a line's bytes, which have to be UTF-8
 abbrev pub line_understood : List ℕ → Option ScriptLine
 line_understood bytes = if is_utf8 bytes then line_read (chars bytes) else None
 
 -- ---- the whole
 
--- what the lines so far set, and the events that they gave
+-- the settings and the events of the lines so far
 pub record ScriptState : Type 0 where
   pub settings : List Setting
   pub events : List Numbered
 
--- a setting may stand where no event stands before it and no line sets the same
+-- true if a setting may come: no event precedes it, and no line sets the same
 abbrev pub may_be_set : Setting → ScriptState → Bool
 may_be_set setting before =
     length before.events == 0 && not (list_any (λ other. is_word (setting_name setting) (setting_name other)) before.settings)
 
--- with one more line of this number, unless it's a setting out of place
+-- the state after one more line of this number; none for a setting out of place
 abbrev pub with_line : ℕ → ScriptState → ScriptLine → Option ScriptState
 with_line number before says_nothing = Some before
 with_line number before (sets setting) =
@@ -242,7 +242,7 @@ with_line number before (sets setting) =
 with_line number before (gives event) =
     Some (record before { events = before.events ++ record { line = number; event = event } ∷ [] })
 
--- the script whose lines from this number on follow what others said
+-- the script of the lines from this number on, after those that were read
 abbrev pub script_from : ℕ → ScriptState → List (List ℕ) → Script
 script_from number before [] = understood (settings_of unset before.settings) before.events
 script_from number before (line ∷ rest) =
@@ -251,6 +251,6 @@ script_from number before (line ∷ rest) =
       | Some after ↦ script_from (suc number) after rest
     ]
 
--- the lines are what stands between LFs, counted from 1; what follows a last LF is an empty line
+-- the script of some bytes: the lines are the stretches between LFs, counted from 1; after a last LF comes an empty line
 abbrev pub script_of : List ℕ → Script
 script_of bytes = script_from 1 (record { settings = []; events = [] }) (slice_split (λ byte. byte == line_feed) bytes)

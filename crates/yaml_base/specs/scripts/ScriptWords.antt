@@ -21,28 +21,29 @@ number_sign = 0x23
 
 -- ---- texts between quotation marks
 
--- a text's next character stands after a whole character, a backslash, `\u`, or `\u{` and these characters
+-- the place of a text's next character: after a whole character, a backslash, `\u`, or `\u{` and these characters
 pub data Within : Type 0 where
   at_character : Within
   at_escape : Within
   at_brace : Within
   at_digits : Text → Within
 
--- the next character goes on with an escape, completes one that stands for a character, ends the text, or is wrong there
+-- the step of a character: it goes on with an escape, completes a character of the value, ends the text, or is wrong there
 pub data QuotedStep : Type 0 where
   goes_on : Within → QuotedStep
   stands_for : ℕ → QuotedStep
   ends : QuotedStep
   fails : QuotedStep
 
--- the character of `\u{..}`: one to six hexadecimal digits of a Unicode scalar value
+-- the step that completes `\u{..}`: one to six hexadecimal digits of a Unicode scalar value
 abbrev pub numbered_step : Text → QuotedStep
 numbered_step digits =
     let number = digits_value 16 digits in
     if is_between 1 6 (length digits) && list_all (λ digit. is_digit digit 16) digits && all_scalars (number ∷ [])
     then stands_for number else fails
 
--- what a character does in a text: `\\`, `\"`, `\n` and `\u{..}` stand for characters, any other but these two for itself
+-- the step of a character in a text: `\\`, `\"`, `
+-- ` and `\u{..}` mean characters, any other but these two means itself
 abbrev pub text_step : Within → ℕ → QuotedStep
 text_step at_character c =
     if c == quotation_mark then ends else (if c == backslash then goes_on at_escape else stands_for c)
@@ -53,7 +54,7 @@ text_step at_escape c =
 text_step at_brace c = if c == 0x7B then goes_on (at_digits []) else fails
 text_step (at_digits digits) c = if c == 0x7D then numbered_step digits else goes_on (at_digits (digits ++ c ∷ []))
 
--- what the characters behind an opening mark stand for, where the last of them is the closing mark
+-- the value of the characters after an opening mark, if the last of them is the closing mark
 abbrev pub text_from : Within → Text → Option Text
 text_from within [] = None
 text_from within (c ∷ rest) =
@@ -66,30 +67,30 @@ text_from within (c ∷ rest) =
 
 -- ---- fields
 
--- a field is a word as it stands, or what a text between quotation marks stands for
+-- a field is a word as it is, or the value of a text between quotation marks
 pub data Field : Type 0 where
   bare : Text → Field
   quoted : Text → Field
 
--- a character of a line stands outside texts, inside one, or after a backslash inside one
+-- the place of a character in a line: outside texts, inside one, or after a backslash inside one
 pub data FieldState : Type 0 where
   outside : FieldState
   inside : FieldState
   escaped : FieldState
 
--- where the character after this one stands
+-- the place of the character after this one
 abbrev pub state_after : FieldState → ℕ → FieldState
 state_after outside c = if c == quotation_mark then inside else outside
 state_after inside c = if c == quotation_mark then outside else (if c == backslash then escaped else inside)
 state_after escaped c = inside
 
--- a space outside texts separates two fields
+-- true of a space outside texts, which separates two fields
 abbrev pub separates : FieldState → ℕ → Bool
 separates outside c = c == space
 separates inside c = false
 separates escaped c = false
 
--- a character that separates ends a piece; any other stands first in the piece that follows
+-- a character that separates ends a piece; any other is the first of the piece after it
 abbrev pub cut_before : Bool → ℕ → List Text → List Text
 cut_before true c pieces = [] ∷ pieces
 cut_before false c pieces = onto_first c pieces
@@ -99,13 +100,13 @@ abbrev pub pieces_from : FieldState → Text → List Text
 pieces_from standing [] = [] ∷ []
 pieces_from standing (c ∷ rest) = cut_before (separates standing c) c (pieces_from (state_after standing c) rest)
 
--- no field is empty; one that begins with a quotation mark is a text, any other a word
+-- a piece as a field: no field is empty; one that begins with a quotation mark is a text, any other a word
 abbrev pub field_read : Text → Option Field
 field_read [] = None
 field_read (c ∷ rest) =
     if c == quotation_mark then option_map quoted (text_from at_character rest) else Some (bare (c ∷ rest))
 
--- the first, before the others, where all have a reading
+-- the first field before the others, if all have a reading
 abbrev pub field_and : Option Field → Option (List Field) → Option (List Field)
 field_and (Some field) (Some fields) = Some (field ∷ fields)
 field_and _ _ = None
@@ -115,13 +116,13 @@ abbrev pub read_fields : List Text → Option (List Field)
 read_fields [] = Some []
 read_fields (piece ∷ pieces) = field_and (field_read piece) (read_fields pieces)
 
--- the fields of a line: exactly one space stands between two, and none at either end
+-- the fields of a line: exactly one space comes between two, and none at either end
 abbrev pub fields_read : Text → Option (List Field)
 fields_read line = read_fields (pieces_from outside line)
 
 -- ---- words and numbers
 
--- off and on, of a flag and of a setting
+-- the words for flags that are off or on
 abbrev pub flags : List (Text × Bool)
 flags = (codes "0", false) ∷ (codes "1", true) ∷ []
 
@@ -133,7 +134,7 @@ switches = (codes "off", false) ∷ (codes "on", true) ∷ []
 abbrev pub indentations : List (Text × Bool)
 indentations = (codes "undented", false) ∷ (codes "indented", true) ∷ []
 
--- the words for tabs, and for spaces at the ends of lines, where literal is asked for: whether the text is literal
+-- the words for tabs, and for spaces at the ends of lines, if literal is asked for: whether the text is literal
 abbrev pub blanks : List (Text × Bool)
 blanks = (codes "quoted", false) ∷ (codes "literal", true) ∷ []
 
@@ -154,13 +155,13 @@ scalar_styles = (codes "any", any_style) ∷ (codes "plain", plain) ∷ (codes "
 abbrev pub collection_styles : List (Text × CollectionStyle)
 collection_styles = (codes "any", any_layout) ∷ (codes "block", block) ∷ (codes "flow", flow) ∷ []
 
--- a number of at most this: decimal digits, one or more
+-- a number that is at most this: decimal digits, one or more
 abbrev pub number_up_to : ℕ → Text → Option ℕ
 number_up_to most word =
     let number = digits_value 10 word in
     if nat_le 1 (length word) && list_all (λ digit. is_digit digit 10) word && nat_le number most then Some number else None
 
--- a number of 32 bits with a sign: `-` stands before a negative one
+-- a number of 32 bits with a sign: `-` precedes a negative one
 abbrev pub signed_number : Text → Option ℤ
 signed_number [] = None
 signed_number (c ∷ rest) =

@@ -1,5 +1,5 @@
--- What a stream in any mode keeps of a list of events: versions, directives, and the trees of kinds, anchors, tags, values and
--- aliases; and when such trees agree with the events.
+-- The content of a list of events, which a stream in any mode keeps: versions, directives, and the trees of kinds, anchors, tags, values
+-- and aliases; and when such trees agree with the events.
 -- Source, unless a definition names its own: this project.
 use Rattle.std.specs.Prelude.{Bool, true, false, Option, None, Some, List, [], ◌∷◌, ◌++◌, ◌&&◌, not, bytes_eq, option_map, unwrap_or}
 use Rattle.std.specs.Ordering.{int_eq}
@@ -9,13 +9,13 @@ use Rattle.yaml_base.specs.Grammar.{Node, alias_node, scalar_node, sequence_node
 use Rattle.yaml_base.specs.Grammar.{Document, Documents, no_documents, documents_and, tree_of}
 use Rattle.yaml_base.specs.Event.{scalar_tag, collection_tag}
 
--- how a scalar without a tag stood: plain, in quotes or a block style, or so after the bare tag `!`
+-- the form in which a scalar without a tag was written: plain, in quotes or a block style, or so after the bare tag `!`
 pub data Stood : Type 0 where
   stood_plain : Stood
   stood_quoted : Stood
   stood_bare : Stood
 
--- a scalar has a tag, or stood without one
+-- the tag of a scalar, or the form in which it was written without one
 pub data Tagging : Type 0 where
   with_tag : Text → Tagging
   without_tag : Stood → Tagging
@@ -42,25 +42,25 @@ pub record DocumentTree : Type 0 where
   pub directives : List TagDirective
   pub root : Tree
 
--- the flags of a scalar let it stand so without a tag (libyaml's flags)
+-- true if the flags of a scalar allow this form without a tag (libyaml's flags)
 abbrev pub may_stand : Scalar → Stood → Bool
 may_stand content stood_plain = content.plain_implicit
 may_stand content stood_quoted = content.quoted_implicit
 may_stand content stood_bare = content.plain_implicit && not content.quoted_implicit
 
--- two texts, if there are any, are the same
+-- true if two texts are the same, or both are missing
 abbrev pub is_same_text : Option Text → Option Text → Bool
 is_same_text None None = true
 is_same_text (Some a) (Some b) = bytes_eq a b
 is_same_text _ _ = false
 
--- the tag that is written is the tag read; without one the scalar stands as it may
+-- true if the tag read is the written one; without one the scalar has an allowed form
 abbrev pub tagging_agrees : Scalar → Option Text → Tagging → Bool
 tagging_agrees content None (without_tag standing) = may_stand content standing
 tagging_agrees content (Some tag) (with_tag read) = bytes_eq tag read
 tagging_agrees content _ _ = false
 
--- a tree agrees with a node: the same kind, anchor, written tag, value and entries
+-- true if a tree agrees with a node: the same kind, anchor, written tag, value and entries
 abbrev mutual
   pub tree_agrees : Bool → Node → Tree → Bool
   tree_agrees canonical (alias_node name) (alias_tree read) = bytes_eq name read
@@ -83,19 +83,19 @@ abbrev mutual
       tree_pairs_agree canonical pairs trees && tree_agrees canonical key key_tree && tree_agrees canonical value value_tree
   tree_pairs_agree canonical _ _ = false
 
--- two versions are equal, or there is none
+-- true if two versions are equal, or both are missing
 abbrev pub is_same_version : Option Version → Option Version → Bool
 is_same_version None None = true
 is_same_version (Some a) (Some b) = int_eq a.major b.major && int_eq a.minor b.minor
 is_same_version _ _ = false
 
--- two lists have equal directives in one order
+-- true if two lists have equal directives in one order
 abbrev pub are_same_directives : List TagDirective → List TagDirective → Bool
 are_same_directives [] [] = true
 are_same_directives (a ∷ rest) (b ∷ others) = bytes_eq a.handle b.handle && bytes_eq a.prefix b.prefix && are_same_directives rest others
 are_same_directives _ _ = false
 
--- a document agrees in its version, directives and root
+-- true if a document agrees in its version, directives and root
 abbrev pub document_agrees : Bool → Document → DocumentTree → Bool
 document_agrees canonical document read =
     is_same_version document.start.version read.version
@@ -107,13 +107,13 @@ abbrev pub documents_in_order : Documents → List Document
 documents_in_order no_documents = []
 documents_in_order (documents_and documents document) = documents_in_order documents ++ document ∷ []
 
--- some documents agree, each with its own
+-- true if documents agree one by one, in order and as many
 abbrev pub documents_agree : Bool → List Document → List DocumentTree → Bool
 documents_agree canonical [] [] = true
 documents_agree canonical (document ∷ rest) (read ∷ others) = document_agrees canonical document read && documents_agree canonical rest others
 documents_agree canonical _ _ = false
 
--- what was read agrees with a whole list of events; no reading agrees with none
+-- true if the documents that were read agree with a whole list of events; no reading agrees with none
 abbrev pub agrees : Bool → List Event → Option (List DocumentTree) → Bool
 agrees canonical events None = false
 agrees canonical events (Some documents) =

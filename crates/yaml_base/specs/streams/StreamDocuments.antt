@@ -1,5 +1,5 @@
--- The documents of a stream: its lines are cut at the markers `---` and `...`, and what stands before the first of them is the first
--- document or its directives.
+-- The documents of a stream: its lines are cut at the markers `---` and `...`; the lines before the first marker are the first document or
+-- its directives.
 -- Source, unless a definition names its own: that of its part.
 use Rattle.std.specs.Prelude.{ℕ, suc, pos, Bool, true, false, Option, None, Some, List, [], ◌∷◌, ◌++◌, ◌==◌, ◌&&◌, not, length, fold, codes, bytes_eq}
 use Rattle.std.specs.Prelude.{option_map, option_and_then, is_some, if◌then◌else◌}
@@ -14,12 +14,13 @@ use Rattle.yaml_base.specs.streams.StreamNodes.{node_read}
 
 -- Markers. Source: helpers of this project's reader for c-document-start, c-document-end (YAML 1.1, section 7.2 Document Boundary Markers).
 
--- a line begins with three of an indicator, before a space or its end (YAML 1.1, section 7.2 Document Boundary Markers, c-document-start, c-document-end)
+-- true if a line begins with three of an indicator, before a space or its end (YAML 1.1, section 7.2 Document Boundary Markers,
+-- c-document-start, c-document-end)
 abbrev pub begins_with_marker : ℕ → Text → Bool
 begins_with_marker symbol (a ∷ b ∷ c ∷ rest) = a == symbol && b == symbol && c == symbol && ends_indicator rest
 begins_with_marker symbol _ = false
 
--- what a line is: it begins a document, ends one, or stands inside
+-- the kind of a line: it begins a document, ends one, or is inside
 pub data MarkerKind : Type 0 where
   start_marker : MarkerKind
   end_marker : MarkerKind
@@ -59,11 +60,11 @@ pub record Prologue : Type 0 where
   pub version : Option Version
   pub directives : List TagDirective
 
--- nothing
+-- the empty prologue
 abbrev pub no_prologue : Prologue
 no_prologue = record { version = None; directives = [] }
 
--- nothing is said
+-- true of the empty prologue
 abbrev pub is_no_prologue : Prologue → Bool
 is_no_prologue prologue = not (is_some prologue.version) && length prologue.directives == 0
 
@@ -73,12 +74,13 @@ version_parsed word =
     if bytes_eq word (codes "1.1") then Some (record { major = pos 1; minor = pos 1 })
     else (if bytes_eq word (codes "1.2") then Some (record { major = pos 1; minor = pos 2 }) else None)
 
--- a version stands first (this project; YAML 1.1, section 7.1.1 "YAML" Directive, ns-yaml-directive, asks for one at most)
+-- a prologue with a version, which comes first (this project; YAML 1.1, section 7.1.1 "YAML" Directive, ns-yaml-directive, asks for one at
+-- most)
 abbrev pub with_version : Prologue → Option Version → Option Prologue
 with_version prologue version =
     if is_no_prologue prologue then option_map (λ parsed. record { version = Some parsed; directives = [] }) version else None
 
--- a handle is given once (YAML 1.1, section 7.1.2 "TAG" Directive, ns-tag-directive)
+-- a prologue with one more directive; a handle is given once (YAML 1.1, section 7.1.2 "TAG" Directive, ns-tag-directive)
 abbrev pub with_directive : Prologue → Text → Option Text → Option Prologue
 with_directive prologue handle prefix =
     if is_handle_text handle && not (is_handle_given handle prologue.directives)
@@ -93,7 +95,8 @@ directive_by_words prologue (name ∷ handle ∷ prefix ∷ []) =
     if bytes_eq name (codes "%TAG") then with_directive prologue handle (prefix_parsed prefix) else None
 directive_by_words prologue _ = None
 
--- one line more of directives, whose words stand one space apart (this project; YAML 1.1, section 7.1 Directives, l-directive, allows more white space)
+-- a prologue with one more line of directives, whose words are one space apart (this project; YAML 1.1, section 7.1 Directives,
+-- l-directive, allows more white space)
 abbrev pub directive_line : Option Prologue → Line → Option Prologue
 directive_line None line = None
 directive_line (Some prologue) line = directive_by_words prologue (slice_split is_space line.text)
@@ -104,13 +107,13 @@ prologue_read lines = fold directive_line (Some no_prologue) lines
 
 -- Documents. Source: YAML 1.1, section 7.3 Documents, l-explicit-document.
 
--- a line begins with a character that is no space (this project)
+-- true if a line begins with a character that is no space (this project)
 abbrev pub stands_at_margin : List Line → Bool
 stands_at_margin [] = true
 stands_at_margin (line ∷ rest) = not (ends_indicator line.text)
 
--- a root on lines of its own, the first of which stands at column 0; nothing is the empty scalar
--- (this project, for YAML 1.1, section 7.3 Documents, l-implicit-document)
+-- a root on lines of its own, the first of which begins at column 0; without lines it is the empty scalar (this project, for YAML 1.1,
+-- section 7.3 Documents, l-implicit-document)
 abbrev pub root_below : ℕ → Rules → List Line → Option Tree
 root_below depth rules lines = if stands_at_margin lines then node_read depth rules true None lines else None
 
@@ -131,12 +134,12 @@ root_with_marker depth rules line rest =
 
 -- Streams. Source: helpers of this project's reader for l-yaml-stream (YAML 1.1, section 7.4 Complete Stream).
 
--- what may come after the documents so far: a marker of either kind, or after directives and `...` only `---`
+-- the state between documents: a marker of either kind may come, or after directives and `...` only `---`
 pub data StreamPlace : Type 0 where
   after_root : StreamPlace
   after_prologue : Prologue → StreamPlace
 
--- a stream as far as it is read
+-- the documents and the state of a stream so far
 pub record StreamRead : Type 0 where
   pub documents : List DocumentTree
   pub place : StreamPlace
@@ -161,8 +164,8 @@ document_read depth breaks12 documents prologue section =
 abbrev pub with_prologue : List DocumentTree → Option Prologue → Option StreamRead
 with_prologue documents prologue = option_map (λ parsed. record { documents = documents; place = after_prologue parsed }) prologue
 
--- one section more: `...` stands alone on its line, blank lines may follow it, and then directives
--- (YAML 1.1, sections 7.2 Document Boundary Markers and 7.3 Documents, l-document-suffix, l-explicit-document; `...` alone on its line is this project's rule)
+-- one section more: `...` is alone on its line, blank lines may follow it, and then directives (YAML 1.1, sections 7.2 Document Boundary
+-- Markers and 7.3 Documents, l-document-suffix, l-explicit-document; `...` alone on its line is this project's rule)
 abbrev pub section_by_kind : MarkerKind → ℕ → Bool → List DocumentTree → StreamPlace → Section → Option StreamRead
 section_by_kind start_marker depth breaks12 documents after_root section = document_read depth breaks12 documents no_prologue section
 section_by_kind start_marker depth breaks12 documents (after_prologue prologue) section = document_read depth breaks12 documents prologue section
@@ -175,13 +178,13 @@ abbrev pub section_read : ℕ → Bool → Option StreamRead → Section → Opt
 section_read depth breaks12 None section = None
 section_read depth breaks12 (Some read) section = section_by_kind section.marker depth breaks12 read.documents read.place section
 
--- what the lines before the first marker begin with
+-- the kind of the lines before the first marker
 pub data PrefixKind : Type 0 where
   no_lines : PrefixKind
   directive_lines : PrefixKind
   document_lines : PrefixKind
 
--- a line begins with `%` (YAML 1.1, section 5.3 Indicator Characters, c-directive)
+-- true if a line begins with `%` (YAML 1.1, section 5.3 Indicator Characters, c-directive)
 abbrev pub begins_with_percent : Text → Bool
 begins_with_percent [] = false
 begins_with_percent (c ∷ rest) = c == 0x25
@@ -199,7 +202,7 @@ lines_before_marker_read directive_lines depth breaks12 lines = with_prologue []
 lines_before_marker_read document_lines depth breaks12 lines =
     with_read_document [] no_prologue (root_below depth (record { breaks12 = breaks12; directives = [] }) lines)
 
--- a stream ends after a document, or where no directives wait for one
+-- true if a stream may end: after a document, or if no directives wait for one
 abbrev pub may_end : StreamPlace → Bool
 may_end after_root = true
 may_end (after_prologue prologue) = is_no_prologue prologue

@@ -1,5 +1,5 @@
--- A text by lines and columns: which lines belong to an entry above them, and a block's lines cut into its entries. What a
--- collection has read of a line becomes spaces, so that each entry is again a text of its own, with the columns it had.
+-- A text by lines and columns: which lines belong to an entry above them, and a block's lines cut into its entries. The part of a line
+-- that a collection has read becomes spaces, so that each entry is again a text of its own, with the columns it had.
 -- Source, unless a definition names its own: helpers of this project's reader for s-indent(n) (YAML 1.1, section 6.1 Indentation Spaces).
 use Rattle.std.specs.Prelude.{ℕ, zero, suc, Bool, true, false, Option, None, Some, List, [], ◌∷◌, ◌++◌, ◌==◌, ◌||◌, ◌&&◌, not, replicate, if◌then◌else◌}
 use Rattle.yaml_base.specs.Characters.{Text, space}
@@ -10,7 +10,7 @@ pub record Line : Type 0 where
   pub text : Text
   pub ending : Text
 
--- a character before some lines begins the first of them
+-- a character before some lines; it begins the first of them
 abbrev pub prepend_to_first_line : ℕ → List Line → List Line
 prepend_to_first_line c [] = record { text = c ∷ []; ending = [] } ∷ []
 prepend_to_first_line c (line ∷ rest) = record { text = c ∷ line.text; ending = line.ending } ∷ rest
@@ -30,7 +30,7 @@ abbrev pub text_of_lines : List Line → Text
 text_of_lines [] = []
 text_of_lines (line ∷ rest) = line.text ++ (line.ending ++ text_of_lines rest)
 
--- nothing but spaces, or nothing (YAML 1.1, section 6.1 Indentation Spaces, s-indent(n))
+-- true of spaces alone, or nothing (YAML 1.1, section 6.1 Indentation Spaces, s-indent(n))
 abbrev pub is_spaces : Text → Bool
 is_spaces [] = true
 is_spaces (c ∷ rest) = c == space && is_spaces rest
@@ -40,28 +40,29 @@ abbrev pub without_blank_lines : List Line → List Line
 without_blank_lines [] = []
 without_blank_lines (line ∷ rest) = if is_spaces line.text then without_blank_lines rest else line ∷ rest
 
--- the first of some lines is blank (YAML 1.1, section 6.4 Ignored Line Prefix, l-empty(n,s))
+-- true if the first of some lines is blank (YAML 1.1, section 6.4 Ignored Line Prefix, l-empty(n,s))
 abbrev pub first_line_is_blank : List Line → Bool
 first_line_is_blank [] = false
 first_line_is_blank (line ∷ rest) = is_spaces line.text
 
--- all lines are blank (YAML 1.1, section 6.4 Ignored Line Prefix, l-empty(n,s))
+-- true if all lines are blank (YAML 1.1, section 6.4 Ignored Line Prefix, l-empty(n,s))
 abbrev pub all_blank : List Line → Bool
 all_blank [] = true
 all_blank (line ∷ rest) = is_spaces line.text && all_blank rest
 
--- an indicator stands before a space or the end of its line (this project, stricter than YAML 1.1, section 6.3 Separation Spaces, s-separate(n,c))
+-- true if an indicator precedes a space or the end of its line (this project, stricter than YAML 1.1, section 6.3 Separation Spaces,
+-- s-separate(n,c))
 abbrev pub ends_indicator : Text → Bool
 ends_indicator [] = true
 ends_indicator (c ∷ rest) = c == space
 
--- a line begins with this indicator
+-- true if a line begins with this indicator
 abbrev pub begins_with_indicator : ℕ → Text → Bool
 begins_with_indicator symbol [] = false
 begins_with_indicator symbol (c ∷ rest) = c == symbol && ends_indicator rest
 
--- a line belongs to the entry above it at a column: it is blank or deeper; a `-` at the column of a mapping is too
--- (YAML 1.1, section 6.1 Indentation Spaces, s-indent(n))
+-- true if a line belongs to the entry above it at a column: it is blank or deeper; a `-` at the column of a mapping belongs too (YAML 1.1,
+-- section 6.1 Indentation Spaces, s-indent(n))
 abbrev pub belongs_to_entry : (in_sequence : Bool) → ℕ → Text → Bool
 belongs_to_entry in_sequence column [] = true
 belongs_to_entry in_sequence zero (c ∷ rest) = c == space || (not in_sequence && begins_with_indicator 0x2D (c ∷ rest))
@@ -72,7 +73,7 @@ pub record Entries : Type 0 where
   pub before : List Line
   pub entries : List (List Line)
 
--- a line before some entries belongs to the entry above it, or begins one
+-- a line before some entries: it belongs to the entry above it, or begins one
 abbrev pub prepend_line : (inside : Bool) → Line → Entries → Entries
 prepend_line true line after = record { before = line ∷ after.before; entries = after.entries }
 prepend_line false line after = record { before = []; entries = (line ∷ after.before) ∷ after.entries }
@@ -84,28 +85,29 @@ entries_at in_sequence column [] = record { before = []; entries = [] }
 entries_at in_sequence column (line ∷ rest) =
     prepend_line (belongs_to_entry in_sequence column line.text) line (entries_at in_sequence column rest)
 
--- each line is blank or deeper than the column; at the root any line is
+-- true if each line is blank or deeper than the column; at the root any line is
 abbrev pub all_deeper : Option ℕ → List Line → Bool
 all_deeper None lines = true
 all_deeper (Some column) [] = true
 all_deeper (Some column) (line ∷ rest) = belongs_to_entry true column line.text && all_deeper (Some column) rest
 
--- a line's text after its indentation, and the column where it stands
+-- a line's text after its indentation, and the column of that text
 pub record Indented : Type 0 where
   pub column : ℕ
   pub text : Text
 
--- a space before such a text moves it; any other character stands at column 0
+-- a space before such a text moves it; any other character is at column 0
 abbrev pub indented_step : (is_space : Bool) → Text → Indented → Indented
 indented_step true text after = record { column = suc after.column; text = after.text }
 indented_step false text after = record { column = 0; text = text }
 
--- where a line's first character that is no space stands, and the line from there on (YAML 1.1, section 6.1 Indentation Spaces, s-indent(n))
+-- the column of a line's first character that is no space, and the line from there on (YAML 1.1, section 6.1 Indentation Spaces,
+-- s-indent(n))
 abbrev pub past_indentation : Text → Indented
 past_indentation [] = record { column = 0; text = [] }
 past_indentation (c ∷ rest) = indented_step (c == space) (c ∷ rest) (past_indentation rest)
 
--- what stands at a column, after spaces alone (YAML 1.1, section 6.1 Indentation Spaces, s-indent(n))
+-- the text at a column, after spaces alone (YAML 1.1, section 6.1 Indentation Spaces, s-indent(n))
 abbrev pub past_column : ℕ → Text → Option Text
 past_column zero text = Some text
 past_column (suc column) [] = None
@@ -115,6 +117,6 @@ past_column (suc column) (c ∷ rest) = if c == space then past_column column re
 abbrev pub spaces : ℕ → Text
 spaces count = replicate count space
 
--- a line whose text before a column was read: spaces stand there
+-- a line whose text before a column was read: spaces replace that text
 abbrev pub blanked : ℕ → Text → Text → Line
 blanked column text ending = record { text = spaces column ++ text; ending = ending }

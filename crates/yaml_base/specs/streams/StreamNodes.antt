@@ -17,13 +17,13 @@ use Rattle.yaml_base.specs.streams.StreamFlow.{is_alias, longest_key, flow_read}
 
 -- Simple keys. Source: YAML 1.1, section 10.2 Mapping Styles, no production, in this project's steps.
 
--- a simple key, the length of its text, and what follows its `:`
+-- a simple key, the length of its text, and the text after its `:`
 pub record SimpleKey : Type 0 where
   pub key : Tree
   pub length : ℕ
   pub after : Text
 
--- a text without the space that it ends with; none where it ends otherwise
+-- a text without the space that ends it; none if it ends otherwise
 abbrev pub without_last_space : Text → Option Text
 without_last_space [] = None
 without_last_space (c ∷ []) = if c == space then Some [] else None
@@ -37,19 +37,19 @@ word_but_alias rules text = option_and_then (λ tree. if is_alias tree then None
 abbrev pub word_of_alias : Rules → Text → Option Tree
 word_of_alias rules text = option_and_then (λ tree. if is_alias tree then Some tree else None) (word_read rules false text)
 
--- a text before a `:` that is a simple key: a node's own text, with a space after it where that is an alias; it isn't
--- longer than it may be (YAML 1.1, section 10.2 Mapping Styles, no production; the space after an alias is this project's)
+-- a text before a `:` that is a simple key: a node's own text, with a space after it if that is an alias; it isn't longer than it may be
+-- (YAML 1.1, section 10.2 Mapping Styles, no production; the space after an alias is this project's)
 abbrev pub key_of_text : Rules → Text → Option Tree
 key_of_text rules text =
     if nat_le (length text) longest_key
     then option_or (word_but_alias rules text) (option_and_then (word_of_alias rules) (without_last_space text)) else None
 
--- the key of a text before a `:` that ends it, and what follows
+-- the key of a text before a `:` that ends it, and the text after it
 abbrev pub key_ends : Rules → (ends : Bool) → Text → Text → Option SimpleKey
 key_ends rules false text after = None
 key_ends rules true text after = option_map (λ key. record { key = key; length = length text; after = after }) (key_of_text rules text)
 
--- the first `:` from here on that ends a key, where so much of the line stands before it
+-- the simple key that ends at the first such `:` from here on; the first text is the part of the line before it
 abbrev pub key_from : Rules → Text → Text → Option SimpleKey
 key_from rules before [] = None
 key_from rules before (c ∷ rest) =
@@ -62,11 +62,11 @@ key_of_line rules text = key_from rules [] text
 -- Collections. Source: helpers of this project's reader for c-l-block-sequence(n,c), c-l-block-mapping(n)
 -- (YAML 1.1, sections 10.1.2 Block Sequences and 10.2.2 Block Mappings).
 
--- how the lines inside a column are read (none: those of a document), where a block may begin on the first of them or not
+-- a reader of the lines inside a column (none: those of a document); a block may begin on the first of them or not
 abbrev pub LinesReader : Type 0
 LinesReader = (here : Bool) → Option ℕ → List Line → Option Tree
 
--- an item whose indicator stands at the column (YAML 1.1, section 10.1.2 Block Sequences, c-l-block-sequence(n,c))
+-- an item whose indicator is at the column (YAML 1.1, section 10.1.2 Block Sequences, c-l-block-sequence(n,c))
 abbrev pub item_by_indicator : LinesReader → ℕ → Text → List Line → Option Text → Option Tree
 item_by_indicator reads column ending rest (Some (c ∷ text)) =
     if begins_with_indicator 0x2D (c ∷ text) then reads true (Some column) (blanked (suc column) text ending ∷ rest) else None
@@ -95,7 +95,7 @@ pub record HeldPairs : Type 0 where
 abbrev pub with_key : HeldPairs → Option Tree → Option HeldPairs
 with_key held read = if is_some held.key then None else option_map (λ key. record { pairs = held.pairs; key = Some key }) read
 
--- the value of the key that is held (YAML 1.1, section 10.2.2 Block Mappings, c-l-block-mapping(n))
+-- the value of the held key (YAML 1.1, section 10.2.2 Block Mappings, c-l-block-mapping(n))
 abbrev pub with_held_value : TreePairs → Option Tree → Option Tree → Option HeldPairs
 with_held_value pairs (Some key) (Some value) = Some (record { pairs = tree_pairs_and pairs key value; key = None })
 with_held_value pairs _ _ = None
@@ -106,7 +106,7 @@ simple_pair reads column ending rest (Some held) (Some found) =
     with_held_value held.pairs held.key (reads false (Some column) (blanked (suc (column + found.length)) found.after ending ∷ rest))
 simple_pair reads column ending rest _ _ = None
 
--- what an entry of a mapping begins with
+-- the beginning of an entry of a mapping
 pub data EntryKind : Type 0 where
   key_entry : EntryKind
   value_entry : EntryKind
@@ -130,7 +130,7 @@ entry_by_kind simple_entry rules reads column ending rest held text =
     (λ found. simple_pair reads column ending rest (with_key held (Some found.key)) (Some found))
     (key_of_line rules text)
 
--- an entry of a mapping whose first character stands at the column
+-- an entry of a mapping whose first character is at the column
 abbrev pub entry_at : Rules → LinesReader → ℕ → Text → List Line → HeldPairs → Option Text → Option HeldPairs
 entry_at rules reads column ending rest held None = None
 entry_at rules reads column ending rest held (Some text) = entry_by_kind (kind_of_entry text) rules reads column ending rest held text
@@ -152,7 +152,7 @@ pairs_held held = if is_some held.key then None else Some held.pairs
 abbrev pub pairs_read : Rules → LinesReader → ℕ → List (List Line) → Option TreePairs
 pairs_read rules reads column entries = option_and_then pairs_held (fold (entry_read rules reads column) (Some no_pairs_held) entries)
 
--- entries before which no line stands
+-- the entries of a collection, if no line precedes them
 abbrev pub entries_whole : Entries → Option (List (List Line))
 entries_whole all = if length all.before == 0 then Some all.entries else None
 
@@ -179,16 +179,16 @@ abbrev pub prepend_to_trimmed : (is_white : Bool) → ℕ → Text → Text
 prepend_to_trimmed true c [] = []
 prepend_to_trimmed _ c text = c ∷ text
 
--- a space or a break; a tab isn't white here
+-- true of a space or a break; a tab isn't white here
 abbrev pub is_space_or_break : Bool → ℕ → Bool
 is_space_or_break breaks12 c = c == space || is_read_break breaks12 c
 
--- a text without the spaces and breaks that it ends with
+-- a text without the spaces and breaks at its end
 abbrev pub trimmed : Bool → Text → Text
 trimmed breaks12 [] = []
 trimmed breaks12 (c ∷ rest) = prepend_to_trimmed (is_space_or_break breaks12 c) c (trimmed breaks12 rest)
 
--- what a text's first character tells: a block scalar, a flow collection, or a node's own text
+-- the kind of a text, by its first character: a block scalar, a flow collection, or a node's own text
 pub data TextKind : Type 0 where
   block_text : TextKind
   flow_text : TextKind
@@ -214,7 +214,7 @@ text_read rules column properties text ending rest =
 
 -- Nodes. Source: helpers of this project's reader for s-l+block-node(n,c) (YAML 1.1, section 8.5.2 Block Nodes).
 
--- what a node's first line that isn't blank begins
+-- the kind of a node, by its first line that isn't blank
 pub data NodeKind : Type 0 where
   begins_sequence : NodeKind
   begins_mapping : NodeKind
@@ -226,16 +226,16 @@ kind_of_node rules text =
     if begins_with_indicator 0x2D text then begins_sequence
     else (if begins_with_indicator 0x3F text || is_some (key_of_line rules text) then begins_mapping else begins_text)
 
--- how a text on the first line is read: the column where it stands, the text, its break, and the lines after it
+-- a reader of a text on the first line: the column of the text, the text, its break, and the lines after it
 abbrev pub ReadsText : Type 0
 ReadsText = ℕ → Text → Text → List Line → Option Tree
 
--- only where it is so
+-- a tree if the test holds, else none
 abbrev pub tree_if : Bool → Option Tree → Option Tree
 tree_if true tree = tree
 tree_if false tree = None
 
--- a node by its kind: a block where one may begin, a text on the first line
+-- a node by its kind: a block if one may begin, a text if it is on the first line
 abbrev pub node_by_kind :
     NodeKind → Rules → LinesReader → ReadsText → Properties → (here first : Bool) → Indented → Text → List Line → List Line → Option Tree
 node_by_kind begins_sequence rules reads reads_text properties here first line ending rest lines =
@@ -257,18 +257,18 @@ abbrev pub node_lines : Rules → LinesReader → ReadsText → Properties → (
 node_lines rules reads reads_text properties here lines =
     node_at rules reads reads_text properties (here || first_line_is_blank lines) (not (first_line_is_blank lines)) (without_blank_lines lines)
 
--- a text begins with an anchor or a tag (YAML 1.1, section 5.3 Indicator Characters, c-anchor, c-tag)
+-- true if a text begins with an anchor or a tag (YAML 1.1, section 5.3 Indicator Characters, c-anchor, c-tag)
 abbrev pub begins_properties : Text → Bool
 begins_properties [] = false
 begins_properties (c ∷ rest) = c == 0x26 || c == 0x21
 
--- properties that were read of a line: what follows them is a node without more of them (YAML 1.1, chapter 8 Nodes, c-ns-properties(n,c))
+-- properties that were read of a line; a node without further properties follows them (YAML 1.1, chapter 8 Nodes, c-ns-properties(n,c))
 abbrev pub after_properties : Rules → LinesReader → Option ℕ → ℕ → Text → List Line → Option PropertiesRead → Option Tree
 after_properties rules reads column at ending rest None = None
 after_properties rules reads column at ending rest (Some read) =
     node_lines rules reads (λ at. text_read rules column read.properties) read.properties false (blanked at read.text ending ∷ rest)
 
--- properties and what they belong to, or a text without them
+-- properties and the node that they belong to, or a text without them
 abbrev pub text_or_properties : (properties : Bool) → Rules → LinesReader → Option ℕ → ReadsText
 text_or_properties true rules reads column at text ending rest =
     after_properties rules reads column at ending rest (properties_read rules.directives text)

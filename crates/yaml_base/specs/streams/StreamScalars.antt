@@ -1,5 +1,5 @@
--- One node's own text on the stretch that is cut out for it: an alias, an empty collection or a scalar, after its anchor and its
--- tag. The scalars' readers are called on tidy text alone.
+-- One node's own text, on the stretch that is cut out for it: an alias, an empty collection or a scalar, after its anchor and its tag. The
+-- readers of scalars get tidy text alone.
 -- Source, unless a definition names its own: helpers of this project's reader for ns-flow-node(n,c), s-l+block-node(n,c)
 -- (YAML 1.1, section 8.5 Complete Nodes).
 use Rattle.std.specs.Prelude.{ℕ, suc, Bool, true, false, Option, None, Some, List, [], ◌∷◌, ◌++◌, ◌==◌, ◌&&◌, ◌+◌, length, option_map, option_and_then}
@@ -17,14 +17,14 @@ use Rattle.yaml_base.specs.streams.StreamContent.{Stood, stood_plain, stood_quot
 use Rattle.yaml_base.specs.streams.StreamContent.{sequence_tree, mapping_tree, no_trees, no_tree_pairs}
 use Rattle.yaml_base.specs.streams.StreamLines.{spaces, past_indentation}
 
--- by what a document's text is read: which characters break lines, and its own directives
+-- the rules for reading a document's text: the characters that break lines, and the document's own directives
 pub record Rules : Type 0 where
   pub breaks12 : Bool
   pub directives : List TagDirective
 
 -- Properties
 
--- a node's anchor and what its tag says (YAML 1.1, chapter 8 Nodes, c-ns-properties(n,c))
+-- a node's anchor and the meaning of its tag (YAML 1.1, chapter 8 Nodes, c-ns-properties(n,c))
 pub record Properties : Type 0 where
   pub anchor : Option Text
   pub tag : Option ParsedTag
@@ -33,12 +33,12 @@ pub record Properties : Type 0 where
 abbrev pub no_properties : Properties
 no_properties = record { anchor = None; tag = None }
 
--- what was read of a text, and the text with spaces in the place of that
+-- the properties that were read of a text, and the text with spaces in their place
 pub record PropertiesRead : Type 0 where
   pub properties : Properties
   pub text : Text
 
--- a space ends a word, any other character is of it
+-- a space ends a word, any other character belongs to it
 abbrev pub cut_word_step : (is_space : Bool) → ℕ → Text → CutText → CutText
 cut_word_step true c rest after = record { prefix = []; rest = c ∷ rest }
 cut_word_step false c rest after = record { prefix = c ∷ after.prefix; rest = after.rest }
@@ -93,7 +93,7 @@ collection_tag_parsed None = Some None
 collection_tag_parsed (Some (name_parsed name)) = Some (Some name)
 collection_tag_parsed (Some bare_parsed) = None
 
--- how a scalar is tagged that stood so: the bare tag stands before none that is plain (this project)
+-- the tagging of a scalar of this form; one after the bare tag isn't plain (this project)
 abbrev pub tagging_of : Option ParsedTag → Stood → Option Tagging
 tagging_of None standing = Some (without_tag standing)
 tagging_of (Some (name_parsed name)) standing = Some (with_tag name)
@@ -102,15 +102,15 @@ tagging_of (Some bare_parsed) _ = None
 
 -- Scalars
 
--- the style that a text's first character tells (YAML 1.1, section 5.3 Indicator Characters, c-literal to c-double-quote)
+-- the style of a text, by its first character (YAML 1.1, section 5.3 Indicator Characters, c-literal to c-double-quote)
 abbrev pub style_of_first_character : Text → ScalarStyle
 style_of_first_character [] = plain
 style_of_first_character (c ∷ rest) =
     if c == 0x27 then single_quoted
     else (if c == 0x22 then double_quoted else (if c == 0x7C then literal else (if c == 0x3E then folded else plain)))
 
--- what a text of a style reads as; in flow none is of a block style
--- (YAML 1.1, chapter 9 Scalar Styles, ns-plain(n,c), c-single-quoted(n,c), c-double-quoted(n,c), c-l+literal(n), c-l+folded(n))
+-- the value of a text of a style; in flow no text is of a block style (YAML 1.1, chapter 9 Scalar Styles, ns-plain(n,c),
+-- c-single-quoted(n,c), c-double-quoted(n,c), c-l+literal(n), c-l+folded(n))
 abbrev pub value_read : ScalarStyle → (breaks12 flow : Bool) → Option ℕ → Text → Option Text
 value_read plain breaks12 flow column text = read_plain breaks12 flow text
 value_read single_quoted breaks12 flow column text = read_single breaks12 text
@@ -118,7 +118,7 @@ value_read double_quoted breaks12 flow column text = read_double breaks12 text
 value_read any_style breaks12 flow column text = None
 value_read _ breaks12 flow column text = if flow then None else read_block breaks12 column text
 
--- how a scalar of a style stood
+-- the form of a scalar of a style
 abbrev pub stood_in_style : ScalarStyle → Stood
 stood_in_style plain = stood_plain
 stood_in_style _ = stood_quoted
@@ -128,7 +128,7 @@ abbrev pub scalar_parsed : Properties → Stood → Option Text → Option Tree
 scalar_parsed properties standing value =
     option_and_then (λ text. option_map (λ tagging. scalar_tree properties.anchor tagging text) (tagging_of properties.tag standing)) value
 
--- a scalar's text, tidy where it stands (this project)
+-- a scalar's text, which is tidy at its place (this project)
 abbrev pub scalar_of_style : ScalarStyle → Rules → (flow : Bool) → Option ℕ → Properties → Text → Option Tree
 scalar_of_style style rules flow column properties text =
     scalar_parsed properties (stood_in_style style)
@@ -145,7 +145,7 @@ abbrev pub alias_parsed : Option Text → Option ParsedTag → Option Text → O
 alias_parsed None None name = option_map alias_tree name
 alias_parsed _ _ name = None
 
--- what a word's first character tells
+-- the kind of a word, by its first character
 pub data WordKind : Type 0 where
   an_alias : WordKind
   empty_sequence : WordKind

@@ -16,8 +16,8 @@ pub data FlowToken : Type 0 where
   line_end : FlowToken
   bad : FlowToken
 
--- a character stands between tokens; in the word of an anchor or a tag, or after blanks that follow one; in plain text or
--- in white space after it; in double quotes, also after a backslash; in single quotes, also after a quote; or after a bracket
+-- the place of a character: between tokens; in the word of an anchor or a tag, or after blanks that follow one; in plain text or in white
+-- space after it; in double quotes, also after a backslash; in single quotes, also after a quote; or after a bracket
 pub data FlowPlace : Type 0 where
   free : FlowPlace
   in_property : Text → FlowPlace
@@ -46,7 +46,7 @@ completes token = record { tokens = token ∷ []; place = free }
 abbrev pub prepend_tokens : List FlowToken → FlowStep → FlowStep
 prepend_tokens tokens turn = record { tokens = tokens ++ turn.tokens; place = turn.place }
 
--- what a character is to a place between tokens
+-- the class of a character between tokens
 pub data FlowClass : Type 0 where
   is_white_blank : FlowClass
   is_white_break : FlowClass
@@ -69,7 +69,7 @@ class_of breaks12 c =
     else (if c == 0x27 then begins_single
     else (if is_among (codes "[{") c then begins_bracket else begins_plain))))))
 
--- a token's first character, after the text of properties before it
+-- the step of a token's first character, after the text of properties before it
 abbrev pub begun_token : FlowClass → (properties : Text) → ℕ → FlowStep
 begun_token is_white_blank properties c = completes blank
 begun_token is_white_break properties c = completes line_end
@@ -80,15 +80,16 @@ begun_token begins_single properties c = goes_to (in_single (properties ++ c ∷
 begun_token begins_bracket properties c = goes_to (after_bracket properties c)
 begun_token begins_plain properties c = goes_to (in_plain (properties ++ c ∷ []) [])
 
--- after properties: more blanks, or what they belong to on the same line
--- (this project, stricter than YAML 1.1, section 6.3 Separation Spaces, s-separate(n,c))
+-- the step after properties: more blanks, or the node that they belong to, on the same line (this project, stricter than YAML 1.1, section
+-- 6.3 Separation Spaces, s-separate(n,c))
 abbrev pub begun_after_property : FlowClass → Text → ℕ → FlowStep
 begun_after_property is_white_blank text c = goes_to (after_property (text ++ c ∷ []))
 begun_after_property is_white_break text c = completes bad
 begun_after_property is_flow_indicator text c = completes bad
 begun_after_property class text c = begun_token class text c
 
--- an anchor or a tag goes on to a blank (YAML 1.1, sections 8.1 Node Anchors and 8.2 Node Tags, c-ns-anchor-property, c-ns-tag-property)
+-- the step in an anchor or a tag, which goes on to a blank (YAML 1.1, sections 8.1 Node Anchors and 8.2 Node Tags, c-ns-anchor-property,
+-- c-ns-tag-property)
 abbrev pub property_step : FlowClass → Text → ℕ → FlowStep
 property_step is_white_blank text c = goes_to (after_property (text ++ c ∷ []))
 property_step is_white_break text c = completes bad
@@ -107,7 +108,7 @@ white_token breaks12 c = white_of_class (class_of breaks12 c)
 abbrev pub word_ends : Bool → Text → Text → FlowStep → FlowStep
 word_ends breaks12 text white turn = prepend_tokens (word text ∷ map (white_token breaks12) white) turn
 
--- plain text goes on, also over white space, to a flow indicator (YAML 1.1, section 9.1.3 Plain, ns-plain(n,c))
+-- the step in plain text, which goes on, also over white space, to a flow indicator (YAML 1.1, section 9.1.3 Plain, ns-plain(n,c))
 abbrev pub plain_step : FlowClass → Bool → Text → Text → ℕ → FlowStep
 plain_step is_white_blank breaks12 text white c = goes_to (in_plain text (white ++ c ∷ []))
 plain_step is_white_break breaks12 text white c = goes_to (in_plain text (white ++ c ∷ []))
@@ -115,16 +116,16 @@ plain_step is_flow_indicator breaks12 text white c = word_ends breaks12 text whi
 plain_step begins_bracket breaks12 text white c = word_ends breaks12 text white (begun_token begins_bracket [] c)
 plain_step class breaks12 text white c = goes_to (in_plain (text ++ (white ++ c ∷ [])) [])
 
--- after a bracket: the one that closes it makes a word, all else stands inside
+-- the step after a bracket: the one that closes it makes a word, all else is inside
 abbrev pub bracket_step : (closes : Bool) → FlowClass → Text → ℕ → ℕ → FlowStep
 bracket_step true class properties bracket c = completes (word (properties ++ (bracket ∷ c ∷ [])))
 bracket_step false class properties bracket c = prepend_tokens (opens properties bracket ∷ []) (begun_token class [] c)
 
--- a closing bracket matches an opening one (YAML 1.1, section 5.3 Indicator Characters, c-sequence-start to c-mapping-end)
+-- true if a closing bracket matches an opening one (YAML 1.1, section 5.3 Indicator Characters, c-sequence-start to c-mapping-end)
 abbrev pub is_pair : ℕ → ℕ → Bool
 is_pair bracket c = (bracket == 0x5B && c == 0x5D) || (bracket == 0x7B && c == 0x7D)
 
--- what a character does at a place
+-- the step of a character at a place
 abbrev pub flow_step_at : Bool → FlowPlace → ℕ → FlowStep
 flow_step_at breaks12 free c = begun_token (class_of breaks12 c) [] c
 flow_step_at breaks12 (in_property text) c = property_step (class_of breaks12 c) text c
@@ -141,7 +142,7 @@ flow_step_at breaks12 (after_quote text) c =
 flow_step_at breaks12 (after_bracket properties bracket) c =
     bracket_step (is_pair bracket c) (class_of breaks12 c) properties bracket c
 
--- a text ends between tokens; anywhere else it is cut short
+-- the tokens at the end of a text: it ends between tokens, and is cut short anywhere else
 abbrev pub tokens_at_end : FlowPlace → List FlowToken
 tokens_at_end free = []
 tokens_at_end _ = bad ∷ []

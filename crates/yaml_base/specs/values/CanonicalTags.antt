@@ -1,11 +1,11 @@
--- The tags of what scalars mean (yaml.org/type), and what a scalar means that was read.
+-- The meaning of a scalar that was read, and its tag (yaml.org/type).
 use Rattle.std.specs.Prelude.{bytes_eq, codes, if◌then◌else◌, []}
 use Rattle.yaml_base.specs.Characters.{Text}
 use Rattle.yaml_base.specs.streams.StreamContent.{Tagging, with_tag, without_tag, stood_plain}
 use Rattle.yaml_base.specs.values.Resolved.{Resolved, meant_null, meant_boolean, meant_integer, meant_decimal, meant_infinity, meant_nan, meant_timestamp}
 use Rattle.yaml_base.specs.values.Resolved.{meant_merge, meant_value, meant_text, meant_by_nobody}
 
--- what a schema takes plain scalars without a tag for
+-- the reading of plain scalars without a tag by a schema
 abbrev pub Schema : Type 0
 Schema = Text → Resolved
 
@@ -23,13 +23,13 @@ canonical_tag meant_value = codes "tag:yaml.org,2002:value"
 canonical_tag meant_text = codes "tag:yaml.org,2002:str"
 canonical_tag meant_by_nobody = []
 
--- what a scalar means: plain, what the schema says; in quotes, a text; with a tag, what the schema says, where it has that tag
+-- the meaning of a scalar: plain, the schema's reading; in quotes, a text; with a tag, the schema's reading if it has that tag
 abbrev pub scalar_meant : Schema → Tagging → Text → Resolved
 scalar_meant schema (without_tag stood_plain) value = schema value
 scalar_meant schema (without_tag _) value = meant_text
 scalar_meant schema (with_tag tag) value = if bytes_eq tag (canonical_tag (schema value)) then schema value else meant_by_nobody
 
--- the tag of a scalar that was read: one that is written, else that of what the scalar means
+-- the tag of a scalar that was read: its written tag, or else that of its meaning
 abbrev pub tag_meant : Schema → Tagging → Text → Text
 tag_meant schema (with_tag tag) value = tag
 tag_meant schema (without_tag standing) value = canonical_tag (scalar_meant schema (without_tag standing) value)

@@ -22,11 +22,11 @@ pub record JsonNumber : Type 0 where
   pub fraction : Option Text
   pub exponent : Option JsonExponent
 
--- `0`, or digits of which the first isn't 0
+-- true of `0`, and of digits of which the first isn't 0
 abbrev pub is_whole_part : Text → Bool
 is_whole_part digits = are_digits 10 digits && (is_word digits (codes "0") || not (first_meets (λ c. c == 0x30) digits))
 
--- digits stand wherever they have to
+-- true if digits are in each place that needs them
 abbrev pub is_json_number : JsonNumber → Bool
 is_json_number number =
     is_whole_part number.whole
@@ -39,7 +39,7 @@ is_json_number number =
       | Some exponent ↦ are_digits 10 exponent.digits
     ]
 
--- `-` before what is negative
+-- `-` before a negative number
 abbrev pub minus : Bool → Text
 minus negative = if negative then codes "-" else []
 
@@ -64,14 +64,14 @@ json_text number =
     ]
     ++ exponent_text number.exponent
 
--- an exponent is negative
+-- true if an exponent is negative
 abbrev pub exponent_negative : JsonExponent → Bool
 exponent_negative exponent = elim exponent.sign as (λ _. Bool) [
   | None ↦ false
   | Some negative ↦ negative
 ]
 
--- the power of ten that an exponent says
+-- the value of an exponent
 abbrev pub exponent_value : Option JsonExponent → ℤ
 exponent_value None = pos 0
 exponent_value (Some exponent) = signed (exponent_negative exponent) (digits_value 10 exponent.digits)
@@ -94,47 +94,47 @@ fraction_or_default digits number = elim number.fraction as (λ _. Text) [
 abbrev pub json_value : JsonNumber → Decimal
 json_value number = value_with number (fraction_or_default [] number)
 
--- an integer of JSON, but for `-0`
+-- true of an integer of JSON, but for `-0`
 abbrev pub is_json_integer : JsonNumber → Bool
 is_json_integer number =
     not (is_some number.fraction) && not (is_some number.exponent) && not (number.negative && is_word number.whole (codes "0"))
 
--- the exponent as YAML 1.1 wants it, with a sign
+-- the exponent as YAML 1.1 needs it, with a sign
 abbrev pub exponent_spelled : Option JsonExponent → Text
 exponent_spelled None = []
 exponent_spelled (Some exponent) = codes "e" ++ (if exponent_negative exponent then codes "-" else codes "+") ++ exponent.digits
 
--- an integer as it is; any other number with a point, and with a sign in its exponent
+-- the spelling: an integer as it is; any other number with a point, and with a sign in its exponent
 abbrev pub yaml_number : JsonNumber → Text
 yaml_number number =
     minus number.negative ++ number.whole
     ++ (if is_json_integer number then [] else codes "." ++ fraction_or_default (codes "0") number ++ exponent_spelled number.exponent)
 
--- what that spelling means by either schema
+-- the meaning of that spelling by either schema
 abbrev pub number_meant : JsonNumber → Resolved
 number_meant number =
     if is_json_integer number then meant_integer (signed number.negative (digits_value 10 number.whole))
     else meant_decimal (value_with number (fraction_or_default (codes "0") number))
 
--- how far one exponent lies above another; 0 where it doesn't
+-- the difference by which the first integer exceeds the second; 0 if it doesn't
 abbrev pub above : ℤ → ℤ → ℕ
 above high low = elim (high -ℤ low) as (λ _. ℕ) [
   | pos n ↦ n
   | negsuc n ↦ 0
 ]
 
--- two decimals are the same number
+-- true if two decimals are the same number
 abbrev pub is_same_number : Decimal → Decimal → Bool
 is_same_number a b =
     int_eq (a.digits *ℤ pos (10 ^ above a.exponent b.exponent)) (b.digits *ℤ pos (10 ^ above b.exponent a.exponent))
 
--- a reading is this number
+-- true if a reading is this number
 abbrev pub means_number : Decimal → Resolved → Bool
 means_number number (meant_integer integer) = is_same_number (record { digits = integer; exponent = pos 0 }) number
 means_number number (meant_decimal decimal) = is_same_number decimal number
 means_number number _ = false
 
--- every number of JSON, so spelled, is that number by both schemas
+-- each number of JSON, so spelled, is that number by both schemas
 abbrev pub NumbersAreRead : Type 0
 NumbersAreRead =
     (number : JsonNumber) → is_json_number number ≡ true

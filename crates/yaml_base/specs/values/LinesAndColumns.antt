@@ -1,10 +1,10 @@
--- The line and the column at which an offset in bytes stands in a text.
+-- The line and the column of an offset, in bytes, in a text.
 use Rattle.std.specs.Prelude.{ℕ, Bool, List, ◌==◌, ◌+◌, take, count_by}
 use Rattle.std.specs.Fmt.{is_char_start}
 use Rattle.std.specs.List.{after_last}
 use Rattle.yaml_base.specs.Characters.{line_feed}
 
--- the byte that ends a line
+-- true of the byte that ends a line
 abbrev pub is_line_feed : ℕ → Bool
 is_line_feed byte = byte == line_feed
 

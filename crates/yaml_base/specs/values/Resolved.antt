@@ -1,5 +1,5 @@
--- What a plain scalar without a tag can mean, and the words and digits of which both schemas are made: the type
--- repository of YAML 1.1 (yaml.org/type) and the core schema of YAML 1.2 (section 10.3 of its text).
+-- The meanings of a plain scalar without a tag, and the words and digits of which both schemas are made: the type repository of YAML 1.1
+-- (yaml.org/type) and the core schema of YAML 1.2 (section 10.3 of its text).
 pub use Rattle.yaml_base.specs.Options.{some_if}
 use Rattle.std.specs.Prelude.{ℕ, ℤ, pos, neg_ℤ, Bool, true, false, Option, None, Some, List, [], ◌∷◌, ◌++◌, ◌==◌, ◌||◌, ◌&&◌, ◌+ℤ◌, not, length, codes, map}
 use Rattle.std.specs.Prelude.{if◌then◌else◌}
@@ -13,8 +13,8 @@ pub record Decimal : Type 0 where
   pub digits : ℤ
   pub exponent : ℤ
 
--- what a schema takes a scalar for; `meant_by_nobody` is what a pattern of the type repository takes for a number and
--- no rule gives a value
+-- the meaning of a scalar by a schema; `meant_by_nobody` is the meaning of a text that a pattern of the type repository takes for a number
+-- and that no rule gives a value
 pub data Resolved : Type 0 where
   meant_null : Resolved
   meant_boolean : Bool → Resolved
@@ -28,7 +28,7 @@ pub data Resolved : Type 0 where
   meant_text : Resolved
   meant_by_nobody : Resolved
 
--- the first reading that there is; a text where there is none
+-- the first reading, if there is one, else a text
 abbrev pub first_reading : List (Option Resolved) → Resolved
 first_reading [] = meant_text
 first_reading (None ∷ rest) = first_reading rest
@@ -51,7 +51,7 @@ words_of_core =
     ++ all_mean (codes "-.inf -.Inf -.INF") (meant_infinity true)
     ++ all_mean (codes ".nan .NaN .NAN") meant_nan
 
--- those that the type repository has besides
+-- the further words of the type repository
 abbrev pub words_of_repository : List (Text × Resolved)
 words_of_repository =
     all_mean (codes "y Y yes Yes YES on On ON") (meant_boolean true)
@@ -65,33 +65,33 @@ words_of_11 = words_of_core ++ words_of_repository
 
 -- ---- signs and digits
 
--- the sign that stands between a number's whole part and its fraction
+-- true of the sign between a number's whole part and its fraction
 abbrev pub is_point : ℕ → Bool
 is_point c = c == 0x2E
 
--- the signs before an exponent
+-- true of the letters before an exponent
 abbrev pub is_exponent_letter : ℕ → Bool
 is_exponent_letter c = c == 0x65 || c == 0x45
 
--- `+` or `-`
+-- true of `+` and `-`
 abbrev pub is_plus_or_minus : ℕ → Bool
 is_plus_or_minus c = c == 0x2B || c == 0x2D
 
--- a decimal digit
+-- true of a decimal digit
 abbrev pub is_decimal : ℕ → Bool
 is_decimal c = is_digit c 10
 
--- a text's first character passes a test
+-- true if a text's first character passes a test
 abbrev pub first_meets : (ℕ → Bool) → Text → Bool
 first_meets test [] = false
 first_meets test (c ∷ rest) = test c
 
--- a text past its sign, where it has one
+-- a text without its sign, if it has one
 abbrev pub past_sign : Text → Text
 past_sign [] = []
 past_sign (c ∷ rest) = if is_plus_or_minus c then rest else c ∷ rest
 
--- a text begins with `-`
+-- true if a text begins with `-`
 abbrev pub is_negative : Text → Bool
 is_negative text = first_meets (λ c. c == 0x2D) text
 
@@ -99,11 +99,11 @@ is_negative text = first_meets (λ c. c == 0x2D) text
 abbrev pub signed : (negative : Bool) → ℕ → ℤ
 signed negative number = if negative then neg_ℤ (pos number) else pos number
 
--- digits in a base, one or more
+-- true of digits in a base, one or more
 abbrev pub are_digits : ℕ → Text → Bool
 are_digits base text = not (length text == 0) && list_all (λ c. is_digit c base) text
 
--- between `least` and `most` decimal digits
+-- true of `least` to `most` decimal digits
 abbrev pub counted_digits : ℕ → ℕ → Text → Bool
 counted_digits least most text = is_between least most (length text) && list_all is_decimal text
 
@@ -114,7 +114,7 @@ decimal_of_digits negative whole fraction =
     then Some (record { digits = signed negative (digits_value 10 (whole ++ fraction)); exponent = neg_ℤ (pos (length fraction)) })
     else None
 
--- digits after a sign or none
+-- the value of digits after a sign or none
 abbrev pub exponent_read : Text → Option ℤ
 exponent_read text =
     if are_digits 10 (past_sign text) then Some (signed (is_negative text) (digits_value 10 (past_sign text))) else None
@@ -124,7 +124,7 @@ abbrev pub times_power_of_ten : Option Decimal → Option ℤ → Option Resolve
 times_power_of_ten (Some decimal) (Some exponent) = Some (meant_decimal (record { digits = decimal.digits; exponent = decimal.exponent +ℤ exponent }))
 times_power_of_ten _ _ = None
 
--- a number by what stands before and after its `e`
+-- a number by its parts before and after `e`
 abbrev pub scientific : (mantissa : Text → Option Decimal) → (exponent : Text → Option ℤ) → List Text → Option Resolved
 scientific mantissa exponent (m ∷ []) = times_power_of_ten (mantissa m) (Some (pos 0))
 scientific mantissa exponent (m ∷ e ∷ []) = times_power_of_ten (mantissa m) (exponent e)

@@ -1,4 +1,4 @@
--- The core schema of YAML 1.2 (section 10.3.2 of its text): what a plain scalar without a tag means there.
+-- The core schema of YAML 1.2 (section 10.3.2 of its text): the meaning of a plain scalar without a tag.
 use Rattle.std.specs.Prelude.{ℕ, pos, Bool, Option, None, List, [], ◌∷◌, ◌==◌, ◌&&◌}
 use Rattle.std.specs.List.{slice_split}
 use Rattle.std.specs.Str.Parse.{digits_value}
@@ -30,7 +30,7 @@ core_decimal text =
     scientific (λ mantissa. core_mantissa (is_negative text) (slice_split is_point mantissa)) exponent_read
     (slice_split is_exponent_letter (past_sign text))
 
--- what a scalar means by the core schema
+-- the meaning of a scalar by the core schema
 abbrev pub resolved_by_core : Text → Resolved
 resolved_by_core text =
     first_reading (

@@ -1,5 +1,5 @@
--- The type repository of YAML 1.1 (yaml.org/type: null, bool, int, float, timestamp, merge, value): what a plain scalar
--- without a tag means by it.
+-- The type repository of YAML 1.1 (yaml.org/type: null, bool, int, float, timestamp, merge, value): the meaning of a plain scalar without
+-- a tag.
 use Rattle.std.specs.Prelude.{ℕ, pos, ℤ, neg_ℤ, Bool, false, Option, None, List, [], ◌∷◌, ◌++◌, ◌==◌, ◌||◌, ◌&&◌, ◌+◌, ◌*◌, ◌^◌, not, nat_le, length, drop}
 use Rattle.std.specs.Prelude.{fold, codes, if◌then◌else◌}
 use Rattle.std.specs.List.{list_all, slice_split, filter, concat, prefix_len, take_while}
@@ -14,7 +14,7 @@ use Rattle.yaml_base.specs.values.Resolved.{counted_digits, decimal_of_digits, e
 
 -- ---- integers
 
--- digits may be grouped by underscores
+-- true of the underscore, which may group digits
 abbrev pub is_underscore : ℕ → Bool
 is_underscore c = c == 0x5F
 
@@ -22,19 +22,19 @@ is_underscore c = c == 0x5F
 abbrev pub ungrouped : Text → Text
 ungrouped text = filter (λ c. not (is_underscore c)) text
 
--- digits in a base, and underscores
+-- true of digits in a base, and underscores
 abbrev pub are_grouped : ℕ → Text → Bool
 are_grouped base text = list_all (λ c. is_digit c base || is_underscore c) text
 
--- decimal digits and underscores, the first of which is a digit that passes a test
+-- true of decimal digits and underscores, the first of which is a digit that passes a test
 abbrev pub begins_grouped : (ℕ → Bool) → Text → Bool
 begins_grouped test text = first_meets test text && are_grouped 10 text
 
--- a decimal digit that isn't 0
+-- true of a decimal digit that isn't 0
 abbrev pub is_leading : ℕ → Bool
 is_leading c = is_decimal c && not (c == 0x30)
 
--- an integer of these digits; where there is none, underscores alone, it is meant by nobody
+-- an integer of these digits; if there are underscores alone, it is meant by nobody
 abbrev pub integer_of_digits : (negative : Bool) → ℕ → Text → Resolved
 integer_of_digits negative base digits =
     if length digits == 0 then meant_by_nobody else meant_integer (signed negative (digits_value base digits))
@@ -58,7 +58,7 @@ decimal_11 negative text =
 
 -- ---- numbers to the base of sixty
 
--- one digit, or two of which the first is at most 5
+-- true of one digit, and of two of which the first is at most 5
 abbrev pub is_sixtieth : Text → Bool
 is_sixtieth text = counted_digits 1 2 text && nat_le (digits_value 10 text) 59
 
@@ -66,12 +66,12 @@ is_sixtieth text = counted_digits 1 2 text && nat_le (digits_value 10 text) 59
 abbrev pub sexagesimal : List Text → ℕ
 sexagesimal groups = fold (λ total group. total * 60 + digits_value 10 (ungrouped group)) 0 groups
 
--- two groups or more, the first of which begins with a digit that passes a test
+-- true of two groups or more, the first of which begins with a digit that passes a test
 abbrev pub are_sixtieths : (ℕ → Bool) → List Text → Bool
 are_sixtieths test (first ∷ second ∷ rest) = begins_grouped test first && list_all is_sixtieth (second ∷ rest)
 are_sixtieths test _ = false
 
--- the sign between groups
+-- true of the sign between groups
 abbrev pub is_colon : ℕ → Bool
 is_colon c = c == 0x3A
 
@@ -93,7 +93,7 @@ fine_sixties_11 negative _ = None
 
 -- ---- floats
 
--- digits with one point; where one stands before it, underscores may
+-- the value of digits with one point; if digits precede it, there may be underscores
 abbrev pub mantissa_11 : (negative : Bool) → List Text → Option Decimal
 mantissa_11 negative ([] ∷ fraction ∷ []) = decimal_of_digits negative [] fraction
 mantissa_11 negative (whole ∷ fraction ∷ []) =
@@ -109,7 +109,7 @@ abbrev pub float_11 : (negative : Bool) → Text → Option Resolved
 float_11 negative text =
     scientific (λ mantissa. mantissa_11 negative (slice_split is_point mantissa)) exponent_11 (slice_split is_exponent_letter text)
 
--- digits with two points or more
+-- true of digits with two points or more
 abbrev pub has_more_points : List Text → Bool
 has_more_points (whole ∷ first ∷ second ∷ rest) =
     (length whole == 0 || begins_grouped is_decimal whole)
@@ -123,69 +123,69 @@ more_points_11 (mantissa ∷ exponent ∷ []) =
     some_if (has_more_points (slice_split is_point mantissa) && first_meets is_plus_or_minus exponent && are_digits 10 (past_sign exponent)) meant_by_nobody
 more_points_11 _ = None
 
--- nor are points alone
+-- points alone are meant by nobody, too
 abbrev pub points_11 : Text → Option Resolved
 points_11 text = some_if (first_meets is_point text && list_all is_point text) meant_by_nobody
 
 -- ---- timestamps
 
--- what stands after the longest prefix whose characters pass a test
+-- the text after the longest prefix whose characters pass a test
 abbrev pub past : (ℕ → Bool) → Text → Text
 past test text = drop (prefix_len test text) text
 
--- the sign between a date's parts
+-- true of the sign between a date's parts
 abbrev pub is_hyphen : ℕ → Bool
 is_hyphen c = c == 0x2D
 
--- a year, a month and a day, of so many digits at least
+-- true of a year, a month and a day; month and day have at least so many digits
 abbrev pub is_date : ℕ → List Text → Bool
 is_date least (year ∷ month ∷ day ∷ []) = counted_digits 4 4 year && counted_digits least 2 month && counted_digits least 2 day
 is_date least _ = false
 
--- seconds, and decimals of them after a point or none
+-- true of seconds, and decimals of them after a point or none
 abbrev pub are_seconds : List Text → Bool
 are_seconds (seconds ∷ []) = counted_digits 2 2 seconds
 are_seconds (seconds ∷ decimals ∷ []) = counted_digits 2 2 seconds && list_all is_decimal decimals
 are_seconds _ = false
 
--- hours, minutes and seconds
+-- true of hours, minutes and seconds
 abbrev pub is_clock : List Text → Bool
 is_clock (hours ∷ minutes ∷ seconds ∷ []) =
     counted_digits 1 2 hours && counted_digits 2 2 minutes && are_seconds (slice_split is_point seconds)
 is_clock _ = false
 
--- hours, and minutes or none
+-- true of hours, and minutes or none
 abbrev pub is_offset : List Text → Bool
 is_offset (hours ∷ []) = counted_digits 1 2 hours
 is_offset (hours ∷ minutes ∷ []) = counted_digits 1 2 hours && counted_digits 2 2 minutes
 is_offset _ = false
 
--- `Z`, or a sign and an offset
+-- true of `Z`, and of a sign and an offset
 abbrev pub is_zone : Text → Bool
 is_zone [] = false
 is_zone (c ∷ rest) = (c == 0x5A && length rest == 0) || (is_plus_or_minus c && is_offset (slice_split is_colon rest))
 
--- may stand in a time of day
+-- true of a character of a time of day
 abbrev pub in_clock : ℕ → Bool
 in_clock c = is_decimal c || is_colon c || is_point c
 
--- a time of day, and a zone after it or none
+-- true of a time of day, and a zone after it or none
 abbrev pub is_time : Text → Bool
 is_time text =
     let rest = past in_clock text in
     is_clock (slice_split is_colon (take_while in_clock text)) && (length rest == 0 || is_zone (past is_blank rest))
 
--- `T`, `t` or blanks, and then a time
+-- true of `T`, `t` or blanks, and then a time
 abbrev pub is_time_after_date : Text → Bool
 is_time_after_date [] = false
 is_time_after_date (c ∷ rest) =
     ((c == 0x54 || c == 0x74) && is_time rest) || (is_blank c && is_time (past is_blank rest))
 
--- may stand in a date
+-- true of a character of a date
 abbrev pub in_date : ℕ → Bool
 in_date c = is_decimal c || is_hyphen c
 
--- a date alone, or one with a time of day
+-- a timestamp: a date alone, or one with a time of day
 abbrev pub timestamp_11 : Text → Option Resolved
 timestamp_11 text =
     let date = slice_split is_hyphen (take_while in_date text) in
@@ -194,7 +194,7 @@ timestamp_11 text =
 
 -- ---- all
 
--- what a number without its sign means
+-- the readings of a number without its sign
 abbrev pub numbers_11 : (negative : Bool) → Text → List (Option Resolved)
 numbers_11 negative text =
     float_11 negative text
@@ -208,7 +208,7 @@ numbers_11 negative text =
     ∷ points_11 text
     ∷ []
 
--- what a scalar means by the type repository
+-- the meaning of a scalar by the type repository
 abbrev pub resolved_by_11 : Text → Resolved
 resolved_by_11 text =
     first_reading (named words_of_11 text ∷ timestamp_11 text ∷ numbers_11 (is_negative text) (past_sign text))

@@ -1,5 +1,5 @@
--- Typed values, and the YAML that stands for them: the tags of YAML's type repository for null, bool, int, str, seq
--- and map (https://yaml.org/type/), each value a tree without anchors.
+-- Typed values, and their YAML: the tags of YAML's type repository for null, bool, int, str, seq and map (https://yaml.org/type/), each
+-- value a tree without anchors.
 use Rattle.std.specs.Prelude.{◌≡◌, ℕ, suc, ℤ, pos, negsuc, ◌+◌, ◌^◌, ◌<◌, Bool, true, false, None, Some, List, [], ◌∷◌, codes, max}
 use Rattle.std.specs.Fmt.{signed_decimal}
 use Rattle.std.specs.Int.Signed.{mag}
@@ -50,13 +50,13 @@ abbrev pub bool_text : Bool → Text
 bool_text true = codes "true"
 bool_text false = codes "false"
 
--- ---- what a value says
+-- ---- the content of a value
 
 -- a scalar with a tag and without an anchor
 abbrev pub tagged_content : (tag text : Text) → Content
 tagged_content tag text = scalar_content None (tagged tag) text
 
--- the content of a value: each node has its kind's tag, integers stand in decimal digits
+-- the content of a value: each node has its kind's tag, integers are decimal digits
 abbrev mutual
   pub value_content : TypedValue → Content
   value_content null_value = tagged_content null_tag (codes "null")
@@ -79,11 +79,11 @@ abbrev mutual
 abbrev pub typed_content : TypedValue → List DocumentContent
 typed_content value = record { version = None; directives = []; root = value_content value } ∷ []
 
--- the canonical reader finds exactly this value's content in some bytes
+-- the canonical reader finds in some bytes exactly this value's content
 abbrev pub ReadsAs : List ℕ → TypedValue → Type 0
 ReadsAs bytes value = canonical_content false bytes ≡ Some (typed_content value)
 
--- ---- how large a value is
+-- ---- the size of a value
 
 -- the number of values in a value, itself included
 abbrev mutual
@@ -100,7 +100,7 @@ abbrev mutual
   value_pairs_count no_value_pairs = 0
   value_pairs_count (value_pairs_and pairs key value) = value_pairs_count pairs + (value_count key + value_count value)
 
--- how many lists and maps lie within one another
+-- the depth of lists and maps within one another
 abbrev mutual
   pub nesting : TypedValue → ℕ
   nesting (list_value items) = suc (values_nesting items)
@@ -119,7 +119,7 @@ abbrev mutual
 abbrev pub most_nested : ℕ
 most_nested = 1000
 
--- each integer of a value has 64 bits, its sign included, as every integer of a running program
+-- each integer of a value fits 64 bits with its sign, as every integer of a running program does
 abbrev mutual
   pub Has64Bits : TypedValue → Type 0
   Has64Bits (int_value n) = mag n < 2 ^ 63
@@ -206,7 +206,7 @@ typed_output value = output_of typed_settings (value_events value)
 
 -- ---- values and their bytes
 
--- bytes that stand for this value and for no other
+-- bytes are those of this value, and of no other
 pub record WritesValue (value : TypedValue) (output : List ℕ) : Type 0 where
   pub bits : Has64Bits value
   pub bytes : output ≡ typed_output value

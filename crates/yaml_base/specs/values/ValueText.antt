@@ -19,7 +19,7 @@ scalar_text kind text = codes "!!" ++ (kind ++ space ∷ in_quotes text)
 abbrev pub line_at : ℕ → Text
 line_at column = line_feed ∷ replicate column space
 
--- a list without items, a map without pairs
+-- true of a list without items, and below of a map without pairs
 abbrev pub has_no_values : TypedValues → Bool
 has_no_values no_values = true
 has_no_values (values_and items item) = false
@@ -28,17 +28,17 @@ abbrev pub has_no_value_pairs : TypedPairs → Bool
 has_no_value_pairs no_value_pairs = true
 has_no_value_pairs (value_pairs_and pairs key value) = false
 
--- a bracket stands before the first entry, a comma before each other
+-- a bracket before the first entry, a comma before each other
 abbrev pub entry_lead : Text → (first : Bool) → Text
 entry_lead bracket true = space ∷ bracket
 entry_lead bracket false = codes ","
 
--- the end of a list or a map: a comma and a line of its own for the bracket, where something stands between
+-- the end of a list or a map: a comma and a line of its own for the bracket, unless it is empty
 abbrev pub entries_end : (opens closes : Text) → ℕ → (empty : Bool) → Text
 entries_end opens closes column true = space ∷ (opens ++ closes)
 entries_end opens closes column false = codes "," ++ (line_at column ++ closes)
 
--- a value in a list or a map whose entries stand at a column
+-- a value in a list or a map whose entries are at a column
 abbrev mutual
   pub value_text : ℕ → TypedValue → Text
   value_text column null_value = scalar_text (codes "null") (codes "null")

@@ -2,7 +2,7 @@ use Rattle.yaml_base.proofs.Common.{ℕ, ◌-◌, List, ◌++◌, ◌≡◌, len
 use Rattle.std.proofs.{Common.drop, Common.take-append-drop, KnownBytes.Appends-trans, lemmas.List.take_rest}
 use Rattle.yaml_base.proofs.sinks.write_to_sink.Goals as goal
 
--- the first of what is left was given, too
+-- the first bytes of the rest were given, too
 moves_on : (done rest all : List ℕ) (count : ℕ) → done ++ rest ≡ all → (done ++ take count rest) ++ take (length rest - count) (drop count rest) ≡ all
 moves_on done rest all count parts =
     ap (λ left. (done ++ take count rest) ++ left) (take_rest rest count) ∙ append_assoc done (take count rest) (drop count rest)
