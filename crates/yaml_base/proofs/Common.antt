@@ -19,7 +19,7 @@ pub use Rattle.std.specs.Prelude.{◌∷◌, ◌≡◌, ◌≤◌, ◌⊎◌, if
 pub use Rattle.std.specs.Prelude.{option_and_then, bytes_eq, fold, count_by}
 pub use lib.Utf8.{scalar_cases, scalars}
 pub use Rattle.yaml_base.specs.{Encoding.encode, Encoding.cut, Indicators.version_1_1, Indicators.version_1_2, Places.most_key_bytes, TidyBodies.BodyIsTidy}
-pub use Rattle.yaml_base.specs.{Words.is_word, Words.named, WrittenTexts.BodiesAreTidy, graphs.Dumped.AreDumped, graphs.Isomorphic.label_at, scalars.Plain.runs}
+pub use Rattle.yaml_base.specs.{Words.is_word, Words.named, WrittenTexts.BodiesAreTidy, graphs.Dumped.IsDumpOf, graphs.Isomorphic.label_at, scalars.Plain.runs}
 pub use Rattle.yaml_base.specs.{graphs.Isomorphic.Isomorphic, graphs.SeenNodes.numbers_of_pairs, graphs.SeenNodes.all_numbers, graphs.SeenNodes.first_outside}
 pub use Rattle.yaml_base.specs.{reading.ReadBytes.characters_read, reading.ReadFolding.FoldUnit, reading.ReadFolding.unit_of, reading.ReadFolding.folding_read}
 pub use Rattle.yaml_base.specs.{reading.ReadPercent.is_uri_character, reading.ReadPercent.percent_read, reading.ReadSingle.unquoted, scalars.Lines.parts}

@@ -2,7 +2,7 @@
 -- of such documents.
 use Rattle.yaml_base.proofs.Common.{arith, All, option_map, Option, None, Some, Bool, false, true, List, [], ◌++◌, ◌∷◌, refl, ◌≡◌, append-nil, append_assoc, ap}
 use Rattle.yaml_base.proofs.Common.{sym, ◌∙◌, All-head, All-tail, Text, Event, stream_start, stream_end, Node, alias_node, scalar_node, Nodes, sequence_node}
-use Rattle.yaml_base.proofs.Common.{Pairs, mapping_node, no_nodes, nodes_and, no_pairs, pairs_and, Documents, no_documents, documents_and, Stream, AreDumped}
+use Rattle.yaml_base.proofs.Common.{Pairs, mapping_node, no_nodes, nodes_and, no_pairs, pairs_and, Documents, no_documents, documents_and, Stream, IsDumpOf}
 use Rattle.yaml_base.proofs.Common.{documents_events, stream_events, Held, GraphNode, Graph, document_event_list, scalar_kind, sequence_kind, mapping_kind}
 use Rattle.yaml_base.proofs.Common.{Label, node_shape_of, nodes_shapes, pairs_shapes, Placed, alias_placed, PlacedNodes, node_placed, none_placed, placed_and}
 use Rattle.yaml_base.proofs.Common.{label_of, HasShape, HaveShapes, TreeUnfolds, ContentUnfolds, IsWholeGraph, DocumentContent, node_content, nat_tests}
@@ -117,7 +117,7 @@ pub record DumpedStream (graphs : List Graph) (events : List Event) : Type 0 whe
   pub content : content_of events ≡ Some contents
   pub unfolds : ContentsUnfold graphs contents
 
-pub dumped_stream : (graphs : List Graph) (events : List Event) → AreDumped graphs events → DumpedStream graphs events
+pub dumped_stream : (graphs : List Graph) (events : List Event) → IsDumpOf graphs events → DumpedStream graphs events
 dumped_stream graphs events dumped =
     let documents = follow graphs no_documents dumped.documents in
     let stream : Stream = record { encoding = dumped.encoding; documents = documents.all } in

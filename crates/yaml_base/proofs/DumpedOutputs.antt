@@ -5,7 +5,7 @@ use Rattle.yaml_base.proofs.Common.{render_node, document_end_piece, stream_end_
 use Rattle.yaml_base.proofs.Common.{bytes_written, output_of, Encoding, Event, stream_start, stream_end, DocumentStart, Document, Documents, Stream}
 use Rattle.yaml_base.{specs.Settings.largest_usize, specs.values.TypedValues.typed_settings, proofs.DocumentsUnfold.document_unfolds}
 use Rattle.yaml_base.{proofs.DumpedTexts.node_writes, proofs.Trees.one_tree, proofs.Trees.tree_of-stream_events}
-use Rattle.yaml_base.proofs.Common.{documents_and, no_documents, stream_events, Node, Graph, document_event_list, AreDumped, IsWholeGraph, All-head, arith}
+use Rattle.yaml_base.proofs.Common.{documents_and, no_documents, stream_events, Node, Graph, document_event_list, IsDumpOf, IsWholeGraph, All-head, arith}
 use Rattle.yaml_base.specs.graphs.DumpedText.{HasDumpedText, HaveText, IsBareDocument, dumped_text, node_text}
 use Rattle.yaml_base.proofs.DumpedLeaves.{Writes, force, s}
 
@@ -77,7 +77,7 @@ text_output encoding events text has bare =
     ∙ ap (λ t. cut largest_usize (encode (Some utf8) t)) (sym has.is_text)
 
 -- a dump of such a document has a text, of which its output is the encoding
-pub dump_output : (graph : Graph) (events : List Event) → AreDumped (graph ∷ []) events → IsBareDocument graph.start graph.end_implicit
+pub dump_output : (graph : Graph) (events : List Event) → IsDumpOf (graph ∷ []) events → IsBareDocument graph.start graph.end_implicit
     → (text : Text) × HasDumpedText graph text × (output_of typed_settings events ≡ cut largest_usize (encode (Some utf8) text))
 dump_output graph events dumped bare =
     let unfolded = document_unfolds graph (All-head IsWholeGraph graph [] dumped.documents) in

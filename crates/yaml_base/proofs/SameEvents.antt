@@ -1,7 +1,7 @@
 -- Isomorphic graphs are dumped as events that differ in styles alone, so in canonical mode as the same bytes.
 use Rattle.yaml_base.proofs.Common.{All, unwrap_or, option_map, bytes_eq, Option, None, Some, false, true, List, [], map, ◌++◌, ◌∷◌, refl, ◌≡◌, inl, inr, ap}
 use Rattle.yaml_base.proofs.Common.{sym, ◌∙◌, arith, map-append, All-head, All-tail, Text, any_style, any_layout, Event, stream_start, stream_end, alias}
-use Rattle.yaml_base.proofs.Common.{scalar, sequence_start, sequence_end, mapping_start, mapping_end, encoding_asked, output_of, Encoding, Settings, AreDumped}
+use Rattle.yaml_base.proofs.Common.{scalar, sequence_start, sequence_end, mapping_start, mapping_end, encoding_asked, output_of, Encoding, Settings, IsDumpOf}
 use Rattle.yaml_base.proofs.Common.{label_at, Isomorphic, Held, GraphNode, Graph, Step, enters, leaves, meets_again, anchor_of, string_tag, sequence_tag}
 use Rattle.yaml_base.proofs.Common.{mapping_tag, opening_event_of, opening_events, closing_event_of, closing_events, step_events, document_event_list}
 use Rattle.yaml_base.{proofs.ContentsUnfold.dumped_stream, proofs.Unstyled.unstyled, proofs.Unstyled.outputs_same, specs.graphs.Meetings.graph_steps}
@@ -108,13 +108,13 @@ documents_alike (first ∷ firsts) (second ∷ seconds) are also alike =
 
 -- ---- streams
 
-stream_is : (graphs : List Graph) (events : List Event) (dumped : AreDumped graphs events)
+stream_is : (graphs : List Graph) (events : List Event) (dumped : IsDumpOf graphs events)
     → map unstyled events ≡ stream_start dumped.encoding ∷ (map unstyled (flat_map document_event_list graphs) ++ stream_end ∷ [])
 stream_is graphs events dumped = grind (arith, map-append)
 
 -- streams of documents that canonical mode writes alike
 pub same_canonical_output : (given : Settings) (firsts seconds : List Graph) (first second : List Event) → given.canonical ≡ true
-    → AreDumped firsts first → AreDumped seconds second → encoding_asked first ≡ encoding_asked second → AreWrittenAlike firsts seconds
+    → IsDumpOf firsts first → IsDumpOf seconds second → encoding_asked first ≡ encoding_asked second → AreWrittenAlike firsts seconds
     → output_of given first ≡ output_of given second
 same_canonical_output given firsts seconds first second canonical dumped also asked alike =
     let one = dumped_stream firsts first dumped in

@@ -10,7 +10,7 @@ use Rattle.yaml_base.specs.Grammar.{Stream, stream_events, tree_of}
 use Rattle.yaml_base.specs.reading.ReadPlain.{is_read_white, begins_white, begins_with_hash, read_plain}
 use Rattle.yaml_base.specs.Pieces.{list_layout}
 use Rattle.yaml_base.specs.Output.{settings_for, text_written, bytes_written, output_of}
-use Rattle.yaml_base.specs.graphs.Dumped.{AreDumped}
+use Rattle.yaml_base.specs.graphs.Dumped.{IsDumpOf}
 use Rattle.yaml_base.specs.graphs.DumpedText.{HasDumpedText, HaveText, IsBareDocument, dumped_text}
 use Rattle.yaml_base.specs.graphs.Meetings.{Graph}
 use Rattle.yaml_base.specs.values.TypedValues.{TypedValue, typed_settings, value_node}
@@ -72,7 +72,7 @@ pub record WritesDumpedText (graph : Graph) (events : List Event) : Type 0 where
 -- this is so of each graph in a stream of its own
 abbrev pub DumpsHaveTexts : Type 0
 DumpsHaveTexts =
-    (graph : Graph) (events : List Event) → AreDumped (graph ∷ []) events → IsBareDocument graph.start graph.end_implicit → WritesDumpedText graph events
+    (graph : Graph) (events : List Event) → IsDumpOf (graph ∷ []) events → IsBareDocument graph.start graph.end_implicit → WritesDumpedText graph events
 
 -- events have at most one such text
 abbrev pub OneTextEach : Type 0

@@ -8,7 +8,7 @@ use Rattle.yaml_base.specs.graphs.Meetings.{Graph, document_event_list}
 use Rattle.yaml_base.specs.graphs.Unfolding.{IsWholeGraph, ContentUnfolds}
 
 -- events are a dump of graphs: those of a stream of documents with these graphs, in order
-pub record AreDumped (graphs : List Graph) (events : List Event) : Type 0 where
+pub record IsDumpOf (graphs : List Graph) (events : List Event) : Type 0 where
   pub encoding : Option Encoding
   pub documents : All IsWholeGraph graphs
   pub parts : stream_start encoding ∷ (flat_map document_event_list graphs ++ stream_end ∷ []) ≡ events

@@ -51,14 +51,14 @@ abbrev pub character_text : Bool → ℕ → Text
 character_text unicode c = if needs_escape unicode c then escape_text c else c ∷ []
 
 -- true if there is a character and it is no space
-abbrev pub is_other : Option ℕ → Bool
-is_other None = false
-is_other (Some c) = not (is_space c)
+abbrev pub is_some_non_space : Option ℕ → Bool
+is_some_non_space None = false
+is_some_non_space (Some c) = not (is_space c)
 
 -- true if a space may be a fold: it is the first of a run, and neither the value's first character nor its last
 abbrev pub may_fold : (before : Option ℕ) → (rest : Text) → Bool
 may_fold before [] = false
-may_fold before (c ∷ rest) = is_other before
+may_fold before (c ∷ rest) = is_some_non_space before
 
 -- a backslash that keeps the space after a fold, if one follows (YAML 1.1, section 5.6 Escape Sequences, ns-esc-space)
 abbrev pub space_kept : Text → Text
