@@ -51,7 +51,7 @@ pub barred_whole : (charset : Charset) (whole found : Barred) (old : List ℕ) �
 barred_whole charset whole found old e h =
     sym (h ∙ ap (λ t. either found (barred_in charset t)) (ap chars (nil_from_length old e) ∙ chars-nil) ∙ either_none found)
 
--- What characters bar that are quiet: each passes the tests that look at it alone.
+-- The styles that quiet characters bar: each passes the tests of one character.
 record Quiet (charset : Charset) (c : ℕ) : Type 0 where
   pub special : is_special charset c ≡ false
   pub broken : is_break c ≡ false
@@ -74,13 +74,13 @@ gap_before : (spaced tabbed broken nul hash : Bool) → tabbed ≡ false → bro
 gap_before true tabbed broken nul hash e f g h = h
 gap_before false tabbed broken nul hash e f g h = rw (e, f, g)
 
--- nor any test that looks at what follows
+-- nor any test of a character and the rest
 quiet_bars : (charset : Charset) (c : ℕ) (rest : Text) → Quiet charset c → (is_space c && is_empty rest) ≡ false
     → (is_space c && begins_with (λ d. d == 35) rest) ≡ false → (is_space c && begins_with is_break rest) ≡ false
     → barred_by charset c rest ≡ none_barred
 quiet_bars charset c rest quiet ends hash breaks = grind (arith, no_colon, or_from, and_left, gap_before, same)
 
--- before another one it bars nothing; and before any it does so only where it is a space
+-- before another one it bars nothing; and before any it does so only if it is a space
 quiet_next : (charset : Charset) (c d : ℕ) (rest : Text) → Quiet charset c → Quiet charset d → barred_by charset c (d ∷ rest) ≡ none_barred
 quiet_next charset c d rest quiet next =
     quiet_bars charset c (d ∷ rest) quiet (and_right (is_space c) false refl) (and_right (is_space c) (d == 35) next.hash)
@@ -104,7 +104,7 @@ quiet_run charset (c ∷ d ∷ prefix) rest h =
     (quiet_next charset c d (prefix ++ rest) (quiet_parts charset c p.0) (quiet_parts charset d q.0))
     ∙ quiet_run charset (d ∷ prefix) rest p.1
 
--- What characters bar that no plain text in flow holds.
+-- The styles that the characters bar which no plain text in flow holds.
 each_member : (set : Text) (test : ℕ → Bool) (c : ℕ) → list_all test set ≡ true → is_among set c ≡ true → test c ≡ true
 each_member [] test c all is = cc
 each_member (k ∷ set) test c all is = by (c == k) refl (λ rest. each_member set test c (and_parts (test k) (list_all test set) all).1 rest)
@@ -177,7 +177,7 @@ pub indicator_seen : (charset : Charset) (found : Barred) (c : ℕ) (rest : Text
     → with_indicator found c rest ≡ either found (barred_by charset c rest)
 indicator_seen charset found c rest is = grind (arith, indicator_bars, same, or_none, or_last)
 
--- where all styles are barred only breaks matter
+-- if all styles are barred, only breaks matter
 pub all_barred : (found more : Barred) → found.flow_plain ≡ true → found.block_plain ≡ true → found.single_quoted ≡ true → found.block ≡ true
     → either found more ≡ record found { multiline = found.multiline || more.multiline }
 all_barred found more f p s k = grind (arith, same)

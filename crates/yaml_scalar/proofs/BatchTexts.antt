@@ -67,7 +67,7 @@ pub batched_plain : {unicode : Bool} {before last : ℕ} {text rest : Text} {byt
     → AreBatched unicode before text bytes last rest → list_all is_unbroken_ascii bytes ≡ true
 batched_plain {unicode} are = ap (list_all is_unbroken_ascii) are.bytes_are ∙ characters-plain unicode are.prefix are.all
 
--- two texts before what follows
+-- two texts before the rest
 then-joined : (xs ys : Text) (cursor : Cursor) (next : Cursor → Rendered)
     → render_then (render_text xs cursor) (λ d. render_then (render_text ys d) next) ≡ render_then (render_text (xs ++ ys) cursor) next
 then-joined xs ys cursor next = grind (arith, column_after-append, append_assoc)
@@ -91,7 +91,7 @@ batched_at unicode limit indent before (c ∷ prefix) rest cursor h =
     (batched_at unicode limit indent c prefix rest next p.1)
     ∙ then-joined text (characters_text unicode prefix) cursor (double_inside unicode limit indent (Some (last_from c prefix)) rest)
 
--- so what is still to be written is their texts, and what follows them
+-- so their texts and the rest are still to be written
 pub batched_still : (unicode : Bool) (limit : Option ℕ) (indent : ℕ) {whole : Cursor → Rendered} {before last : ℕ} {text rest : Text} {bytes : List ℕ}
     {start here : Page}
     → AreBatched unicode before text bytes last rest
@@ -105,7 +105,7 @@ batched_still unicode limit indent {whole} {before} {last} {text} {rest} {bytes}
     ∙ ap (λ l. render_then (render_text bytes here.cursor) (double_inside unicode limit indent (Some l) rest)) (sym are.last_is))
     still
 
--- what was batched is written, or the error returned
+-- the batch is written, or the error returned
 pub wrote_batch : {unicode : Bool} {before last : ℕ} {text : Text} {bytes rest : List ℕ} {old new : Page} {next : ℕ × Bor (List ℕ)}
     → AreBatched unicode before text bytes last (chars rest) → last ≡ next.0 → rest ≡ next.1.now → Wrote (render_text bytes) old new (Ok tt)
     → WroteBatch unicode before text old new (Ok next)
@@ -122,7 +122,7 @@ failed_batched {unicode} {before} {last} {text} {rest} {bytes} {old} {new} {erro
     (sym (p.1 ∙ ap (λ (e : yaml_error_t). let r : Result (ℕ × Bor (List ℕ)) yaml_error_t = Err e in r) p.2))
     (record { bytes = bytes; last = last; rest = rest; are = are; wrote = wrote; next = tt })
 
--- and what follows is still to be written
+-- and the rest is still to be written
 pub batched_left : (unicode : Bool) (limit : Option ℕ) (indent : ℕ) {whole : Cursor → Rendered} {before : ℕ} {text : Text} {next : ℕ × Bor (List ℕ)}
     {start here later : Page}
     → WroteBatch unicode before text here later (Ok next) → StillToWrite (double_inside unicode limit indent (Some before) text) whole start here

@@ -49,7 +49,7 @@ pub free_run : {classes : ℕ} {test : ℕ → Bool} {before : ℕ} {text : List
     → last ≡ last_from before (chars (take size text)) → IsRun test before text size last
 free_run tells is_text free last_is = record { boundary = run_boundary free; all = free_passes tells is_text free; last_is = last_is }
 
--- What the classes say of characters: of those of ASCII by computing.
+-- The meaning of the classes for characters: for those of ASCII by computing.
 pub ascii_tells : (classes : ℕ) (test : ℕ → Bool) → agree_below (λ b. not (is_free classes b) || test b) (λ b. true) 128 ≡ true
     → (c : ℕ) → c < 128 → list_all (is_free classes) (encode c) ≡ true → test c ≡ true
 ascii_tells classes test computed c low free =
@@ -158,7 +158,7 @@ whole_free {classes} {size} {text} is = elim (cases_lt size (length text)) [
       same ∙ sym (ap (list_all (is_free classes)) (sym (take_all size text whole)) ∙ is.all)
 ]
 
--- and its characters are those that pass a test, where a byte of ASCII is of no class exactly where it passes, and nothing past ASCII does
+-- and its characters pass a test exactly, if a byte of ASCII is of no class exactly if it passes, and no character beyond ASCII passes
 free_exactly : (classes : ℕ) (test : ℕ → Bool) → agree_below (is_free classes) test 128 ≡ true
     → agree_below (λ k. is_free classes (k + 192)) (λ k. false) 64 ≡ true
     → ((c : ℕ) → test c ≡ true → c < 128) → (c : ℕ) → scalar c ≡ true → list_all (is_free classes) (encode c) ≡ test c
@@ -185,7 +185,7 @@ free_characters classes test {text} computed none ascii is_text =
     ap (list_all (is_free classes)) (sym (encodes-chars text is_text))
     ∙ all_free classes test (free_exactly classes test computed none ascii) (chars text) (scalars-chars text is_text)
 
--- a test by what it says of ASCII and of what is past it
+-- a test by its results for ASCII and beyond
 pub tells_by : (classes : ℕ) (test : ℕ → Bool) → agree_below (λ b. not (is_free classes b) || test b) (λ b. true) 128 ≡ true
     → ((c : ℕ) → 128 ≤ c → scalar c ≡ true → list_all (is_free classes) (encode c) ≡ true → test c ≡ true) → ImpliesTest classes test
 tells_by classes test computed past c s free = elim (cases_lt c 128) [

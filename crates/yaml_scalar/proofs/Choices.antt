@@ -4,12 +4,12 @@ use Rattle.yaml_scalar.proofs.Common.{Allowances, allowances, ChosenStyle, chose
 use Rattle.yaml_base.proofs.Common.{ScalarStyle, any_style, plain, single_quoted, double_quoted, literal, folded, is_plain, quoted_style, fitting_style}
 use Rattle.yaml_scalar.{proofs.Barred.or_none, specs.Barred.all_styles, specs.ScalarData.ChooseAlike}
 
--- what a value allows is what its characters don't bar
+-- a value allows the styles that its characters don't bar
 pub allowed_whole : (charset : Charset) (value : Text) → allowances charset value ≡ allowed_by (barred_in charset value) value
 allowed_whole charset [] = refl
 allowed_whole charset (c ∷ rest) = refl
 
--- where nothing else fits double quotes do
+-- if nothing else fits, double quotes do
 none_fits : (allowed : Allowances) (plain_fits block_fits : Bool) (asked : ScalarStyle) → plain_fits ≡ false → allowed.single_quoted ≡ false
     → block_fits ≡ false → fitting_style allowed plain_fits block_fits asked ≡ double_quoted
 none_fits allowed plain_fits block_fits plain p s b =
@@ -46,7 +46,7 @@ barred_double : (found : Barred) (value : Text) → all_styles found ≡ true
     ≡ record { style = double_quoted; bare = not tag_written && not quoted_implicit && not (is_plain double_quoted) }
 barred_double found value all = grind (arith, and_parts, nothing_allowed, not_plain, not_either)
 
--- so breaks that follow don't matter, where any do
+-- so later breaks don't matter if any do
 pub alike : (found : Barred) (more : Bool) (value : Text) → (all_styles found ≡ false → more ≡ false)
     → ChooseAlike (allowed_by found value) (allowed_by (record found { multiline = found.multiline || more }) value)
 alike found more value none asked empty tag_written plain_implicit quoted_implicit flow simple_key canonical = go (all_styles found) refl

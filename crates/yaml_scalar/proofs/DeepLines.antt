@@ -1,4 +1,4 @@
--- Texts whose lines after the first stand at least so many spaces deep, and in which no space stands before a break: how they
+-- Texts whose lines after the first begin with at least `count` spaces, and in which no space precedes a break: how they
 -- are put together.
 use Rattle.yaml_scalar.proofs.Common.{suc, zero, ℕ, ◌≤◌, ◌==◌, replicate, Bool, false, not, true, [], ◌++◌, ◌∷◌, refl, ◌≡◌, eqb-true, ap, arith, ◌∙◌, ◌||◌, tab}
 use Rattle.yaml_scalar.proofs.Common.{◌&&◌, or_from, is_blank, and_from, or_left, or_right, false≢true, Text, space, is_read_break, begins_with_spaces}
@@ -58,7 +58,7 @@ module _ (breaks12 : Bool) where
   enough_spaces (suc count) zero text h = absurd (omega (arith, h))
   enough_spaces (suc count) (suc indent) text h = enough_spaces count indent text (omega (arith, h))
 
-  -- after a break: ink behind enough spaces, or another break
+  -- after a break: ink after enough spaces, or another break
   pub deep_indent : (count indent : ℕ) (text : Text) → count ≤ indent → BeginsInk breaks12 text
       → begins_with_deep_line breaks12 count (replicate indent space ++ text) ≡ true
   deep_indent count indent text enough h =
@@ -102,7 +102,7 @@ module _ (breaks12 : Bool) where
   even_ink count [] text h k = k
   even_ink count (c ∷ prefix) text h k = grind (arith, and_from, or_left, even_other, even_ink count prefix text h.1 k)
 
-  -- a space, where no break follows
+  -- a space, if no break follows
   pub even_space : (count : ℕ) (text : Text) → begins_with_break breaks12 text ≡ false → IsEven count text → IsEven count (space ∷ text)
   even_space count text h k = grind (arith, and_from, or_left, space_unbroken)
 

@@ -1,4 +1,4 @@
--- What stands between double quotes reads as the value, and its later lines are indented.
+-- The text between double quotes reads as the value, and its later lines are indented.
 use Rattle.yaml_scalar.proofs.Common.{suc, zero, ℕ, ◌+◌, ◌≤◌, if◌then◌else◌, ◌==◌, Option, None, Some, replicate, Bool, false, not, true, ◌&&◌, ◌||◌, List, []}
 use Rattle.yaml_scalar.proofs.Common.{◌++◌, ◌∷◌, ◌⊎◌, refl, ◌≡◌, eqb-true, lt-ltb, true≢false, append-nil, append_assoc, inl, inr, ap, subst, sym, ◌∙◌, arith}
 use Rattle.yaml_scalar.proofs.Common.{scalar, and_parts, and_right, or_left, or_right, nat_tests, all_scalars, breaks-round, rendered-append, indented-written}
@@ -16,7 +16,7 @@ use Rattle.yaml_scalar.proofs.{Unbroken.unbroken-rendered, Unbroken.unbroken-ind
 no-blank : (c : ℕ) → is_printable c ≡ true → is_space c ≡ false → is_blank c ≡ false
 no-blank c p s = grind (arith, nat_tests)
 
--- what is no break is none to a reader
+-- a character that is no break is none to a reader
 read-break-parts : (y a b c d e : Bool) → (a || b || c || d || e) ≡ false → (a || (not y && (d || e))) ≡ false
 read-break-parts y true b c d e h = cc
 read-break-parts y false true c d e h = cc
@@ -45,12 +45,12 @@ character-reads breaks12 unicode c rest h s = go (needs_escape unicode c) refl
     go true is = escape-reads breaks12 c rest h
     go false is = other-reads breaks12 unicode c rest is s
 
--- a space stands as itself
+-- a space is written as itself
 pub space-text : (unicode : Bool) → character_text unicode space ≡ space ∷ []
 space-text true = refl
 space-text false = refl
 
--- what a text between the quotes is seen as from its start, up to the closing quote
+-- the units of a text between the quotes, from its start up to the closing quote
 record SeenAs (breaks12 : Bool) (text tail : Text) (prefix : FoldState) : Type 0 where
   pub units : List FoldUnit
   pub are : quoted_from breaks12 between (text ++ quote ∷ tail) ≡ Some (record { units = units; rest = tail })
@@ -63,7 +63,7 @@ fold_state_at value = record { blanks = []; breaks = []; rest = value }
 seen-nothing : (breaks12 : Bool) (tail : Text) → SeenAs breaks12 [] tail (fold_state_at [])
 seen-nothing breaks12 tail = record { units = []; are = refl; prefix_is = refl }
 
--- one more unit before what is seen
+-- one more unit before them
 seen-more : (breaks12 : Bool) (written text tail : Text) (unit : FoldUnit) (prefix : FoldState)
     → ((rest : Text) → quoted_from breaks12 between (written ++ rest) ≡ with_unit unit (quoted_from breaks12 between rest))
     → SeenAs breaks12 text tail prefix → SeenAs breaks12 (written ++ text) tail (prepend_unit unit prefix)
@@ -102,16 +102,16 @@ blank-kept : (c : ℕ) (blanks breaks rest : Text) → breaks ≡ []
     ≡ c ∷ fold_state_text (record { blanks = blanks; breaks = breaks; rest = rest })
 blank-kept c blanks breaks rest e = rw e
 
--- a fold stands behind a character that is no space
+-- a fold follows a character that is no space
 pub may-fold-other : (before : Option ℕ) (rest : Text) → may_fold before rest ≡ true → is_other before ≡ true
 may-fold-other before [] h = cc
 may-fold-other before (c ∷ rest) h = h
 
--- behind such a character the column is past the indentation
+-- after such a character the column is past the indentation
 abbrev pub margin : Option ℕ → ℕ
 margin before = if is_other before then 1 else 0
 
--- a fold here breaks the line: the cursor is behind no indentation, or past its own
+-- a fold here breaks the line: the cursor isn't at an indentation, or is past its own
 abbrev pub Fits : (indent : ℕ) → (before : Option ℕ) → Cursor → Type 0
 Fits indent before cursor = (cursor.indention ≡ false) ⊎ (indent + margin before ≤ cursor.column)
 
@@ -120,7 +120,7 @@ pub fits-breaks : (indent : ℕ) (before : Option ℕ) (cursor : Cursor) → is_
 fits-breaks indent before cursor h (inl e) = rw e
 fits-breaks indent before cursor h (inr le) = grind (arith, or_left, or_right, lt-ltb)
 
--- what is rendered between the quotes for a value, after a character or at the start
+-- the text between the quotes for a value, after a character or at the start
 record Inside (breaks12 : Bool) (tail : Text) (before : Option ℕ) (value text : Text) : Type 0 where
   pub prefix : FoldState
   pub seen : SeenAs breaks12 text tail prefix
@@ -176,7 +176,7 @@ inside-space breaks12 tail before rest text ih = record {
   indented = ih.indented;
 }
 
--- what a fold's indentation leaves of a line
+-- the part of a line that a fold's indentation leaves
 fold-indented : (indent : ℕ) (rest : Text) → 2 ≤ indent → is_indented_text rest ≡ true
     → is_indented_text (line_feed ∷ (replicate indent space ++ rest)) ≡ true
 fold-indented zero rest h k = absurd (omega arith)
@@ -211,26 +211,26 @@ inside-fold breaks12 tail before indent rest text wide other ih =
           (fold-indented indent (kept ++ (text ++ quote ∷ [])) wide (unbroken-indented kept (text ++ quote ∷ []) no_kept ih.indented));
     })
 
--- a fold ends at its indentation, or behind the backslash
+-- a fold ends at its indentation, or after the backslash
 pub kept-column : (rest : Text) (column : ℕ) → column ≤ column_after (space_kept rest) column
 kept-column rest column = let e = unbroken-column (space_kept rest) column (kept-unbroken rest) in omega (arith, e)
 
 margin-small : (before : Option ℕ) → margin before ≤ 1
 margin-small before = grind (arith)
 
--- the cursor behind a character's text
+-- the cursor after a character's text
 pub fits-character : (unicode : Bool) (indent : ℕ) (before : Option ℕ) (c : ℕ) (cursor : Cursor) → Fits indent before cursor
     → Fits indent (Some c) (render_text (character_text unicode c) cursor).cursor
 fits-character unicode indent before c cursor (inl e) = inl e
 fits-character unicode indent before c cursor (inr le) = grind (arith, unbroken-column, character-unbroken, character-long, margin-small)
 
 module _ (breaks12 unicode : Bool) (limit : Option ℕ) (indent : ℕ) (wide : 2 ≤ indent) (tail : Text) where
-  -- what follows a character
+  -- the text after a character
   abbrev Follows : (c : ℕ) (rest : Text) → Type 0
   Follows c rest =
       (next : Cursor) → Fits indent (Some c) next → Inside breaks12 tail (Some c) rest (double_inside unicode limit indent (Some c) rest next).text
 
-  -- a character, rendered so, and what follows it
+  -- a character's text, and the text after it
   abbrev Goes : (before : Option ℕ) (rest : Text) → Rendered → ℕ → Type 0
   Goes before rest rendered c =
       Follows c rest → Inside breaks12 tail before (c ∷ rest) (render_then rendered (double_inside unicode limit indent (Some c) rest)).text
@@ -243,7 +243,7 @@ module _ (breaks12 unicode : Bool) (limit : Option ℕ) (indent : ℕ) (wide : 2
       → Goes before rest (render_text (character_text unicode space) cursor) space
   space-stays before rest cursor fits ih = grind (arith, fits-character, space-text, inside-space)
 
-  -- one character and what follows it
+  -- one character and the text after it
   step : (before : Option ℕ) (c : ℕ) (rest : Text) (cursor : Cursor) (folds spaced : Bool)
       → (is_space c && may_fold before rest && is_past_width limit cursor) ≡ folds → is_space c ≡ spaced
       → scalar c ≡ true → Fits indent before cursor
@@ -261,7 +261,7 @@ module _ (breaks12 unicode : Bool) (limit : Option ℕ) (indent : ℕ) (wide : 2
   step before c rest cursor false false is is_s h fits ih =
       inside-other breaks12 unicode tail before c rest _ h is_s (ih _ (fits-character unicode indent before c cursor fits))
 
-  -- all that stands between the quotes
+  -- the whole text between the quotes
   inside-reads : (value : Text) (before : Option ℕ) (cursor : Cursor) → all_scalars value ≡ true → Fits indent before cursor
       → Inside breaks12 tail before value (double_inside unicode limit indent before value cursor).text
   inside-reads [] before cursor h fits = inside-nothing breaks12 tail before
@@ -269,7 +269,7 @@ module _ (breaks12 unicode : Bool) (limit : Option ℕ) (indent : ℕ) (wide : 2
       let p : (scalar c ≡ true) × (all_scalars rest ≡ true) = and_parts _ _ h in
       step before c rest cursor _ (is_space c) refl refl p.0 fits (λ next. inside-reads rest (Some c) next p.1)
 
--- the cursor behind the opening quote
+-- the cursor after the opening quote
 abbrev pub quoted_cursor : Cursor → Cursor
 quoted_cursor cursor = (render_quote cursor).cursor
 
@@ -282,7 +282,7 @@ body-inside breaks12 unicode limit indent value cursor tail wide h =
 abbrev reading_before : (rest value : Text) → Option QuotedReading
 reading_before rest value = Some (record { value = value; rest = rest })
 
--- a body at the start of a text reads as the value, and what follows its closing quote is the rest
+-- a body at the start of a text reads as the value, and the text after its closing quote is the rest
 pub double-prefix : (breaks12 unicode : Bool) (limit : Option ℕ) (indent : ℕ) (value : Text) (cursor : Cursor) (rest : Text)
     → 2 ≤ indent → all_scalars value ≡ true
     → double_quoted_prefix breaks12 ((double_quoted_body unicode limit indent value cursor).text ++ rest)

@@ -1,4 +1,4 @@
--- What is escaped of ASCII, by the classes of bytes.
+-- The escaped characters of ASCII, by the classes of bytes.
 use Rattle.yaml_scalar.proofs.Common.{ℕ, ◌<◌, Bool, false, not, true, refl, ◌≡◌, agree_below_at, needs_escape, is_free}
 
 -- by computing

@@ -1,4 +1,4 @@
--- What is written for a character between double quotes reads as that character.
+-- The text of a character between double quotes reads as that character.
 use Rattle.yaml_scalar.proofs.Common.{suc, zero, ℕ, ◌%◌, ◌+◌, ◌/◌, ◌<◌, ◌≤◌, if◌then◌else◌, ◌==◌, Option, None, Some, nat_le, Bool, false, true, ◌&&◌, List}
 use Rattle.yaml_scalar.proofs.Common.{[], ◌++◌, ◌∷◌, refl, ◌≡◌, eqb-true, leb-true, append_assoc, ap, arith, scalar, and_parts, agree_below_at}
 use Rattle.yaml_scalar.proofs.Common.{Text, hex_digit, hex_digits, between, with_unit, quoted_from, itself, ShortEscape, short_escapes}
@@ -105,7 +105,7 @@ number-reads breaks12 c rest false false is_two is_four h =
     let s = scalar-number c h in
     digits-read breaks12 7 c rest (omega arith) s.0
 
--- what follows the backslash, where a letter is found or not
+-- the text after the backslash, whether a letter is found or not
 rest-reads : (breaks12 : Bool) (c : ℕ) (rest : Text) (found : Option ℕ) → letter_among short_escapes c ≡ found → scalar c ≡ true
     → quoted_from breaks12 after_backslash (escape_after_backslash found c ++ rest)
     ≡ with_unit (itself c) (quoted_from breaks12 between rest)

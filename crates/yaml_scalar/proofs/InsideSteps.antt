@@ -1,4 +1,4 @@
--- What stands between double quotes is written one character after another, and runs of those that stay whole.
+-- The text between double quotes is written one character after another, and runs of unescaped ones as a whole.
 use Rattle.yaml_scalar.proofs.Common.{ℕ, if◌then◌else◌, ◌==◌, chars, Option, None, Some, nat_lt, Bool, false, not, true, ◌&&◌, ◌||◌, List, [], ◌∷◌, refl, ◌≡◌}
 use Rattle.yaml_scalar.proofs.Common.{ap, ◌∙◌, arith, and_parts, and_from, not-false, not-true, nat_tests, list_all, Text, is_ascii, is_space, is_break}
 use Rattle.yaml_scalar.proofs.Common.{is_printable, Cursor, Rendered, render_then, next_column, render_text, is_past_width, quote, backslash, escape_text}
@@ -8,12 +8,12 @@ use Rattle.yaml_base.specs.declared.errors.yaml_error_t.{yaml_error_t}
 use Rattle.yaml_pen.proofs.StillToWrite.{StillToWrite}
 use Rattle.yaml_scalar.proofs.{RunsWritten.StandAlone, Unbroken.unescaped, WholeRuns.no_fold}
 
--- what is still to be written between the quotes: these bytes' characters, after a character or at the start
+-- the text still to be written between the quotes: these bytes' characters, after a character or at the start
 abbrev pub StillInside : (unicode : Bool) (limit : Option ℕ) (indent : ℕ) (value : Text) (before : Option ℕ) (bytes : List ℕ) (start here : Page) → Type 0
 StillInside unicode limit indent value before bytes start here =
     StillToWrite (double_inside unicode limit indent before (chars bytes)) (double_inside unicode limit indent None value) start here
 
--- what stays is neither escaped nor a fold, and no break
+-- a character that stays is neither escaped nor a fold, and no break
 stays_parts : (unicode : Bool) (limit : Option ℕ) (c : ℕ) → stays unicode limit c ≡ true
     → (needs_escape unicode c ≡ false) × ((is_space c && has_limit limit) ≡ false)
 stays_parts unicode limit c h = grind (arith, and_parts, not-true)
@@ -30,7 +30,7 @@ character_stays unicode limit indent before c rest cursor h =
     (no_fold (λ l. is_past_width l cursor) refl (is_space c) (may_fold before rest) limit p.1)
     ∙ ap (λ (b : Bool). render_text (if b then escape_text c else c ∷ []) cursor) p.0
 
--- what follows a character between the quotes
+-- the text after a character between the quotes
 abbrev pub inside_after : (unicode : Bool) (limit : Option ℕ) (indent : ℕ) → ℕ → Text → Cursor → Rendered
 inside_after unicode limit indent before = double_inside unicode limit indent (Some before)
 
@@ -53,7 +53,7 @@ inside_stays unicode limit indent before (c ∷ run) cursor h =
     ap (λ (l : Rendered). render_then l (double_inside unicode limit indent (Some c) run)) (character_stays unicode limit indent before c run cursor p.0)
     ∙ ap (λ (l : Rendered). let m : Rendered = record { text = c ∷ l.text; cursor = l.cursor } in m) (inside_stays unicode limit indent (Some c) run next p.1)
 
--- what isn't escaped where ASCII alone is kept isn't where more is kept
+-- a character that isn't escaped with `unicode` off isn't with it on
 escaped_parts : (a b c d e : Bool) → (a || b || c || d || e) ≡ false → (b ≡ false) × ((a || false || c || d || e) ≡ false)
 escaped_parts true b c d e h = cc
 escaped_parts false true c d e h = cc

@@ -1,4 +1,4 @@
--- What one character of a line becomes, by its kind.
+-- The text of one character of a line, by its kind.
 use Rattle.yaml_scalar.proofs.Common.{ℕ, if◌then◌else◌, ◌==◌, Bool, false, not, true, ◌&&◌, ◌||◌, [], ◌++◌, ◌∷◌, refl, ◌≡◌, eqb-true, ap, sym, ◌∙◌, Text}
 use Rattle.yaml_scalar.proofs.Common.{line_feed, space, is_space, is_break, is_empty, Kind, spaces, breaks, others, kind_of, is_same_kind, indentation}
 use Rattle.yaml_scalar.proofs.Common.{begins_kind, step_text}
@@ -20,7 +20,7 @@ space_text written past folds indent before c rest kind is =
     ∙ ap (λ (d : ℕ). step_text written past indent before spaces d rest) (space_of_kind c kind)
     ∙ ap (λ (k : Kind). step_text written past indent before k c rest) kind
 
--- a break, with what stands before and behind it
+-- a break, with the text before and after it
 pub break_text : (written : Text → Text) (past doubled goes_on : Bool) (indent : ℕ) (before : Kind) (c : ℕ) (rest : Text) → breaks ≡ kind_of c
     → doubled ≡ (c == line_feed && not (is_same_kind before breaks)) → goes_on ≡ begins_kind breaks rest
     → ((if doubled then line_feed ∷ [] else []) ++ (c ∷ (if goes_on then [] else indentation indent)))

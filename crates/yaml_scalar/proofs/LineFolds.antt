@@ -8,13 +8,13 @@ use Rattle.yaml_scalar.proofs.Common.{breaks, others, kind_of, is_same_kind, ind
 use Rattle.yaml_base.specs.reading.ReadFolding.{run_read}
 use Rattle.yaml_scalar.proofs.LineTexts.{bare_steps}
 
--- what a reader takes a character of a kind for
+-- the unit that a reader finds in a character of a kind
 abbrev pub unit_of_kind : Kind → ℕ → FoldUnit
 unit_of_kind spaces c = literal_blank c
 unit_of_kind breaks c = literal_break c
 unit_of_kind others c = itself c
 
--- two characters differ where one is printable and the other isn't
+-- two characters differ if one is printable and the other isn't
 unlike_by : (c d : ℕ) (same : Bool) → (c == d) ≡ same → is_printable c ≡ true → is_printable d ≡ false → same ≡ false
 unlike_by c d false e p q = refl
 unlike_by c d true e p q = sym p ∙ (ap is_printable (eqb-true c d e) ∙ q)
@@ -37,7 +37,7 @@ same_unit c false is_tab false is_cr is_nel true is_ps false t r n s = simp (t, 
 same_unit c false is_tab false is_cr is_nel false true false t r n s = simp (t, r, n)
 same_unit c false is_tab false is_cr is_nel false false false t r n s = simp (t, r, n)
 
--- the reader takes a character that isn't special for what the writer takes it for
+-- the reader and the writer agree on the kind of a character that isn't special
 pub unit_by_kind :
     (charset : Charset) (c : ℕ) → is_special charset c ≡ false → unit_of charset.breaks12 c ≡ unit_of_kind (kind_of c) c
 unit_by_kind charset c clean = grind (arith, or_parts, not-false, same_unit, unlike)
@@ -60,13 +60,13 @@ indentation-rest :
 indentation-rest breaks12 zero text = refl
 indentation-rest breaks12 (suc n) text = indentation-rest breaks12 n text
 
--- no space stands beside a break: what may not follow a character of this kind
+-- true for a rest that may not follow a character of this kind, since no space is next to a break
 abbrev pub clashes : Kind → Text → Bool
 clashes spaces rest = begins_with is_break rest
 clashes breaks rest = begins_with is_space rest
 clashes others rest = false
 
--- what a fold state must be for a value after a character of this kind
+-- the condition on a fold state for a value after a character of this kind
 pub record AfterSpace (value : Text) (prefix : FoldState) : Type 0 where
   pub whole : fold_state_text prefix ≡ value
   pub no_breaks : begins_with is_break value ≡ false → prefix.breaks ≡ []
@@ -91,7 +91,7 @@ own_step spaces c rest prefix read = grind (arith)
 own_step breaks c rest prefix read = λ _. record { no_blanks = refl; whole = ap (λ (t : Text). c ∷ t) read }
 own_step others c rest prefix read = ap (λ (t : Text). c ∷ t) read
 
--- where no break stands first, a fold state's blanks and rest are what it reads as
+-- if no break comes first, a fold state reads as its blanks and its rest
 clear_read :
     (value : Text) (prefix : FoldState) → prefix.breaks ≡ [] → fold_state_text prefix ≡ value → prefix.blanks ++ prefix.rest ≡ value
 clear_read value prefix clear read =
@@ -113,7 +113,7 @@ space_step spaces rest prefix after clear = grind (arith, space_read)
 space_step breaks rest prefix after clear = λ e. cc
 space_step others rest prefix after clear = space_read rest prefix (after.no_breaks clear) after.whole
 
--- where no blank stands first either, its rest is
+-- if no blank comes first either, it reads as its rest
 bare_read : (value : Text) (prefix : FoldState) → prefix.breaks ≡ [] → prefix.blanks ≡ [] → fold_state_text prefix ≡ value → prefix.rest ≡ value
 bare_read value prefix clear none read =
     subst (λ (blanks : Text). blanks ++ prefix.rest ≡ value) none (clear_read value prefix clear read)
@@ -154,7 +154,7 @@ broken_read :
 broken_read c value more rest true e whole = ap (λ (t : Text). c ∷ t) whole
 broken_read c value more rest false e whole = rw (run_kept c more e) (ap (λ (t : Text). c ∷ t) whole)
 
--- LF is written twice where no break stands before it
+-- LF is written twice if no break precedes it
 break_step :
     (before : Kind) (c : ℕ) (value more rest : Text) →
     is_break c ≡ true →
@@ -195,17 +195,17 @@ same_as_space true b = refl
 same_as_space false true = refl
 same_as_space false false = refl
 
--- a text begins with a character of that kind where it begins with a space
+-- a text begins with a character of that kind exactly if it begins with a space
 begins_space : (rest : Text) → begins_kind spaces rest ≡ begins_with is_space rest
 begins_space [] = refl
 begins_space (c ∷ rest) = same_as_space (is_space c) (is_break c)
 
--- what a fold needs
+-- the conditions of a fold
 record Folds (before : Kind) (rest : Text) : Type 0 where
   other : is_same_kind before spaces ≡ false
   own : begins_with is_space rest ≡ false
 
--- a fold stands only there
+-- a fold is only there
 folds_where :
     (folds : Bool) (before : Kind) (rest : Text) →
     (folds && not (is_same_kind before spaces || (is_empty rest || begins_kind spaces rest))) ≡ true →

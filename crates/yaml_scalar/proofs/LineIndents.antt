@@ -18,11 +18,11 @@ others_only true b e = cc
 others_only false true e = cc
 others_only false false e = refl
 
--- a break and the line that begins behind it
+-- a break and the line that begins after it
 after_break : (c : ℕ) (text : Text) → begins_indented text ≡ true → is_indented_text text ≡ true → is_indented_text (c ∷ text) ≡ true
 after_break c text begins lines = and_from _ _ (or_right (not (is_break c)) _ begins) lines
 
--- indentation behind a break
+-- indentation after a break
 indented_line : (indent : ℕ) → 2 ≤ indent → (c : ℕ) (text : Text) → is_indented_text text ≡ true → is_indented_text (c ∷ (indentation indent ++ text)) ≡ true
 indented_line indent wide c text lines = grind (arith, after_break, indentation-begins, unbroken-indented, unbroken-replicate)
 

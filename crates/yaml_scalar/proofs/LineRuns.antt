@@ -7,25 +7,25 @@ use Rattle.yaml_base.specs.Cursor.{render_text}
 use Rattle.yaml_base.specs.scalars.Plain.{Kind, spaces, breaks, others, kind_of, is_same_kind, Run, cons_run, indentation, run_text, is_last}
 use Rattle.yaml_scalar.{proofs.Unbroken.is_unbroken, specs.LineSteps.begins_kind, specs.LineSteps.step_text, specs.LineSteps.render_steps}
 
--- texts are written character by character, and each but `'` stands for itself
+-- texts are written character by character, and each but `'` as itself
 pub record WritesEach (written : Text → Text) : Type 0 where
   pub nothing : written [] ≡ []
   pub kept : (c : ℕ) → (c == 39) ≡ false → written (c ∷ []) ≡ c ∷ []
   pub unbroken : (c : ℕ) → is_break c ≡ false → is_unbroken (written (c ∷ [])) ≡ true
   pub joined : (prefix rest : Text) → written (prefix ++ rest) ≡ written prefix ++ written rest
 
--- what is left of a run, after a character of its kind
+-- the rest of a run, after a character of its kind
 abbrev tail_text : (written : Text → Text) (indent : ℕ) → Kind → Text → Text
 tail_text written indent spaces text = text
 tail_text written indent breaks text = text ++ indentation indent
 tail_text written indent others text = written text
 
--- a run, or what is left of it
+-- a run, or the rest of one
 abbrev first_text : (written : Text → Text) (folds : Bool) (indent : ℕ) (same : Bool) → Kind → Text → Text
 first_text written folds indent true kind text = tail_text written indent kind text
 first_text written folds indent false kind text = run_text written folds indent kind text
 
--- runs, the first of which goes on where the character before is of its kind
+-- runs, the first of which goes on if the character before it is of its kind
 abbrev continued :
     (written : Text → Text) (limit : Option ℕ) (indent : ℕ) (before : Kind) → List Run → Cursor → Rendered
 continued written limit indent before [] cursor = render_nothing cursor
@@ -81,7 +81,7 @@ joined_text written w folds other indent spaces others c d rest run e = sym (w.j
 joined_text written w folds other indent breaks others c d rest run e = sym (w.joined (c ∷ []) (d ∷ run))
 joined_text written w folds other indent others others c d rest run e = sym (w.joined (c ∷ []) (d ∷ run))
 
--- a character joins the run after it where their kinds are equal
+-- a character joins the run after it if their kinds are equal
 joined_kinds :
     (written : Text → Text) → WritesEach written →
     (folds other : Bool) (indent : ℕ) (before kind next : Kind) (c d : ℕ) (rest run : Text) →
@@ -132,7 +132,7 @@ shape_of : (d : ℕ) (after : List Run) → Shape d after
 shape_of d [] = record { text = []; more = []; is = refl }
 shape_of d (first ∷ more) = shape_by d first more _ refl
 
--- a step and the runs behind it are the runs with its character
+-- a step and the runs after it are the runs with its character
 abbrev Agrees : (written : Text → Text) (limit : Option ℕ) (indent : ℕ) (before : Kind) (c : ℕ) (rest : Text) (after : List Run) (cursor : Cursor) → Type 0
 Agrees written limit indent before c rest after cursor =
     render_then
@@ -172,7 +172,7 @@ steps_continue written w limit indent before (c ∷ rest) cursor =
     (steps_continue written w limit indent (kind_of c) rest (render_text step cursor).cursor)
     ∙ agrees written w limit indent before c rest cursor
 
--- the start of a value counts as if a space stood before it
+-- the start of a value counts as if a space preceded it
 edge_continues :
     (written : Text → Text) (limit : Option ℕ) (indent : ℕ) (after : List Run) (cursor : Cursor) →
     continued written limit indent spaces after cursor ≡ render_runs written limit indent true after cursor

@@ -31,7 +31,7 @@ any_both test x y a b = list_any-append test x y ∙ simp (a, b)
 pub any_one : (test : ℕ → Bool) (c : ℕ) (rest : Text) → test c ≡ false → list_any test rest ≡ false → list_any test (c ∷ rest) ≡ false
 any_one test c rest a b = simp (a, b)
 
--- nor in indentation, where it doesn't hold of a space
+-- nor in indentation, if it fails for a space
 pub any_indentation : (test : ℕ → Bool) (indent : ℕ) → test space ≡ false → list_any test (indentation indent) ≡ false
 any_indentation test zero a = refl
 any_indentation test (suc n) a = any_one test space (indentation n) a (any_indentation test n a)

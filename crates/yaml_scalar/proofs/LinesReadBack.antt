@@ -1,4 +1,4 @@
--- What a writer of plain or single-quoted scalars wrote reads back.
+-- The text of a plain or single-quoted scalar reads back.
 use Rattle.yaml_scalar.proofs.Common.{ℕ, ◌≤◌, IfOk, Option, Some, Result, Err, Ok, negsuc, pos, ℤ, ◌≤ℤ◌, Bool, true, ◌++◌, ◌≡◌, ap, ◌∙◌, arith, ints, list_all}
 use Rattle.yaml_scalar.proofs.Common.{Text, is_space, Cursor, Rendered, render_then, render_text, space_if, with_breaks_written, with_line_breaks_read}
 use Rattle.yaml_scalar.proofs.Common.{is_indented_text, LineBreak, read_plain, read_single, Charset, allows_plain, allows_single_quoted, plain_body}

@@ -13,7 +13,7 @@ quote_text_by :
 quote_text_by c true e = rw (eqb-true c 39 e)
 quote_text_by c false e = refl
 
--- between quotes `'` stands behind another
+-- between quotes `'` follows another one
 pub quote_text :
     (quoted : Bool) (c : ℕ) (extra : Bool) → extra ≡ (quoted && c == 39) →
     (if extra then 39 ∷ [] else []) ++ (c ∷ []) ≡ written_as quoted (c ∷ [])
@@ -58,7 +58,7 @@ pub wrote_quoted :
 wrote_quoted quoted limit indent value {before} {after} {answer} e wrote =
     subst (λ (q : Bool). Wrote (render_runs (written_as q) limit indent true (runs value)) before after answer) e wrote
 
--- an opening quote behind the space that it needs
+-- an opening quote after the space that it needs
 opened : (column : ℕ) (whitespace indention : Bool) (next : Cursor → Rendered) →
     let cursor : Cursor = record { column = column; whitespace = whitespace; indention = indention } in
     render_then (indicator (39 ∷ []) true false false cursor) next ≡

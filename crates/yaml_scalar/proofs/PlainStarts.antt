@@ -1,4 +1,4 @@
--- Where plain lines begin as the value does, and hold no indicator that plain text may not hold.
+-- Plain lines begin as the value does, and hold no indicator that plain text may not hold.
 use Rattle.yaml_scalar.proofs.Common.{arith, suc, zero, ℕ, if◌then◌else◌, ◌==◌, Option, codes, Bool, false, not, true, ◌&&◌, ◌||◌, [], ◌++◌, ◌∷◌, refl, ◌≡◌}
 use Rattle.yaml_scalar.proofs.Common.{eqb-true, true≢false, ap, subst, sym, ◌∙◌, and-false, and-true, or_parts, or_from, Text, is_among, line_feed, space}
 use Rattle.yaml_scalar.proofs.Common.{is_space, is_break, Cursor, render_text, is_past_width, is_read_white, begins_no_plain, holds_no_plain, Charset}
@@ -8,7 +8,7 @@ use Rattle.yaml_base.proofs.Common.{begins_white, begins_with_three, begins_with
 use Rattle.std.proofs.Math.Bool.{and_assoc}
 use Rattle.yaml_scalar.proofs.{LineFolds.spaces_only, LineFolds.breaks_only, LineTexts.bare_steps}
 
--- what a reader takes for white space is a gap to a writer
+-- white space for a reader is a gap for a writer
 gap_by :
     (sp tab lf cr nel ls ps zero_indicator breaks12 : Bool) →
     ((sp || tab) || (lf || cr || nel || ls || ps) || zero_indicator) ≡ false →
@@ -24,7 +24,7 @@ gap_by false false false false true false true zero_indicator breaks12 e = cc
 gap_by false false false false false true ps zero_indicator breaks12 e = cc
 gap_by false false false false false false true zero_indicator breaks12 e = cc
 
--- what is no gap is no white space to a reader
+-- a character that is no gap is no white space for a reader
 pub white_is_gap : (breaks12 : Bool) (c : ℕ) → is_gap c ≡ false → is_read_white breaks12 c ≡ false
 white_is_gap breaks12 c e =
     gap_by (c == 32) (c == 9) (c == 10) (c == 13) (c == 0x85) (c == 0x2028) (c == 0x2029) (c == 0) breaks12 e
@@ -33,7 +33,7 @@ white_is_gap breaks12 c e =
 break_is_gap : (c : ℕ) → is_break c ≡ true → is_gap c ≡ false → false ≡ true
 break_is_gap c b e = grind (arith, or_parts)
 
--- a step begins white only where its character is a gap
+-- a step begins white only if its character is a gap
 step_white :
     (breaks12 folds : Bool) (indent : ℕ) (before kind : Kind) (c : ℕ) (rest text : Text) →
     kind_of c ≡ kind →
@@ -45,7 +45,7 @@ step_white breaks12 folds indent before breaks c rest text k e =
     absurd (true≢false (sym (break_is_gap c (breaks_only (is_space c) (is_break c) k) e)))
 step_white breaks12 folds indent before others c rest text k e = white_is_gap breaks12 c e
 
--- lines begin white only where the value begins with a gap
+-- lines begin white only if the value begins with a gap
 pub lines_white :
     (breaks12 : Bool) (written : Text → Text) (limit : Option ℕ) (indent : ℕ) (before : Kind) (rest : Text) (cursor : Cursor) →
     ends_word rest ≡ false →
@@ -54,7 +54,7 @@ lines_white breaks12 written limit indent before [] cursor e = cc
 lines_white breaks12 written limit indent before (c ∷ rest) cursor e =
     step_white breaks12 (is_past_width limit cursor) indent before (kind_of c) c rest _ refl e
 
--- a step begins with `#` only where its character is it
+-- a step begins with `#` only if its character is it
 hash_of_fold :
     (folds : Bool) (indent : ℕ) (text : Text) →
     begins_with_hash ((if folds then line_feed ∷ indentation indent else space ∷ []) ++ text) ≡ false
@@ -69,7 +69,7 @@ hash_of_break :
 hash_of_break true c more text e = refl
 hash_of_break false c more text e = e
 
--- a step begins with `#` only where its character is it
+-- a step begins with `#` only if its character is it
 step_hash :
     (folds : Bool) (indent : ℕ) (before kind : Kind) (c : ℕ) (rest text : Text) →
     kind_of c ≡ kind →
@@ -80,7 +80,7 @@ step_hash folds indent before breaks c rest text k e =
     hash_of_break (c == line_feed && not (is_same_kind before breaks)) c _ text e
 step_hash folds indent before others c rest text k e = e
 
--- lines begin with `#` only where the value does
+-- lines begin with `#` only if the value does
 pub lines_hash :
     (written : Text → Text) (limit : Option ℕ) (indent : ℕ) (before : Kind) (rest : Text) (cursor : Cursor) →
     begins_with (λ c. c == 35) rest ≡ false →
@@ -94,7 +94,7 @@ and_turns : (a b c d : Bool) → (a ≡ false → c ≡ false) → (b ≡ false 
 and_turns false b c d f g e = ap (λ (x : Bool). x && d) (f refl)
 and_turns true b c d f g e = ap (λ (x : Bool). c && x) (g e) ∙ and-false c
 
--- the indicators that no plain text holds, at a character that stands as itself
+-- the indicators that no plain text holds, at a character that is written as itself
 kept_holds :
     (breaks12 flow : Bool) (c : ℕ) (rest text : Text) →
     ((c == 58 && ends_word rest) || (is_gap c && begins_with (λ d. d == 35) rest)) ≡ false →
@@ -216,7 +216,7 @@ other_break : (marker c : ℕ) (same : Bool) → (c == marker) ≡ same → is_b
 other_break marker c false e m b = refl
 other_break marker c true e m b = sym b ∙ (ap is_break (eqb-true c marker e) ∙ m)
 
--- no indicator stands first in a space or fold
+-- no space or fold begins with an indicator
 fold_times :
     (marker : ℕ) → IsMarkerCharacter marker → (n : ℕ) (folds : Bool) (indent : ℕ) (text : Text) →
     begins_times (suc n) marker ((if folds then line_feed ∷ indentation indent else space ∷ []) ++ text) ≡ false
@@ -276,7 +276,7 @@ dots (a ∷ []) e = refl
 dots (a ∷ b ∷ []) e = refl
 dots (a ∷ b ∷ c ∷ rest) e = no_dots a b c (a == 46) refl e
 
--- lines begin with three indicators only where the value does
+-- lines begin with three indicators only if the value does
 lines_three :
     (marker : ℕ) → IsMarkerCharacter marker → (written : Text → Text) (limit : Option ℕ) (indent : ℕ) (before : Kind) (value : Text) (cursor : Cursor) →
     begins_with_three marker value ≡ false →
@@ -285,11 +285,11 @@ lines_three marker is_marker written limit indent before value cursor e =
     three_times marker (bare_steps written limit indent before value cursor)
     ∙ (times_kept marker is_marker 3 written limit indent before value cursor ∙ (sym (three_times marker value) ∙ e))
 
--- what is neither a space nor a break is another character
+-- a character that is neither a space nor a break is of the other kind
 kind_of_indicator : (s b : Bool) → s ≡ false → b ≡ false → (if s then spaces else if b then breaks else others) ≡ others
 kind_of_indicator s b e f = rw (e, f)
 
--- a value's lines begin with its first character, where that is neither a space nor a break
+-- a value's lines begin with its first character, if that is neither a space nor a break
 first_kept :
     (folds : Bool) (indent : ℕ) (before : Kind) (c : ℕ) (rest : Text) →
     is_space c ≡ false →

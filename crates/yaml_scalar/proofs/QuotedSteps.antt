@@ -20,7 +20,7 @@ pub double-steps : (unicode : Bool) (limit : Option ℕ) (indent : ℕ) (value :
     → double_steps unicode limit indent value cursor ≡ render_double_quoted unicode limit indent value cursor
 double-steps unicode limit indent value cursor = steps-at unicode limit indent value cursor.column cursor.whitespace cursor.indention
 
--- what was written reads back, and its later lines are indented
+-- the written text reads back, and its later lines are indented
 pub double_back : (breaks12 unicode : Bool) (limit : Option ℕ) (indent : ℕ) (value : Text) {before after : Page} (answer : Result (Unit {0}) yaml_error_t)
     → 2 ≤ indent → all_scalars value ≡ true
     → Wrote (render_double_quoted unicode limit indent value) before after answer

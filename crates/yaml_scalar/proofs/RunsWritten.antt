@@ -6,7 +6,7 @@ use Rattle.yaml_base.proofs.Common.{drop}
 use Rattle.yaml_base.specs.declared.errors.yaml_error_t.{yaml_error_t}
 use Rattle.yaml_pen.proofs.StillToWrite.{StillToWrite, still_rest, still_failed, still_same, still_as}
 
--- in a layout of what follows a character, those that pass a test stand for themselves, at each column
+-- in a layout of the text after a character, those that pass a test are written as themselves, at each column
 pub record StandAlone (after : ℕ → Text → Cursor → Rendered) (test : ℕ → Bool) (cursor : Cursor) : Type 0 where
   pub stands : (before c : ℕ) (rest : Text) (column : ℕ) → test c ≡ true
       → after before (c ∷ rest) (record cursor { column = column })
@@ -23,14 +23,14 @@ run_at {after} {test} {cursor} alone before (c ∷ run) rest column h =
     alone.stands before c (run ++ rest) column p.0
     ∙ ap (λ (l : Rendered). let m : Rendered = record { text = c ∷ l.text; cursor = l.cursor } in m) (run_at alone c run rest (next_column c column) p.1)
 
--- what is left begins with a character
+-- the rest begins with a character
 pub character_still : (layout : Text → Cursor → Rendered) {whole : Cursor → Rendered} (c : ℕ) (old new rest : List ℕ) {start here : Page}
     → IsUtf8 old → old ≡ encode_utf8 c ++ new → rest ≡ new → StillToWrite (layout (chars old)) whole start here
     → StillToWrite (layout (c ∷ chars rest)) whole start here
 character_still layout c old new rest is_text e same still =
     still_same layout (chars_past_char old rest c is_text (e ∙ ap (λ l. encode_utf8 c ++ l) (sym same))) still
 
--- in a layout of what follows a character, a run stands for itself at a cursor
+-- in a layout of the text after a character, a run is written as itself at a cursor
 pub record RunStands (after : ℕ → Text → Cursor → Rendered) (run : Text) (cursor : Cursor) : Type 0 where
   pub stands : (before : ℕ) (rest : Text) → after before (run ++ rest) cursor ≡ render_then (render_text run cursor) (after (last_from before run) rest)
 
@@ -42,7 +42,7 @@ each_stands {after} {test} {cursor} {before} {last} {size} {bytes} {run} alone i
       stands = λ before rest. run_at alone before (chars run) rest cursor.column (ap (λ l. list_all test (chars l)) prefix ∙ is.all);
     }
 
--- before a run it is the run, and what follows it
+-- before a run it is the run, and the text after it
 run_still : (after : ℕ → Text → Cursor → Rendered) {test : ℕ → Bool} {whole : Cursor
     → Rendered} {before last size : ℕ} {bytes run rest : List ℕ} {start here : Page}
     → RunStands after (chars run) here.cursor
@@ -57,7 +57,7 @@ run_still after {test} {whole} {before} {last} {size} {bytes} {run} {rest} {star
     ∙ ap (λ c. render_then (render_text (chars run) here.cursor) (after c (chars rest))) last_is)
     still
 
--- a run that stands for itself and was written leaves what follows it
+-- once a run that is written as itself was written, the text after it is left
 pub standing_more : (after : ℕ → Text → Cursor → Rendered) {test : ℕ → Bool} {whole : Cursor
     → Rendered} {before last size : ℕ} {bytes run rest : List ℕ} {start here later : Page}
     → RunStands after (chars run) here.cursor
@@ -79,7 +79,7 @@ pub standing_failed : (after : ℕ → Text → Cursor → Rendered) {test : ℕ
 standing_failed after {test} {whole} {before} {last} rest stands is_text is prefix behind still wrote =
     still_failed (after last (chars rest)) (run_still after stands is_text is prefix behind still) wrote
 
--- a run that was written leaves what follows it
+-- once a run was written, the text after it is left
 pub run_more : (after : ℕ → Text → Cursor → Rendered) {test : ℕ → Bool} {whole : Cursor
     → Rendered} {before last size : ℕ} {bytes run rest : List ℕ} {start here later : Page}
     → StandAlone after test here.cursor

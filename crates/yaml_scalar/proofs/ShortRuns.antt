@@ -32,7 +32,7 @@ short_line_rendered quoted limit indent cursor {text} is =
     ∙ sym (line_at quoted limit indent false 32 text [] cursor is.run.all (λ _. is.room))
     ∙ ap (λ (t : Text). render_steps (written_as quoted) limit indent spaces t cursor) (append-nil text ∙ sym is.run.ascii)
 
--- such a text between double quotes, where its classes are those of what isn't ASCII too
+-- such a text between double quotes, if its classes include those of bytes beyond ASCII
 pub short_inside : {text : List ℕ} (classes : ℕ) (unicode : Bool) (limit : Option ℕ) (folds : Bool) → folds ≡ has_limit limit
     → ImpliesTest classes (stays_where false folds)
     → ((test : ℕ → Bool) → ImpliesTest classes is_unbroken_ascii → ImpliesTest classes test → IsShortRun test text)

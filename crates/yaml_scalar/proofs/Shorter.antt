@@ -1,4 +1,4 @@
--- What is left of a text behind its first character is shorter.
+-- The rest of a text after its first character is shorter.
 use Rattle.yaml_base.proofs.Common.{length-append}
 use Rattle.yaml_scalar.proofs.Common.{ℕ, ◌<◌, ◌≤◌, length, List, ◌++◌, ◌≡◌, ap, arith, encode_utf8}
 use Rattle.std.proofs.Common.{drop, length-drop}

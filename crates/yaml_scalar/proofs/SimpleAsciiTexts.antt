@@ -21,7 +21,7 @@ simple_ascii_ends (first ∷ rest) =
     ap (λ n. is_ordinary first && not (slice_index (first ∷ rest) n == 32)) at
     ∙ ap (λ c. is_ordinary first && not (is_space c)) (sym (last_at 0 first rest))
 
--- what the classes of bytes that no simple ASCII text holds say of its characters
+-- the meaning, for characters, of the classes of bytes that no simple ASCII text holds
 simple_ascii_is_ascii : (c : ℕ) → is_simple_ascii_character c ≡ true → c < 128
 simple_ascii_is_ascii c is = grind (arith, and_parts, leb-true)
 
@@ -43,7 +43,7 @@ bars_none charset text all last =
     ∙ quiet_run charset text [] all
     ∙ ap (λ b. either (if b then barred_by charset space [] else none_barred) none_barred) last
 
--- so every style may hold it where it begins with a letter or a digit
+-- so every style may hold it if it begins with a letter or a digit
 none_allowed : (text : Text) → begins_with is_ordinary text ≡ true → allowed_by none_barred text ≡ all_allowed
 none_allowed [] first = cc
 none_allowed (c ∷ rest) first = rw (ordinary_plain c rest first) refl
@@ -81,7 +81,7 @@ simple_ascii_spaced {text} false is =
     let charset : Charset = record { unicode = true; breaks12 = true } in
     ap not (some_allowed charset (chars text) (is.allows charset))
 
--- it is a line where there is room for it
+-- it is a line if there is room for it
 pub simple_ascii_line : {quoted : Bool} {text : List ℕ} (limit : Option ℕ) (cursor : Cursor) → quoted ≡ false → IsSimpleAscii text
     → HasRoom limit cursor.column (length text)
     → IsShortLine limit quoted cursor text

@@ -27,12 +27,12 @@ doubled_writes = record {
   joined = doubled-joined;
 }
 
--- another character than `'` stands for itself
+-- another character than `'` is written as itself
 unquoted-other : (c : ℕ) (rest : Text) → (c == 39) ≡ false → unquoted (c ∷ rest) ≡ option_map (λ t. c ∷ t) (unquoted rest)
 unquoted-other c [] e = simp e
 unquoted-other c (d ∷ rest) e = simp e
 
--- one character, doubled or not, before what is unquoted
+-- one character, doubled or not, before the unquoted rest
 unquoted-step :
     (c : ℕ) (text after : Text) (quote : Bool) → (c == 39) ≡ quote → unquoted after ≡ Some text →
     unquoted ((if quote then 39 ∷ 39 ∷ [] else c ∷ []) ++ after) ≡ Some (c ∷ text)

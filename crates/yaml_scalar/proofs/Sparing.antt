@@ -1,5 +1,5 @@
--- Tests that spare printable ASCII and LF: what a style writes holds no character that meets such a test, where the value's
--- own characters that stand raw don't.
+-- Tests that spare printable ASCII and LF: the text in a style holds no character that meets such a test, if the value's own
+-- characters that are written unescaped don't.
 use Rattle.yaml_scalar.proofs.Common.{suc, zero, ℕ, ◌%◌, ◌/◌, if◌then◌else◌, ◌==◌, Option, None, Some, nat_le, replicate, Bool, false, true, ◌&&◌, List, []}
 use Rattle.yaml_scalar.proofs.Common.{◌∷◌, refl, ◌≡◌, arith, and_parts, and_from, agree_below_at, list_all-append, list_all, list_any, Text, is_between, space}
 use Rattle.yaml_scalar.proofs.Common.{line_feed, is_space, hex_digit, hex_digits, Cursor, render_text, new_line, is_past_width, quote, backslash, ShortEscape}
@@ -53,7 +53,7 @@ number_graph c true four = digits_graph 2 c
 number_graph c false true = digits_graph 4 c
 number_graph c false false = digits_graph 8 c
 
--- what follows the backslash
+-- the text after the backslash
 escape_rest : (c : ℕ) (found : Option ℕ) → letter_among short_escapes c ≡ found → list_all is_graph (escape_after_backslash found c) ≡ true
 escape_rest c (Some letter) found = and_from _ true (letter_graph short_escapes c letter refl found) refl
 escape_rest c None found = number_graph c (nat_le c 0xFF) (nat_le c 0xFFFF)
@@ -102,7 +102,7 @@ module _ (test : ℕ → Bool) (spares : Spares test) where
     lacks_kept [] = refl
     lacks_kept (c ∷ rest) = any_cond test (is_space c) (backslash ∷ []) [] (any_one test backslash [] (spares.graph backslash refl) refl) refl
 
-    -- what stands between the quotes
+    -- the text between the quotes
     lacks_inside : (limit : Option ℕ) (indent : ℕ) (before : Option ℕ) (value : Text) (cursor : Cursor)
         → list_any test (double_inside unicode limit indent before value cursor).text ≡ false
     lacks_inside limit indent before [] cursor = refl

@@ -1,4 +1,4 @@
--- Block scalars hold no character that meets a test which spares printable ASCII and LF, where their values hold none; so a
+-- Block scalars hold no character that meets a test which spares printable ASCII and LF, if their values hold none; so a
 -- value that a style allows is written without a special character.
 use Rattle.yaml_scalar.proofs.Common.{ℕ, ◌+◌, ◌≤◌, if◌then◌else◌, ◌==◌, Option, replicate, Bool, false, not, true, ◌&&◌, List, [], ◌++◌, ◌∷◌, refl, ◌≡◌, le-leb}
 use Rattle.yaml_scalar.proofs.Common.{ap, ◌∙◌, arith, and_from, or_parts, not-true, list_any, Text, line_feed, space, is_space, is_break, Cursor, Charset}
@@ -150,19 +150,19 @@ module _ (charset : Charset) where
       let p = or_parts (bars_block charset c rest) (somewhere (bars_block charset) rest) h in
       any_one (is_special charset) c rest (or_parts _ _ (or_parts _ _ p.0).0).0 (special_block rest p.1)
 
-  -- where plain is allowed
+  -- if plain is allowed
   pub plain_unspecial : (flow : Bool) (value : Text) → allows_plain charset flow value ≡ true → list_any (is_special charset) value ≡ false
   plain_unspecial flow value h = special_single value (plain_is_single charset flow value (plain_bars charset flow value h))
 
-  -- where single quotes are
+  -- if single quotes are
   pub single_unspecial : (value : Text) → allows_single_quoted charset value ≡ true → list_any (is_special charset) value ≡ false
   single_unspecial value h = special_single value (not-true _ h)
 
-  -- where block styles are
+  -- if block styles are
   pub block_unspecial : (value : Text) → allows_block charset value ≡ true → list_any (is_special charset) value ≡ false
   block_unspecial value h = special_block value (or_parts _ _ (not-true _ h)).1
 
-  -- where literal is and blanks are literal, but for tabs
+  -- if literal is, and blanks are literal, but for tabs
   special_literal : (value : Text) → somewhere (bars_literal charset) value ≡ false → list_any (is_special_but_tab charset) value ≡ false
   special_literal [] h = refl
   special_literal (c ∷ rest) h =

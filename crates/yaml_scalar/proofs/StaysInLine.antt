@@ -32,7 +32,7 @@ step_kept quoted true indent before c rest true broken e f g = cc
 step_kept quoted past indent before c rest false true e f g = cc
 step_kept quoted past indent before c rest false false e f g = other_kept quoted c g
 
--- what follows a character in plain and single-quoted lines
+-- the text after a character in plain and single-quoted lines
 abbrev pub lines_after : (quoted : Bool) (limit : Option ℕ) (indent : ℕ) → ℕ → Text → Cursor → Rendered
 lines_after quoted limit indent before = render_steps (written_as quoted) limit indent (kind_of before)
 
@@ -42,7 +42,7 @@ unpast folds false past h room = refl
 unpast true true past h room = cc
 unpast false true past h room = room refl
 
--- where there is room the cursor is not past the width
+-- with room the cursor is not past the width
 room_past : (limit : Option ℕ) (cursor : Cursor) (count : ℕ) → HasRoom limit cursor.column (suc count) → is_past_width limit cursor ≡ false
 room_past None cursor count h = refl
 room_past (Some width) cursor count h = grind (arith, nat_tests)
@@ -57,7 +57,7 @@ pub positive : (n : ℕ) → (n ≡ 0 → ⊥) → 0 < n
 positive zero h = absurd (h refl)
 positive (suc n) h = omega arith
 
--- where there is room for some characters, there is for fewer
+-- with room for some characters there is room for fewer
 pub room_less : (limit : Option ℕ) (column count less : ℕ) → less ≤ count → HasRoom limit column count → HasRoom limit column less
 room_less None column count less le h = tt
 room_less (Some width) column count less le h = omega arith
@@ -88,7 +88,7 @@ few_characters bytes size is_text boundary =
     let same : length (encodes (chars (take size bytes))) ≡ length (take size bytes) = ap length (encodes-chars (take size bytes) is) in
     omega (arith, length-le-encodes (chars (take size bytes)), same, length-take-le size bytes boundary.0)
 
--- so a run of a line stands for itself
+-- so a run of a line is written as itself
 pub line_stands : (quoted : Bool) (limit : Option ℕ) (indent : ℕ) (cursor : Cursor) {before last size : ℕ} {bytes run : List ℕ}
     → IsUtf8 bytes → (is : IsLineRun limit quoted cursor before bytes size last) → run ≡ take size bytes
     → RunStands (lines_after quoted limit indent) (chars run) cursor

@@ -1,4 +1,4 @@
--- Block scalars have deep lines: each line after the header holds a character that is no blank, and stands at its indentation.
+-- Block scalars have deep lines: each line after the header holds a character that is no blank, and begins at its indentation.
 use Rattle.yaml_scalar.proofs.Common.{arith, suc, zero, ℕ, ◌+◌, ◌≤◌, if◌then◌else◌, Option, replicate, Bool, false, not, true, List, [], ◌++◌, ◌∷◌, ◌⊎◌, refl}
 use Rattle.yaml_scalar.proofs.Common.{◌≡◌, true≢false, append_assoc, inl, inr, ap, sym, ◌∙◌, and_from, or_parts, or_right, not-true, Text, or_from, and-false}
 use Rattle.yaml_scalar.proofs.Common.{tab, ◌==◌, ◌&&◌, ◌||◌, is_blank, is_special, is_special_but_tab, is_blank_to_line_end, begins_with_blanks_alone, space}
@@ -23,7 +23,7 @@ module _ (breaks12 : Bool) where
   AreFull (line text ∷ rest) = Unbroken breaks12 text × HasInk text × AreFull rest
   AreFull (line_break b ∷ rest) = (is_read_break breaks12 b ≡ true) × AreFull rest
 
-  -- a line isn't blank where what follows its first character isn't
+  -- a line isn't blank if the text after its first character isn't
   blank_after : (c : ℕ) (further : Text) → is_read_break breaks12 c ≡ false → begins_with_blank_line breaks12 further ≡ false
       → begins_with_blank_line breaks12 (c ∷ further) ≡ false
   blank_after c further u h =
@@ -35,7 +35,7 @@ module _ (breaks12 : Bool) where
   full_blank (c ∷ text) rest u (inl s) = unblank_line breaks12 c (text ++ rest) u.0 s
   full_blank (c ∷ text) rest u (inr more) = blank_after c (text ++ rest) u.0 (full_blank text rest u.1 more)
 
-  -- nor is it behind spaces
+  -- nor is it after spaces
   spaces_blank : (n : ℕ) (text rest : Text) → Unbroken breaks12 text → HasInk text
       → begins_with_blank_line breaks12 ((replicate n space ++ text) ++ rest) ≡ false
   spaces_blank zero text rest u h = full_blank text rest u h
@@ -131,7 +131,7 @@ module _ (breaks12 : Bool) where
   ended_more c [] t h = absurd h
   ended_more c (d ∷ rest) t h = (t, h)
 
-  -- a character before such parts, where it isn't a blank that ends a line
+  -- a character before such parts, if it isn't a blank that ends a line
   ended_begun : (c : ℕ) (ps : List Part) → is_read_break breaks12 c ≡ false → (c == tab) ≡ false → (is_blank c ≡ false) ⊎ BeginsLine ps → AreEnded ps
       → AreEnded (begun c ps)
   ended_begun c [] u t (inl s) h = ((u, tt), s, tt)
@@ -148,7 +148,7 @@ module _ (breaks12 : Bool) where
 
   -- Lines that are cut
 
-  -- what is known of a line that is cut: its parts hold no break, all but the first are full, and the first is where the line
+  -- facts about a line that is cut: its parts hold no break, all but the first are full, and the first is if the line
   -- begins with no space
   abbrev IsCut : Text → List Part → Type 0
   IsCut text [] = ⊥
@@ -161,7 +161,7 @@ module _ (breaks12 : Bool) where
   EndsInkOrNone [] = Unit {0}
   EndsInkOrNone (c ∷ rest) = EndsInk (c ∷ rest)
 
-  -- what follows the first character
+  -- the text after the first character
   ended_rest : (c : ℕ) (rest : Text) → EndsInk (c ∷ rest) → EndsInkOrNone rest
   ended_rest c [] h = tt
   ended_rest c (d ∷ rest) h = h.1
@@ -195,7 +195,7 @@ module _ (breaks12 : Bool) where
       cut_step c rest u.0 ends (cut_from limit indent at rest) (cut_known limit indent at rest u.1 (ended_rest c rest ends))
       (folds limit column c rest) (fold-spaced limit column c rest)
 
-  -- so all parts are full where the line begins with no space
+  -- so all parts are full if the line begins with no space
   cut_full : (text : Text) (ps : List Part) → begins_with is_space text ≡ false → is_empty text ≡ false → IsCut text ps → AreFull ps
   cut_full text [] none some k = absurd k
   cut_full text (line first ∷ others) none some k = (k.0, k.2 none some, k.1)
@@ -237,7 +237,7 @@ module _ (breaks12 : Bool) where
 
 -- A value that block styles may hold.
 module _ (charset : Charset) where
-  -- a blank stands neither last nor before a break
+  -- a blank is neither last nor before a break
   blank_last : (c : ℕ) (rest : Text) → is_special charset c ≡ false → (is_space c ≡ false) ⊎ BeginsLine charset.breaks12 (parts rest)
       → (is_blank c ≡ false) ⊎ BeginsLine charset.breaks12 (parts rest)
   blank_last c rest special (inl none) = inl (or_from (is_space c) (c == tab) none (special_tab charset c special))
@@ -256,7 +256,7 @@ module _ (charset : Charset) where
       ended_part charset.breaks12 (is_break c) c (parts rest) (ordinary charset c special).same_break (special_tab charset c special)
       (blank_last c rest special (space_inside c rest split.0)) (parts_ended rest split.1)
 
-  -- where block styles are allowed
+  -- if block styles are allowed
   value_ended : (value : Text) → allows_block charset value ≡ true → AreEnded charset.breaks12 (parts value)
   value_ended value allowed = parts_ended value (or_parts (is_empty value) _ (not-true _ allowed)).1
 
@@ -267,7 +267,7 @@ module _ (charset : Charset) where
       block_deep charset.breaks12 count indent enough true best_indent value (folded_parts limit indent false (parts value)) cursor (one_digit best_indent high)
       (folded_full charset.breaks12 limit indent false (parts value) (value_ended value allowed))
 
--- A value that literal may hold where blanks are literal.
+-- A value that literal may hold if blanks are literal.
 module _ (charset : Charset) where
   -- all parts but the first are full, and the first holds no break
   abbrev FullBehindFirst : List Part → Type 0
@@ -298,7 +298,7 @@ module _ (charset : Charset) where
   inked_more c (line text ∷ rest) h = inr h
   inked_more c (line_break b ∷ rest) h = absurd h
 
-  -- so it is where a text isn't of blanks alone up to the end of its line
+  -- so it is if a text isn't of blanks alone up to the end of its line
   inked : (value : Text) → is_blank_to_line_end value ≡ false → BeginsInked (parts value)
   inked [] h = absurd (true≢false h)
   inked (c ∷ rest) h =
@@ -319,7 +319,7 @@ module _ (charset : Charset) where
   unblank (line text ∷ rest) h = h
   unblank (line_break b ∷ rest) h = absurd h
 
-  -- where no line of blanks alone begins, the first line isn't one
+  -- if no line of blanks alone begins, the first line isn't one
   unblank_first : (value : Text) → begins_with_blanks_alone value ≡ false → BeginsUnblank (parts value)
   unblank_first [] h = tt
   unblank_first (c ∷ rest) h = by (is_break c) (through (is_blank c) refl h)

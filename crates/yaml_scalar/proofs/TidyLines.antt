@@ -1,4 +1,4 @@
--- Plain and single-quoted texts are tidy: their lines after the first stand at their indentation, and no space stands before a
+-- Plain and single-quoted texts are tidy: their lines after the first begin at their indentation, and no space precedes a
 -- break; a plain text has no blank and no break at its edges.
 use Rattle.yaml_scalar.proofs.Common.{ℕ, ◌≤◌, if◌then◌else◌, ◌==◌, Option, Bool, false, not, true, ◌&&◌, ◌||◌, [], ◌++◌, ◌∷◌, refl, ◌≡◌, eqb-true, true≢false}
 use Rattle.yaml_scalar.proofs.Common.{append-nil, append_assoc, ap, subst, sym, ◌∙◌, and_parts, and_from, or_parts, or_from, not-true, false≢true, Text, space}
@@ -29,7 +29,7 @@ others_no_space : (s b : Bool) → (if s then spaces else if b then breaks else 
 others_no_space true b e = cc
 others_no_space false b e = refl
 
--- what begins with no space begins with none of their kind, and likewise breaks
+-- a text that doesn't begin with a space doesn't begin with their kind, and likewise for breaks
 kind_no_space : (rest : Text) → begins_with is_space rest ≡ false → begins_kind spaces rest ≡ false
 kind_no_space [] h = refl
 kind_no_space (d ∷ rest) h = not_spaces (is_space d) (is_break d) h
@@ -77,7 +77,7 @@ quote_ink true = record { no_space = refl; no_tab = refl; no_break = refl }
 quote_ink false = record { no_space = refl; no_tab = refl; no_break = refl }
 
 module _ (charset : Charset) (count indent : ℕ) (enough : count ≤ indent) (closed : Bool) where
-  -- what is known of a value's lines from some character on, up to the closing quote
+  -- facts about a value's lines from some character on, up to the closing quote
   record LinesEven (before : Kind) (value text : Text) : Type 0 where
     pub begins_unindented : IsEven charset.breaks12 count text
     pub ink : next_ink closed value ≡ true → BeginsInk charset.breaks12 text
@@ -124,7 +124,7 @@ module _ (charset : Charset) (count indent : ℕ) (enough : count ≤ indent) (c
     broken = λ e k. absurd (false≢true k);
   }
 
-  -- what is known behind a break
+  -- facts after a break
   break_begins : (before : Kind) (c : ℕ) (rest text : Text) → kind_of c ≡ breaks → is_read_break charset.breaks12 c ≡ true
       → IsEven charset.breaks12 count (c ∷ text) → LinesEven before (c ∷ rest) (c ∷ text)
   break_begins before c rest text k brk even = record {
@@ -134,7 +134,7 @@ module _ (charset : Charset) (count indent : ℕ) (enough : count ≤ indent) (c
     broken = λ e b. brk;
   }
 
-  -- a break, and LF before it where it is doubled
+  -- a break, after LF if it is doubled
   break_doubled : (twice : Bool) (before : Kind) (c : ℕ) (rest text : Text) → kind_of c ≡ breaks → is_read_break charset.breaks12 c ≡ true
       → LinesEven before (c ∷ rest) (c ∷ text) → LinesEven before (c ∷ rest) ((if twice then line_feed ∷ [] else []) ++ (c ∷ text))
   break_doubled false before c rest text k brk h = h
@@ -145,7 +145,7 @@ module _ (charset : Charset) (count indent : ℕ) (enough : count ≤ indent) (c
     broken = λ e b. refl;
   }
 
-  -- a break that goes on, or the indentation behind it
+  -- a break that goes on, or the indentation after it
   break_line : (goes_on : Bool) (before : Kind) (c : ℕ) (rest text : Text) → kind_of c ≡ breaks → is_read_break charset.breaks12 c ≡ true
       → begins_kind breaks rest ≡ goes_on → (goes_on ≡ false → next_ink closed rest ≡ true) → LinesEven breaks rest text
       → LinesEven before (c ∷ rest) (c ∷ ((if goes_on then [] else indentation indent) ++ text))
@@ -255,7 +255,7 @@ ends_always [] = refl
 ends_always (c ∷ []) = refl
 ends_always (c ∷ d ∷ rest) = ends_always (d ∷ rest)
 
--- a single-quoted body: its lines are deep, and no space stands before a break
+-- a single-quoted body: its lines are deep, and no space precedes a break
 pub single_even : (charset : Charset) (count : ℕ) (limit : Option ℕ) (indent : ℕ) (value : Text) (cursor : Cursor) → count ≤ indent
     → allows_single_quoted charset value ≡ true → IsEven charset.breaks12 count (single_quoted_body limit indent value cursor).text
 single_even charset count limit indent value cursor enough allowed =
@@ -275,7 +275,7 @@ plain_ends charset flow (c ∷ []) h =
     ap not (or_parts _ _ (or_parts _ _ (or_parts _ _ (or_parts _ _ (or_parts _ _ h).0).0).0).0).1
 plain_ends charset flow (c ∷ d ∷ rest) h = plain_ends charset flow (d ∷ rest) (or_parts _ _ h).1
 
--- a plain body: its lines are deep, and no space stands before a break
+-- a plain body: its lines are deep, and no space precedes a break
 pub plain_even : (charset : Charset) (flow : Bool) (count : ℕ) (limit : Option ℕ) (indent : ℕ) (value : Text) (cursor : Cursor) → count ≤ indent
     → allows_plain charset flow value ≡ true → IsEven charset.breaks12 count (plain_body limit indent value cursor).text
 plain_even charset flow count limit indent value cursor enough allowed =
@@ -286,7 +286,7 @@ plain_even charset flow count limit indent value cursor enough allowed =
     (plain_ends charset flow value bars) in
     rw (runs_by_steps (λ text. text) itself_writes limit indent value cursor) (subst (IsEven charset.breaks12 count) (append-nil text) lines.begins_unindented)
 
--- a text that isn't empty ends as what it ends with
+-- a nonempty text ends as its nonempty end does
 ends_append : (breaks12 : Bool) (prefix : Text) (c : ℕ) (rest : Text) → ends_white breaks12 (prefix ++ c ∷ rest) ≡ ends_white breaks12 (c ∷ rest)
 ends_append breaks12 [] c rest = refl
 ends_append breaks12 (x ∷ []) c rest = refl

@@ -1,5 +1,5 @@
--- A double-quoted body is tidy: each of its lines after the first stands at its indentation and goes on with a character that is
--- no space, and no space stands before a break.
+-- A double-quoted body is tidy: each of its lines after the first begins at its indentation and goes on with a character that is
+-- no space, and no space precedes a break.
 use Rattle.yaml_scalar.proofs.Common.{ℕ, ◌≤◌, if◌then◌else◌, ◌==◌, Option, None, Some, replicate, Bool, false, true, ◌&&◌, [], ◌++◌, ◌∷◌, refl, ◌≡◌, eqb-true}
 use Rattle.yaml_scalar.proofs.Common.{true≢false, append_assoc, inl, inr, ap, subst, sym, ◌∙◌, arith, and_parts, and_right, nat_tests, list_all, Text}
 use Rattle.yaml_scalar.proofs.Common.{line_feed, space, tab, is_space, Cursor, Rendered, render_then, render_text, breaks_line, is_past_width, is_read_break}
@@ -53,7 +53,7 @@ module _ (breaks12 unicode : Bool) (count indent : ℕ) (enough : count ≤ inde
       by true e = graph_ink breaks12 backslash refl
       by false e = raw_ink c s e
 
-  -- what is known of a value's text from some character on, up to the closing quote
+  -- facts about a value's text from some character on, up to the closing quote
   record QuotedEven (before : Option ℕ) (value text : Text) : Type 0 where
     pub begins_unindented : IsEven breaks12 count text
     pub unbroken : is_other before ≡ false → begins_with_break breaks12 text ≡ false
@@ -96,12 +96,12 @@ module _ (breaks12 unicode : Bool) (count indent : ℕ) (enough : count ≤ inde
       })
 
   module _ (limit : Option ℕ) where
-    -- what follows a character
+    -- the text after a character
     abbrev Follows : (c : ℕ) (rest : Text) → Type 0
     Follows c rest = (next : Cursor) → Fits indent (Some c) next
         → QuotedEven (Some c) rest ((double_inside unicode limit indent (Some c) rest next).text ++ quote ∷ [])
 
-    -- a character, rendered so, and what follows it
+    -- a character's text, and the text after it
     abbrev Goes : (before : Option ℕ) (rest : Text) → Rendered → ℕ → Type 0
     Goes before rest rendered c = Follows c rest
         → QuotedEven before (c ∷ rest) ((render_then rendered (double_inside unicode limit indent (Some c) rest)).text ++ quote ∷ [])
@@ -134,7 +134,7 @@ module _ (breaks12 unicode : Bool) (count indent : ℕ) (enough : count ≤ inde
         subst (λ (t : Text). QuotedEven before (c ∷ rest) t) (sym (append_assoc (character_text unicode c) more (quote ∷ [])))
         (quoted_other before c rest (more ++ quote ∷ []) s (ih next (fits-character unicode indent before c cursor fits)))
 
-    -- one character and what follows it
+    -- one character and the text after it
     quoted_step : (before : Option ℕ) (c : ℕ) (rest : Text) (cursor : Cursor) (folds spaced : Bool)
         → (is_space c && may_fold before rest && is_past_width limit cursor) ≡ folds → is_space c ≡ spaced → Fits indent before cursor
         → Goes before rest (if folds then double_fold indent rest cursor else render_text (character_text unicode c) cursor) c
@@ -150,14 +150,14 @@ module _ (breaks12 unicode : Bool) (count indent : ℕ) (enough : count ≤ inde
         subst (λ (k : ℕ). Goes before rest (render_text (character_text unicode k) cursor) k) (sym e) (space_goes before rest cursor fits) ih
     quoted_step before c rest cursor false false is is_s fits ih = other_goes before c rest cursor is_s fits ih
 
-    -- all that stands between the quotes, and the closing one
+    -- the whole text between the quotes, and the closing one
     quoted_inside : (value : Text) (before : Option ℕ) (cursor : Cursor) → Fits indent before cursor
         → QuotedEven before value ((double_inside unicode limit indent before value cursor).text ++ quote ∷ [])
     quoted_inside [] before cursor fits = quoted_end before
     quoted_inside (c ∷ rest) before cursor fits =
         quoted_step before c rest cursor _ (is_space c) refl refl fits (λ next. quoted_inside rest (Some c) next)
 
--- a double-quoted body, whatever the value: its lines are deep, and no space stands before a break
+-- a double-quoted body, whatever the value: its lines are deep, and no space precedes a break
 pub double_even : (breaks12 unicode : Bool) (count : ℕ) (limit : Option ℕ) (indent : ℕ) (value : Text) (cursor : Cursor) → count ≤ indent
     → IsEven breaks12 count (double_quoted_body unicode limit indent value cursor).text
 double_even breaks12 unicode count limit indent value cursor enough =

@@ -1,4 +1,4 @@
--- Texts without a break: what they do to a column and to a text's lines; and that no written character holds one.
+-- Texts without a break: their effect on a column and on a text's lines; and that no written character holds one.
 use Rattle.yaml_scalar.proofs.Common.{suc, zero, ℕ, ◌%◌, ◌+◌, ◌/◌, ◌≤◌, if◌then◌else◌, ◌==◌, Option, None, Some, nat_le, length, replicate, Bool, false, not}
 use Rattle.yaml_scalar.proofs.Common.{true, ◌&&◌, ◌||◌, List, [], ◌++◌, ◌∷◌, refl, ◌≡◌, arith, and_parts, and_from, or_left, agree_below_at, not-false}
 use Rattle.yaml_scalar.proofs.Common.{not-true, Text, line_feed, carriage_return, next_line, line_separator, paragraph_separator, space, is_break}
@@ -44,7 +44,7 @@ unbroken-rendered (c ∷ rest) h =
     and_from _ _ (second-and-third (c == line_feed) (c == carriage_return) (c == next_line) (c == line_separator) (c == paragraph_separator) q)
     (unbroken-rendered rest p.1)
 
--- lines behind such a text are as they are
+-- lines after such a text stay as they are
 pub unbroken-indented : (a b : Text) → is_unbroken a ≡ true → is_indented_text b ≡ true → is_indented_text (a ++ b) ≡ true
 unbroken-indented [] b h k = k
 unbroken-indented (c ∷ a) b h k =

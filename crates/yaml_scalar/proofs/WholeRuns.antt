@@ -8,7 +8,7 @@ pub last-more : (before : ℕ) (prefix : Text) (c : ℕ) → last_from before (p
 last-more before [] c = refl
 last-more before (d ∷ prefix) c = last-more d prefix c
 
--- a run holds no break where no character that passes is one
+-- a run holds no break if no character that passes is one
 all_unbroken : (test : ℕ → Bool) → ((c : ℕ) → test c ≡ true → is_break c ≡ false) → (text : Text) → list_all test text ≡ true → list_any is_break text ≡ false
 all_unbroken test none [] h = refl
 all_unbroken test none (c ∷ rest) h =

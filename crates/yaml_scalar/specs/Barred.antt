@@ -1,4 +1,4 @@
--- What the characters of a value bar, all styles seen at once.
+-- The styles that the characters of a value bar, all at once.
 use Rattle.std.specs.Prelude.{ℕ, Bool, true, false, ◌==◌, ◌||◌, ◌&&◌, not, codes, if◌then◌else◌}
 use Rattle.std.specs.List.{list_any}
 use Rattle.yaml_base.specs.scalars.Analysis.{Allowances, Charset, bars_block, bars_plain, bars_single_quoted, begins_unlike_plain, ends_word, is_empty}
@@ -6,7 +6,7 @@ use Rattle.yaml_base.specs.scalars.Analysis.{is_special, somewhere}
 use Rattle.yaml_base.specs.Characters.{Text, is_among, is_between, is_break, is_space, space, tab}
 use Rattle.yaml_scalar.specs.declared.analysis.BarredStyles.{BarredStyles}
 
--- whether there is a break, and a character that no text of a kind holds
+-- for each kind of text, whether some character bars it; and whether there is a break
 pub record Barred : Type 0 where
   pub multiline : Bool
   pub flow_plain : Bool
@@ -14,7 +14,7 @@ pub record Barred : Type 0 where
   pub single_quoted : Bool
   pub block : Bool
 
--- what a loop has found
+-- the result of a loop, as the definitions see it
 abbrev pub seen_barred : BarredStyles → Barred
 seen_barred found =
     record {
@@ -25,7 +25,7 @@ seen_barred found =
       block = found.block;
     }
 
--- what one character bars, seen with what follows it
+-- the styles that one character bars before the rest
 abbrev pub barred_by : Charset → ℕ → Text → Barred
 barred_by charset c rest =
     record {
@@ -36,7 +36,7 @@ barred_by charset c rest =
       block = bars_block charset c rest;
     }
 
--- what all characters of a value bar
+-- the styles that all characters of a value bar
 abbrev pub barred_in : Charset → Text → Barred
 barred_in charset value =
     record {
@@ -51,7 +51,7 @@ barred_in charset value =
 abbrev pub none_barred : Barred
 none_barred = record { multiline = false; flow_plain = false; block_plain = false; single_quoted = false; block = false }
 
--- what one of two bars
+-- the styles that one of two results bars
 abbrev pub either : Barred → Barred → Barred
 either a b =
     record {
@@ -62,28 +62,28 @@ either a b =
       block = a.block || b.block;
     }
 
--- what was found, and one of the characters that no plain text in flow holds; nor in a block a `:` that ends a word
+-- a result with one of the characters that no plain text in flow holds, or a `:` that ends a word, which bars plain in a block, too
 abbrev pub with_indicator : Barred → ℕ → Text → Barred
 with_indicator found c rest = record found { flow_plain = true; block_plain = found.block_plain || (c == 58 && ends_word rest) }
 
--- a letter or a digit of ASCII
+-- true for a letter or a digit of ASCII
 abbrev pub is_ordinary : ℕ → Bool
 is_ordinary c = is_between 97 122 c || is_between 65 90 c || is_between 48 57 c
 
--- it bars nothing by itself, nor before or after another such character, unless it is a space
+-- true for a character that bars nothing by itself, nor before or after another such character, unless it is a space
 abbrev pub is_quiet : Charset → ℕ → Bool
 is_quiet charset c =
     not (is_special charset c || is_break c || c == tab || c == 0 || c == 35 || is_among (codes ",?:[]{}") c)
 
--- what a character bars before the rest, where it is a space
+-- the styles that a character bars before the rest if it is a space
 abbrev pub barred_by_space : Charset → ℕ → Text → Barred
 barred_by_space charset c rest = if is_space c then barred_by charset space rest else none_barred
 
--- no style but double quotes is left
+-- true if no style but double quotes is left
 abbrev pub all_styles : Barred → Bool
 all_styles found = found.flow_plain && found.block_plain && found.single_quoted && found.block
 
--- what a value allows, by what its characters bar
+-- the styles that a value allows, by those that its characters bar
 abbrev pub allowed_by : Barred → Text → Allowances
 allowed_by found value =
     record {

@@ -11,15 +11,15 @@ use Rattle.yaml_pen.specs.Page.{Page}
 use Rattle.yaml_pen.specs.Wrote.{Wrote}
 use Rattle.yaml_base.specs.Tags.{last_from}
 
--- the most bytes of a batch
+-- the largest size of a batch in bytes
 abbrev pub most_bytes : ℕ
 most_bytes = 256
 
--- the bytes of the longest escape
+-- the size of the longest escape in bytes
 abbrev pub longest_escape : ℕ
 longest_escape = 10
 
--- a character whose text is of ASCII, and which is no space
+-- true for a character whose text is of ASCII, and which is no space
 abbrev pub is_batched : (unicode : Bool) → ℕ → Bool
 is_batched unicode c = not (is_space c) && (is_ascii c || needs_escape unicode c)
 
@@ -28,8 +28,8 @@ abbrev pub characters_text : (unicode : Bool) → Text → Text
 characters_text unicode [] = []
 characters_text unicode (c ∷ rest) = character_text unicode c ++ characters_text unicode rest
 
--- bytes are the texts of a text's first characters, which all belong to a batch; the last of them, or the character
--- before the text; and the rest
+-- the bytes are the texts of a text's first characters, which all belong to a batch; `last` is the last of them, or else the
+-- character before the text; and `rest` is the rest
 pub record AreBatched (unicode : Bool) (before : ℕ) (text : Text) (bytes : List ℕ) (last : ℕ) (rest : Text) : Type 0 where
   pub prefix : Text
   pub parts : text ≡ prefix ++ rest
@@ -37,7 +37,7 @@ pub record AreBatched (unicode : Bool) (before : ℕ) (text : Text) (bytes : Lis
   pub all : list_all (is_batched unicode) prefix ≡ true
   pub last_is : last ≡ last_from before prefix
 
--- an answer without what it holds
+-- an answer without its contents
 abbrev pub without_next : Result (ℕ × Bor (List ℕ)) yaml_error_t → Result (Unit {0}) yaml_error_t
 without_next (Ok next) = Ok tt
 without_next (Err error) = Err error

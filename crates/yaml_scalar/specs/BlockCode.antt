@@ -1,4 +1,4 @@
--- What contracts see of the block scalars' own types.
+-- The view of the block scalars' own types in contracts.
 use Rattle.std.specs.Prelude.{ℤ, Bool, true, false, Result, Ok, Err}
 use Rattle.yaml_base.specs.scalars.BlockHeader as layout
 use Rattle.yaml_base.specs.declared.errors.yaml_error_t.{yaml_error_t}
@@ -7,12 +7,12 @@ use Rattle.yaml_scalar.specs.declared.block_header.BlockStyle.TheVariants.{Liter
 use Rattle.yaml_scalar.specs.declared.block_header.Ending.{Ending}
 use Rattle.yaml_scalar.specs.declared.block_header.Ending.TheVariants.{WithoutBreak, OneBreak, MoreBreaks}
 
--- lines are folded
+-- true if lines are folded
 abbrev pub is_folded : BlockStyle → Bool
 is_folded Literal = false
 is_folded Folded = true
 
--- how a value ends, as the definitions say it
+-- the ending of a value, as the definitions have it
 abbrev pub seen_ending : Ending → layout.Ending
 seen_ending WithoutBreak = layout.without_break
 seen_ending OneBreak = layout.one_break

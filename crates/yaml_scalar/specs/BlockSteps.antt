@@ -1,4 +1,4 @@
--- The lines of a block scalar one character after another: the layout as its writer goes through it.
+-- The lines of a block scalar one character after another, in the order in which the writer writes them.
 use Rattle.std.specs.Prelude.{ℕ, Bool, true, false, [], ◌∷◌, ◌==◌, ◌&&◌, not, Option, if◌then◌else◌}
 use Rattle.yaml_base.specs.Characters.{Text, is_break, is_space, line_feed}
 use Rattle.yaml_base.specs.scalars.BlockHeader.{render_header}
@@ -9,17 +9,17 @@ use Rattle.yaml_scalar.specs.WholeRuns.{has_limit, stays_in_line}
 use Rattle.yaml_scalar.specs.declared.block_lines.Place.{Place}
 use Rattle.yaml_scalar.specs.declared.block_lines.Place.TheVariants.{LineStart, Folding, Fixed}
 
--- the line that begins with a character
+-- the place in the line that begins with a character
 abbrev pub place_in_line : Bool → ℕ → Place
 place_in_line folded c = if folded && not (is_space c) then Folding else Fixed
 
--- the line that a character that isn't a break belongs to
+-- the place in the line of a character that isn't a break
 abbrev pub within : Bool → Place → ℕ → Place
 within folded LineStart c = place_in_line folded c
 within folded Folding c = Folding
 within folded Fixed c = Fixed
 
--- where the next character stands
+-- the place of the next character
 abbrev pub place_after : Bool → Place → ℕ → Place
 place_after folded place c = if is_break c then LineStart else within folded place c
 
@@ -43,13 +43,13 @@ render_fold_or_content fold indent c cursor = if fold then render_fold indent cu
 abbrev pub render_first : ℕ → ℕ → Cursor → Rendered
 render_first indent c cursor = render_then (new_line indent cursor) (render_content c)
 
--- a character that isn't a break, where it stands
+-- a character that isn't a break, at its place
 abbrev pub render_inner : (limit : Option ℕ) (indent : ℕ) → Place → ℕ → Text → Cursor → Rendered
 render_inner limit indent LineStart c rest cursor = render_first indent c cursor
 render_inner limit indent Folding c rest cursor = render_fold_or_content (folds limit cursor.column c rest) indent c cursor
 render_inner limit indent Fixed c rest cursor = render_content c cursor
 
--- a break is doubled where it would be folded
+-- true for a break that is doubled, since it would be folded
 abbrev pub is_doubled : Place → ℕ → Text → Bool
 is_doubled LineStart c rest = false
 is_doubled Folding c rest = c == line_feed && next_line_unindented (parts rest)
@@ -59,12 +59,12 @@ is_doubled Fixed c rest = false
 abbrev pub render_block_break : Bool → ℕ → Cursor → Rendered
 render_block_break twice c cursor = if twice then render_then (render_text (c ∷ []) cursor) (render_broken c) else render_broken c cursor
 
--- one character, seen with what follows it
+-- one character before the rest
 abbrev pub render_step : (limit : Option ℕ) (indent : ℕ) → Place → ℕ → Text → Cursor → Rendered
 render_step limit indent place c rest cursor =
     if is_break c then render_block_break (is_doubled place c rest) c cursor else render_inner limit indent place c rest cursor
 
--- a character that is written as itself: none where a line begins, and no space that may become a fold
+-- true for a character that is written as itself: not at the start of a line, and no space that may become a fold
 abbrev pub stays_at : (limit : Option ℕ) → Place → ℕ → Bool
 stays_at limit LineStart c = false
 stays_at limit Folding c = stays_in_line (has_limit limit) false c
@@ -80,12 +80,12 @@ lines_from folded limit indent place (c ∷ rest) cursor =
 abbrev pub block_indicator_of : Bool → ℕ
 block_indicator_of folded = if folded then 62 else 124
 
--- a header after a separating space where one is needed
+-- a header after a separating space if one is needed
 abbrev pub separated_header : (folded : Bool) (best_indent : ℕ) (value : Text) → Cursor → Rendered
 separated_header folded best_indent value cursor =
     render_then (render_text (space_if true cursor) cursor) (render_header (block_indicator_of folded) best_indent value)
 
--- its end: a break, after which a line begins
+-- the end of a header: a break, after which a line begins
 abbrev pub header_end : Cursor → Rendered
 header_end cursor = with_flags true true (render_text (line_feed ∷ []) cursor)
 

@@ -6,7 +6,7 @@ use Rattle.std.specs.List.{list_all}
 use Rattle.std.specs.Prelude.{encode_utf8}
 use Rattle.yaml_scalar.specs.declared.classes.TheConstants.{CLASSES}
 
--- the byte is of none of these classes
+-- true for a byte of none of these classes
 abbrev pub is_free : (classes : ℕ) → ℕ → Bool
 is_free classes byte = bit_and (slice_index CLASSES byte) classes == 0
 
@@ -16,6 +16,6 @@ pub record IsFreeRun (classes : ℕ) (text : List ℕ) (size : ℕ) : Type 0 whe
   pub all : list_all (is_free classes) (take size text) ≡ true
   pub stops : size < length text → is_free classes (slice_index text size) ≡ false
 
--- a character passes a test where none of its bytes is of these classes
+-- a character passes a test if none of its bytes is of these classes
 abbrev pub ImpliesTest : (classes : ℕ) → (ℕ → Bool) → Type 0
 ImpliesTest classes test = (c : ℕ) → IsScalar c → list_all (is_free classes) (encode_utf8 c) ≡ true → test c ≡ true

@@ -1,7 +1,7 @@
 -- Bytes of ASCII that are no control characters.
 use Rattle.std.specs.Prelude.{◌≡◌, ℕ, Bool, false, ◌||◌, ◌<◌, List, length, nat_le, nat_lt, slice_index}
 
--- past ASCII, or a control character
+-- true for a byte beyond ASCII, or a control character
 abbrev pub is_unclean : ℕ → Bool
 is_unclean byte = nat_le 0x80 byte || nat_lt byte 0x20
 

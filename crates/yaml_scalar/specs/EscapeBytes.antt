@@ -4,13 +4,13 @@ use Rattle.yaml_base.specs.Characters.{is_break}
 use Rattle.yaml_scalar.specs.declared.escapes.Escape.{Escape}
 use Rattle.yaml_scalar.specs.declared.escapes.Escape.TheVariants.{Letter, Two, Four, Eight}
 
--- the bytes, however many there are
+-- the bytes of an escape
 abbrev pub escape_bytes : Escape → List ℕ
 escape_bytes (Letter bytes) = bytes
 escape_bytes (Two bytes) = bytes
 escape_bytes (Four bytes) = bytes
 escape_bytes (Eight bytes) = bytes
 
--- of ASCII, and no break
+-- true for a byte of ASCII that is no break
 abbrev pub is_unbroken_ascii : ℕ → Bool
 is_unbroken_ascii b = nat_lt b 128 && not (is_break b)

@@ -14,17 +14,17 @@ seen_kind Space = spaces
 seen_kind Break = breaks
 seen_kind Other = others
 
--- how characters are written between quotes, or without them
+-- a text as it is written between quotes, or without them
 abbrev pub written_as : (quoted : Bool) → Text → Text
 written_as true text = quotes_doubled text
 written_as false text = text
 
--- the first character, where there is one, is of this kind
+-- true if there is a first character, of this kind
 abbrev pub begins_kind : Kind → Text → Bool
 begins_kind kind [] = false
 begins_kind kind (c ∷ rest) = is_same_kind kind (kind_of c)
 
--- a character's text, by its kind, the kind of the character before and what follows
+-- a character's text, by its kind, the kind of the character before it and the rest
 abbrev pub step_text :
     (written : Text → Text) (folds : Bool) (indent : ℕ) (before kind : Kind) (c : ℕ) (rest : Text) → Text
 step_text written folds indent before spaces c rest =
@@ -36,13 +36,13 @@ step_text written folds indent before breaks c rest =
     ++ (c ∷ (if begins_kind breaks rest then [] else indentation indent))
 step_text written folds indent before others c rest = written (c ∷ [])
 
--- what one character of a value becomes, by what was before and what follows
+-- the text of one character of a value, by the kind before it and the rest
 abbrev pub render_line_step :
     (written : Text → Text) (limit : Option ℕ) (indent : ℕ) (before : Kind) (c : ℕ) (rest : Text) → Cursor → Rendered
 render_line_step written limit indent before c rest cursor =
     render_text (step_text written (is_past_width limit cursor) indent before (kind_of c) c rest) cursor
 
--- a value from some character on; its start counts as if a space stood before it
+-- the text of a value from some character on; its start counts as if a space preceded it
 abbrev pub render_steps :
     (written : Text → Text) (limit : Option ℕ) (indent : ℕ) (before : Kind) → Text → Cursor → Rendered
 render_steps written limit indent before [] cursor = render_nothing cursor

@@ -1,4 +1,4 @@
--- What a scalar's text means to a reader.
+-- The value that a reader finds in a scalar's text.
 use Rattle.std.specs.Prelude.{◌≡◌, true, Option, Some, ◌++◌}
 use Rattle.std.specs.List.{list_all}
 use Rattle.yaml_base.specs.Characters.{Text, is_space}

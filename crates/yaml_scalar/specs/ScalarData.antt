@@ -1,4 +1,4 @@
--- What contracts see of an analysis and of a choice.
+-- The view of an analysis and of a choice in contracts.
 use Rattle.std.specs.Prelude.{◌≡◌, Bool, true, false}
 use Rattle.yaml_base.specs.scalars.Analysis.{Allowances, Charset}
 use Rattle.yaml_base.specs.Event.{ScalarStyle}
@@ -21,11 +21,11 @@ seen_data given =
       block = given.block_allowed;
     }
 
--- what may stand as itself
+-- the characters that may be written unescaped
 abbrev pub seen_charset : CharacterSet → Charset
 seen_charset given = record { unicode = given.unicode; breaks12 = given.breaks12 }
 
--- a text stands in a flow collection
+-- true for a text in a flow collection
 abbrev pub is_flow : Context → Bool
 is_flow Flow = true
 is_flow Block = false

@@ -6,7 +6,7 @@ use Rattle.yaml_base.specs.Cursor.{Cursor}
 use Rattle.yaml_scalar.specs.EscapeBytes.{is_unbroken_ascii}
 use Rattle.yaml_scalar.specs.WholeRuns.{HasRoom, stays_in_line}
 
--- the most bytes of a short text
+-- the largest size of a short text in bytes
 abbrev pub most_short : ℕ
 most_short = 512
 

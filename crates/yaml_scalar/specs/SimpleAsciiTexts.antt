@@ -15,7 +15,7 @@ use Rattle.yaml_base.specs.Tags.{last_from}
 abbrev pub all_allowed : Allowances
 all_allowed = record { multiline = false; flow_plain = true; block_plain = true; single_quoted = true; block = true }
 
--- a short text of ASCII that is one line, and allowed in every style whatever may stand as itself
+-- a short text of ASCII that is one line, and allowed in every style under every character set
 pub record IsSimpleAscii (text : List ℕ) : Type 0 where
   pub allows : (charset : Charset) → allowances charset (chars text) ≡ all_allowed
   pub line : IsShortRun (stays_in_line false false) text
@@ -25,19 +25,19 @@ pub record IsUnquotedAscii (quoted : Bool) (text : List ℕ) : Type 0 where
   pub simple_ascii : IsSimpleAscii text
   pub plain : quoted ≡ false
 
--- what is known of a value is so; one that is known to be simple ASCII isn't put between quotes
+-- a known fact about a value holds; one that is known to be simple ASCII isn't put between quotes
 abbrev pub IsKnown : Known → (quoted : Bool) → List ℕ → Type 0
 IsKnown Nothing quoted text = Unit
 IsKnown SimpleAscii quoted text = IsUnquotedAscii quoted text
 
--- it begins with a letter or a digit, and doesn't end with a space
+-- true if a text begins with a letter or a digit, and doesn't end with a space
 abbrev pub has_simple_ascii_ends : List ℕ → Bool
 has_simple_ascii_ends text = begins_with is_ordinary text && not (is_space (last_from 0 text))
 
--- printable ASCII but the indicators that may end a plain scalar
+-- true for printable ASCII but the indicators that may end a plain scalar
 abbrev pub is_simple_ascii_character : ℕ → Bool
 is_simple_ascii_character c = is_between 0x20 0x7E c && not (c == 35 || is_among (codes ",?:[]{}") c)
 
--- it has such ends, and so many such characters at most
+-- true if a text has such ends and only such characters, and is short
 abbrev pub is_simple_ascii : List ℕ → Bool
 is_simple_ascii text = has_simple_ascii_ends text && nat_le (length text) most_short && list_all is_simple_ascii_character (chars text)

@@ -7,21 +7,21 @@ use Rattle.yaml_base.specs.Cursor.{Cursor}
 use Rattle.yaml_base.specs.scalars.DoubleQuoted.{needs_escape}
 use Rattle.yaml_base.specs.Tags.{last_from}
 
--- some column is past the width
+-- true if some column is past the width
 abbrev pub has_limit : Option ℕ → Bool
 has_limit None = false
 has_limit (Some _) = true
 
--- between double quotes a character is written as itself, and never becomes a fold, where a space may or not
+-- true for a character that is written as itself between double quotes, and never becomes a fold; `folds`: a space may
 abbrev pub stays_where : (unicode folds : Bool) → ℕ → Bool
 stays_where unicode folds c = not (needs_escape unicode c) && not (is_space c && folds)
 
--- spaces may where there is a width
+-- the same, if spaces may become folds exactly if there is a width
 abbrev pub stays : (unicode : Bool) → (limit : Option ℕ) → ℕ → Bool
 stays unicode limit c = stays_where unicode (has_limit limit) c
 
--- in a line of any other style a character is written as itself, where a space may become a fold or not, and
--- a `'` is doubled or not
+-- true for a character that is written as itself in a line of any other style; `folds`: a space may become a fold; `quotes`: a
+-- `'` is doubled
 abbrev pub stays_in_line : (folds quotes : Bool) → ℕ → Bool
 stays_in_line folds quotes c = not (is_break c || (is_space c && folds) || (quotes && c == 39))
 
@@ -32,7 +32,7 @@ pub record IsRun (test : ℕ → Bool) (before : ℕ) (text : List ℕ) (length 
   pub all : list_all test (chars (take length text)) ≡ true
   pub last_is : last ≡ last_from before (chars (take length text))
 
--- so many characters may be written from a column on, none of them past the width
+-- `count` characters may be written from a column on, none of them past the width
 abbrev pub HasRoom : Option ℕ → (column count : ℕ) → Type 0
 HasRoom None column count = Unit
 HasRoom (Some width) column count = column + count ≤ width

@@ -1,4 +1,4 @@
-//! Which styles a scalar's value allows.
+//! The styles that a scalar's value allows.
 ghost use Rattle.std.specs.List.{list_any};
 ghost use Rattle.std.specs.Prelude.{◌≡◌, ◌≤◌, ◌==◌, ◌||◌, ◌&&◌, [], false, not, codes, length};
 ghost use Rattle.std.specs.Str.{IsUtf8, chars};
@@ -23,13 +23,13 @@ pub struct scalar_data_t {
     pub flow_plain_allowed: bool,
     /// It may be plain in a block collection or as a root.
     pub block_plain_allowed: bool,
-    /// It may stand between single quotes.
+    /// It may be single-quoted.
     pub single_quoted_allowed: bool,
     /// It may be literal or folded.
     pub block_allowed: bool,
 }
 
-/// The characters that may stand as themselves.
+/// The characters that may be written unescaped.
 #[derive(Clone, Copy)]
 pub(crate) struct CharacterSet {
     pub(crate) unicode: bool,
@@ -54,7 +54,7 @@ const NOTHING_BARRED: BarredStyles = BarredStyles {
     block: false,
 };
 
-/// The place where plain text stands.
+/// The collection around a plain text.
 #[derive(Clone, Copy)]
 enum Context {
     /// In a flow collection.
@@ -63,8 +63,8 @@ enum Context {
     Block,
 }
 
-/// Analyses a scalar's value. With `unicode` all printable characters may stand as themselves, else
-/// those of ASCII alone; with `breaks12` U+2028 and U+2029 may not, as YAML 1.2 takes them for no breaks.
+/// Analyses a scalar's value. With `unicode` all printable characters may be written unescaped, else only those of ASCII;
+/// with `breaks12` U+2028 and U+2029 may not, since they aren't line breaks in YAML 1.2.
 pub fn analyze_scalar(value: &str, unicode: bool, breaks12: bool) -> scalar_data_t
     ensures { seen_data result ≡ spec.allowances (record { unicode = unicode; breaks12 = breaks12 }) (chars value.now) }
 {
@@ -77,7 +77,7 @@ pub fn analyze_scalar(value: &str, unicode: bool, breaks12: bool) -> scalar_data
 }
 
 /// Analyses a scalar's value as `analyze_scalar`, but `multiline` may be wrong if only double quotes fit:
-/// `select_scalar_style` chooses by either result alike.
+/// `select_scalar_style` chooses the same by either result.
 pub fn analyze_for_style(value: &str, unicode: bool, breaks12: bool) -> scalar_data_t
     ensures { ChooseAlike (seen_data result) (spec.allowances (record { unicode = unicode; breaks12 = breaks12 }) (chars value.now)) }
 {
@@ -85,7 +85,7 @@ pub fn analyze_for_style(value: &str, unicode: bool, breaks12: bool) -> scalar_d
     data_of(value, barred)
 }
 
-/// Returns what a value allows, by what its characters bar.
+/// Returns the styles that a value allows, by those that its characters bar.
 fn data_of(value: &str, barred: BarredStyles) -> scalar_data_t
     ensures { seen_data result ≡ allowed_by (seen_barred barred) (chars value.now) }
 {
@@ -107,7 +107,7 @@ fn ends_word(rest: &str) -> bool
     rest.chars().next().is_none_or(is_gap)
 }
 
-/// Returns whether a character can't stand as itself, so that only double quotes can write it.
+/// Returns whether a character can't be written unescaped, so that the value must be double-quoted.
 pub(crate) fn is_special(c: char, charset: CharacterSet) -> bool
     ensures { result ≡ spec.is_special (seen_charset charset) c }
 {
@@ -134,7 +134,7 @@ fn begins_like_marker(value: &str) -> bool
     }
 }
 
-/// Returns whether a value, which begins with `c` before `rest`, begins as no plain text may.
+/// Returns whether a value that is `c` and then `rest` begins as no plain text may.
 fn first_bars_plain(value: &str, c: char, rest: &str) -> bool
     ensures { result ≡ (class.is_space c || spec.begins_like_marker (chars value.now) || spec.is_indicator c
         || (class.is_among (codes "?:-") c && spec.ends_word (chars rest.now))) }
@@ -157,18 +157,18 @@ fn begins_unlike_plain(value: &str) -> bool
     }
 }
 
-/// Returns whether `:` stands before a gap or the end.
-fn is_key(c: char, rest: &str) -> bool
+/// Returns whether this is `:` before a gap or the end.
+fn is_value_indicator(c: char, rest: &str) -> bool
     ensures { result ≡ c == 58 && spec.ends_word (chars rest.now) }
 {
     c == ':' && ends_word(rest)
 }
 
-/// Returns whether `:` stands before a gap or the end, or a gap before `#`.
+/// Returns whether this is `:` before a gap or the end, or a gap before `#`.
 fn is_key_or_comment(c: char, rest: &str) -> bool
     ensures { result ≡ spec.is_key_or_comment c (chars rest.now) }
 {
-    is_key(c, rest) || (is_gap(c) && matches!(rest.chars().next(), Some('#')))
+    is_value_indicator(c, rest) || (is_gap(c) && matches!(rest.chars().next(), Some('#')))
 }
 
 /// Returns whether a space comes next.
@@ -181,7 +181,7 @@ pub(crate) fn begins_with_space(rest: &str) -> bool
     }
 }
 
-/// Returns whether no plain text holds this character before what follows it.
+/// Returns whether no plain text holds this character before the rest.
 fn bars_plain(c: char, rest: &str, charset: CharacterSet, context: Context) -> bool
     ensures { result ≡ spec.bars_plain (seen_charset charset) (is_flow context) c (chars rest.now) }
 {
@@ -192,7 +192,7 @@ fn bars_plain(c: char, rest: &str, charset: CharacterSet, context: Context) -> b
         || (matches!(context, Context::Flow) && is_flow_indicator(c))
 }
 
-/// Returns whether a space stands before a break.
+/// Returns whether this is a space before a break.
 fn is_trailing_space(c: char, rest: &str) -> bool
     ensures { result ≡ spec.is_trailing_space c (chars rest.now) }
 {
@@ -203,21 +203,21 @@ fn is_trailing_space(c: char, rest: &str) -> bool
         }
 }
 
-/// Returns whether no single-quoted text holds this character before what follows it.
+/// Returns whether no single-quoted text holds this character before the rest.
 fn bars_single_quoted(c: char, rest: &str, charset: CharacterSet) -> bool
     ensures { result ≡ spec.bars_single_quoted (seen_charset charset) c (chars rest.now) }
 {
     is_special(c, charset) || is_trailing_space(c, rest) || (is_break(c) && begins_with_space(rest))
 }
 
-/// Returns whether no block text holds this character before what follows it.
+/// Returns whether no block text holds this character before the rest.
 fn bars_block(c: char, rest: &str, charset: CharacterSet) -> bool
     ensures { result ≡ spec.bars_block (seen_charset charset) c (chars rest.now) }
 {
     is_special(c, charset) || is_trailing_space(c, rest) || (is_space(c) && is_at_end(rest))
 }
 
-/// Returns what was read, and the next character, seen with what follows it.
+/// Returns the styles barred so far, with those that the next character bars before the rest.
 #[inline(always)]
 fn with_next(barred: BarredStyles, c: char, rest: &str, charset: CharacterSet) -> BarredStyles
     ensures { seen_barred result ≡ either (seen_barred barred) (barred_by (seen_charset charset) c (chars rest.now)) }
@@ -229,7 +229,7 @@ fn with_next(barred: BarredStyles, c: char, rest: &str, charset: CharacterSet) -
         // Only plain text may not hold it.
         return BarredStyles {
             flow_plain: true,
-            block_plain: barred.block_plain | is_key(c, rest),
+            block_plain: barred.block_plain | is_value_indicator(c, rest),
             ..barred
         };
     }
@@ -253,7 +253,7 @@ fn significant_classes(charset: CharacterSet) -> u8
     }
 }
 
-/// Skips ordinary characters; returns the result, in which a space at their end counts, and the rest.
+/// Skips ordinary characters. Returns the result, in which a space at their end counts, and the rest.
 #[inline(always)]
 fn skip_quiet(barred: BarredStyles, text: &str, charset: CharacterSet) -> (BarredStyles, &str)
     ensures same { either (seen_barred barred) (barred_in (seen_charset charset) (chars text.now))
@@ -295,7 +295,7 @@ pub fn holds_break(text: &str) -> bool
     false
 }
 
-/// Returns what the characters of a value bar, as far as it was read, and the rest: none unless all is barred.
+/// Returns the styles that the characters of a value bar, as far as it was read, and the rest, which is empty unless all are barred.
 fn barred_before(value: &str, charset: CharacterSet) -> (BarredStyles, &str)
     ensures same { record (seen_barred result.0) { multiline = result.0.multiline || list_any class.is_break (chars result.1.now) }
         ≡ barred_in (seen_charset charset) (chars value.now) }
@@ -306,7 +306,7 @@ fn barred_before(value: &str, charset: CharacterSet) -> (BarredStyles, &str)
     while let Some(c) = chars.next() {
         let rest = chars.as_str();
         let more = with_next(barred, c, rest, charset);
-        // Where only double quotes are left the rest bars no more.
+        // If only double quotes are left, the rest bars no more.
         if more.flow_plain & more.block_plain & more.single_quoted & more.block {
             return (more, rest);
         }

@@ -8,9 +8,9 @@ use crate::escapes::{Escape, escape_of, needs_escape};
 use arrayvec::ArrayVec;
 use yaml_base::{is_ascii, is_space};
 
-/// The most bytes of a batch.
+/// The largest size of a batch in bytes.
 const MOST_BYTES: usize = 256;
-/// The bytes of the longest escape.
+/// The size of the longest escape in bytes.
 const LONGEST_ESCAPE: usize = 10;
 
 /// The texts of characters, one after another.
@@ -50,7 +50,7 @@ fn append_character(bytes: &mut BatchBytes, c: char, unicode: bool)
     }
 }
 
-/// Returns the next character, if it belongs to the batch and there is room for it, and what follows it.
+/// Returns the next character, if it belongs to the batch and the batch has room for it, and the rest.
 #[inline(always)]
 fn next_batched(text: &str, room: usize, unicode: bool) -> Option<(char, &str)>
     ensures fits { IfSome result (λ next. longest_escape ≤ room) }

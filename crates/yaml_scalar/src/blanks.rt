@@ -1,4 +1,4 @@
-//! The blanks that literal text takes where blanks are literal.
+//! The blanks in literal text, if blanks are literal.
 ghost use Rattle.std.specs.Prelude.{◌≡◌, ◌&&◌, not};
 ghost use Rattle.std.specs.Str.{chars};
 ghost use Rattle.yaml_base.specs.scalars.Analysis as spec;
@@ -7,9 +7,9 @@ ghost use Rattle.yaml_scalar.specs.ScalarData.{seen_charset};
 use crate::analysis::{CharacterSet, is_at_end, is_special};
 use yaml_base::{is_blank, is_break};
 
-/// Returns whether a value may be literal where blanks are literal: it isn't empty, its characters may stand as themselves or
-/// are tabs, and no nonempty line is of blanks alone. With `unicode` all printable characters may stand as themselves, else
-/// those of ASCII alone; with `breaks12` U+2028 and U+2029 may not.
+/// Returns whether a value may be literal if blanks are literal: it isn't empty, its characters may be written unescaped or
+/// are tabs, and no nonempty line is of blanks alone. With `unicode` all printable characters may be written unescaped, else
+/// only those of ASCII; with `breaks12` U+2028 and U+2029 may not.
 pub fn allows_literal(value: &str, unicode: bool, breaks12: bool) -> bool
     ensures { result ≡ spec.allows_literal (record { unicode = unicode; breaks12 = breaks12 }) (chars value.now) }
 {
@@ -17,7 +17,7 @@ pub fn allows_literal(value: &str, unicode: bool, breaks12: bool) -> bool
     !(is_at_end(value) || begins_with_blanks_alone(value) || is_barred(value, charset))
 }
 
-/// Returns whether nothing but blanks stands up to the end of the line.
+/// Returns whether a text has only blanks up to the end of the line.
 fn is_blank_to_line_end(text: &str) -> bool
     ensures { result ≡ spec.is_blank_to_line_end (chars text.now) }
 {
@@ -44,7 +44,7 @@ fn begins_with_blanks_alone(text: &str) -> bool
     }
 }
 
-/// Returns whether no literal text holds this character before what follows it.
+/// Returns whether no literal text holds this character before the rest.
 fn bars_literal(c: char, rest: &str, charset: CharacterSet) -> bool
     ensures { result ≡ spec.bars_literal (seen_charset charset) c (chars rest.now) }
 {

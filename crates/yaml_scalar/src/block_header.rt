@@ -29,13 +29,13 @@ enum Ending {
     MoreBreaks,
 }
 
-/// Writes the hints of a block scalar's header: the digit of the indent, 2 to 9, where the value begins
-/// with a blank or a break; `-` where the value doesn't end in a break, nothing where it ends in exactly
-/// one after another character, else `+`. Answers the open-ended state: 2 after `+`, else 0.
+/// Writes the hints of a block scalar's header: the digit of the indent, 2 to 9, if the value begins with a blank or a break;
+/// `-` if the value doesn't end in a break, nothing if it ends in exactly one break after another character, and `+` otherwise.
+/// Returns the open-ended state: 2 after `+`, else 0.
 ///
 /// # Errors
-/// `WriteError` where the output passes its limit, `Memory` where a growth was refused, else the pen's first
-/// error.
+///
+/// `WriteError` if the output passes its limit, `Memory` if it can't grow, or else the pen's first error.
 pub fn write_block_scalar_hints<A: Allocator>(
     pen: &mut Pen<A>,
     value: &str,
@@ -51,7 +51,7 @@ pub fn write_block_scalar_hints<A: Allocator>(
     Ok(open_ended(value))
 }
 
-/// Writes a header: a separating space where one is needed, the style's indicator, the hints and a break.
+/// Writes a header: a separating space if one is needed, the style's indicator, the hints and a break.
 pub(crate) fn write_header<A: Allocator>(
     pen: &mut Pen<A>,
     value: &str,
@@ -137,8 +137,8 @@ fn write_hint<A: Allocator>(pen: &mut Pen<A>, hint: u8) -> Result<(), yaml_error
     Ok(())
 }
 
-/// Returns whether a value begins with a blank or a break, so that a block scalar's first line doesn't show the indentation and
-/// its header has a digit.
+/// Returns whether a value begins with a blank or a break. The first line of a block scalar then doesn't show the indentation,
+/// and its header has a digit.
 pub fn begins_blank(value: &str) -> bool
     ensures { result ≡ layout.begins_blank (chars value.now) }
 {
@@ -148,7 +148,7 @@ pub fn begins_blank(value: &str) -> bool
     }
 }
 
-/// Returns how a value ends: not in a break, in exactly one break after another character, or otherwise.
+/// Returns the ending of a value: no break, exactly one break after another character, or any other.
 fn value_ending(value: &str) -> Ending
     ensures { seen_ending result ≡ layout.ending (chars value.now) }
 {

@@ -20,7 +20,7 @@ use std::alloc::Allocator;
 use yaml_base::{is_break, is_space, yaml_error_t};
 use yaml_pen::Pen;
 
-/// The place of a character: where a line begins, in a line that may be folded, or in one that may not.
+/// The place of a character: at the start of a line, in a line that may be folded, or in one that may not.
 #[derive(Clone, Copy)]
 pub(crate) enum Place {
     LineStart,
@@ -28,7 +28,7 @@ pub(crate) enum Place {
     Fixed,
 }
 
-/// The layout of the lines of a block scalar: each is written after `indent` spaces; a folded one is cut past `width`, unless it
+/// The layout of the lines of a block scalar: each is written after `indent` spaces; a folded line is cut past `width`, unless it
 /// begins with a space.
 #[derive(Clone, Copy)]
 pub(crate) struct BlockLines {
@@ -53,7 +53,7 @@ pub(crate) fn write_lines<A: Allocator>(
         let rest = characters.as_str();
         write_step(pen, lines, place, character, rest)?;
         place = place_after(lines.style, place, character);
-        let run = run_after(character, rest, place, lines);
+        let run = leading_verbatim_run(character, rest, place, lines);
         let (prefix, after) = rest.split_at(run.length);
         pen.write_run(prefix)?;
         characters = after.chars();
@@ -118,7 +118,7 @@ fn write_fold<A: Allocator>(pen: &mut Pen<A>, indent: i32) -> Result<(), yaml_er
     Ok(())
 }
 
-/// Returns where the next character stands.
+/// Returns the place of the next character.
 fn place_after(style: BlockStyle, place: Place, character: char) -> Place
     ensures { result ≡ step.place_after (is_folded style) place character }
 {
@@ -136,9 +136,9 @@ fn place_after(style: BlockStyle, place: Place, character: char) -> Place
     }
 }
 
-/// Returns the run that follows a character, seen from where it stands: none where a line begins; a space ends it where it may
-/// become a fold.
-fn run_after(character: char, rest: &str, place: Place, lines: BlockLines) -> Run
+/// Returns the run after a character, by its place: none at the start of a line; a space ends it if it may become a
+/// fold.
+fn leading_verbatim_run(character: char, rest: &str, place: Place, lines: BlockLines) -> Run
     ensures { IsRun (step.stays_at (limit_of lines.width) place) character rest.now result.length result.last }
 {
     match place {
@@ -170,7 +170,7 @@ fn folds<A: Allocator>(pen: &Pen<A>, width: i32, character: char, rest: &str) ->
     is_space(character) && !begins_with_space(rest) && may_fold_here(pen, true, width)
 }
 
-/// Returns whether the next line, past the breaks that come first, begins without a space.
+/// Returns whether the next line, after the breaks that come first, begins without a space.
 fn next_line_unindented(rest: &str) -> bool
     ensures { result ≡ layout.next_line_unindented (parts (chars rest.now)) }
 {
@@ -183,7 +183,7 @@ fn next_line_unindented(rest: &str) -> bool
     false
 }
 
-/// Returns whether a LF would be folded, so that it is written twice.
+/// Returns whether a LF would be folded, and so is written twice.
 fn is_doubled(place: Place, character: char, rest: &str) -> bool
     ensures { result ≡ step.is_doubled place character (chars rest.now) }
 {

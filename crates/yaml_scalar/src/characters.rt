@@ -13,7 +13,7 @@ pub(crate) fn is_gap(c: char) -> bool
     is_blank(c) || is_break(c) || c == '\0'
 }
 
-/// Returns whether a first character means something else than plain text.
+/// Returns whether no plain text begins with this character, or only with certain characters after it.
 pub(crate) fn is_indicator(c: char) -> bool
     ensures { result ≡ spec.is_indicator c }
 {
@@ -37,7 +37,7 @@ pub(crate) fn is_indicator(c: char) -> bool
     )
 }
 
-/// Returns whether a character is one of those that no plain text in flow holds.
+/// Returns whether no plain text in flow holds this character.
 pub(crate) fn is_flow_indicator(c: char) -> bool
     ensures { result ≡ class.is_among (codes ",?:[]{}") c }
 {

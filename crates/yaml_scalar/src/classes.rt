@@ -5,22 +5,22 @@ ghost use Rattle.std.specs.Str.{chars};
 ghost use Rattle.yaml_scalar.specs.ByteClasses.{IsFreeRun, is_free};
 ghost use Rattle.yaml_base.specs.Tags.{last_from};
 
-/// LF, CR, and the bytes that U+0085, U+2028 and U+2029 begin with.
+/// LF, CR, and the first bytes of U+0085, U+2028 and U+2029.
 pub(crate) const BREAK: u8 = 1;
 /// The space.
 pub(crate) const SPACE: u8 = 2;
 /// The indicator `'`.
 pub(crate) const APOSTROPHE: u8 = 4;
-/// The control characters but LF, and the bytes that other unprintable characters begin with.
+/// The control characters but LF, and the first bytes of other unprintable characters.
 pub(crate) const UNPRINTABLE: u8 = 8;
-/// The bytes that characters past ASCII begin with.
+/// The first bytes of characters beyond ASCII.
 pub(crate) const WIDE: u8 = 16;
 /// The indicators that may end a plain scalar: `#`, `:` and those of flow collections.
 pub(crate) const INDICATOR: u8 = 32;
 /// The quote and the backslash.
 pub(crate) const ESCAPED: u8 = 64;
 
-// The classes of each byte, as a sum of the numbers above. A byte that goes on with a character is of none.
+// The classes of each byte, as a sum of the numbers above. A byte that continues a character is of none.
 #[rattlefmt::skip]
 static CLASSES: [u8; 256] = [
      8,  8,  8,  8,  8,  8,  8,  8,  8,  8,  1,  8,  8,  9,  8,  8,
@@ -48,7 +48,7 @@ pub(crate) fn is_free(byte: u8, classes: u8) -> bool
     CLASSES[byte as usize] & classes == 0
 }
 
-/// Returns the length of a prefix, four bytes after four, none of whose bytes is of these classes.
+/// Returns the length of a prefix whose bytes, taken four at a time, are of none of these classes.
 #[inline(always)]
 fn free_length_by_fours(bytes: &[u8], classes: u8) -> usize
     ensures within { result ≤ length bytes.now }
@@ -56,7 +56,7 @@ fn free_length_by_fours(bytes: &[u8], classes: u8) -> usize
 {
     let mut size = 0;
     while bytes.len() - size >= 4 {
-        // One branch tells it of all four.
+        // One branch tests all four.
         let free = is_free(bytes[size], classes)
             & is_free(bytes[size + 1], classes)
             & is_free(bytes[size + 2], classes)
@@ -82,7 +82,7 @@ pub(crate) fn free_length(text: &str, classes: u8) -> usize
     length
 }
 
-/// Returns the last character of a text, or the one before it where it is empty.
+/// Returns the last character of a text, or the one before the text if it is empty.
 pub(crate) fn last_of(before: char, text: &str) -> char
     ensures { result ≡ last_from before (chars text.now) }
 {

@@ -1,11 +1,11 @@
-//! Texts of ASCII without control characters, known by vectors that cover them.
+//! Texts of ASCII without control characters, recognised by vectors that cover them.
 ghost use Rattle.std.specs.Prelude.{◌≡◌, ◌+◌, ◌≤◌, length, map, true};
 ghost use Rattle.std.specs.Simd.Lanes.{mask_l};
 ghost use Rattle.yaml_scalar.specs.CleanBytes.{IsClean, is_unclean};
 
 use std::simd::prelude::*;
 
-/// Returns the bytes of a vector that are control characters or past ASCII. With the top bit flipped, they are those below 0xA0.
+/// Returns the bytes of a vector that are control characters or beyond ASCII. With the top bit flipped, they are those below 0xA0.
 fn unclean<const N: usize>(bytes: Simd<u8, N>) -> u64
     requires { N ≤ 64 }
     ensures { result ≡ mask_l (map is_unclean bytes.entry) }
@@ -15,7 +15,7 @@ fn unclean<const N: usize>(bytes: Simd<u8, N>) -> u64
         .to_bitmask()
 }
 
-/// Returns whether all bytes are clean, where the first and the last ones, a vector each, are all of them.
+/// Returns whether all bytes are clean, if the first and the last `N` of them are all.
 fn are_ends_clean<const N: usize>(bytes: &[u8]) -> bool
     requires lanes { N ≤ 64 }
     requires covers { (N ≤ length bytes.now) × (length bytes.now ≤ N + N) }
@@ -26,7 +26,7 @@ fn are_ends_clean<const N: usize>(bytes: &[u8]) -> bool
         & (unclean::<N>(Simd::from_slice(&bytes[last..])) == 0)
 }
 
-/// Returns whether all bytes are clean, of which there are sixteen or more.
+/// Returns whether all bytes are clean; there are sixteen or more.
 fn are_many_clean(bytes: &[u8]) -> bool
     requires { 16 ≤ length bytes.now }
     ensures { result ≡ true → IsClean bytes.now }
@@ -42,7 +42,7 @@ fn are_many_clean(bytes: &[u8]) -> bool
     unclean(u8x16::from_slice(&bytes[last..])) == 0
 }
 
-/// Returns whether a text is known to hold neither a control character nor one past ASCII. It isn't known of the shortest texts.
+/// Returns whether a text is known to hold no control character and none beyond ASCII. Nothing is known of the shortest texts.
 pub(crate) fn is_clean_ascii(text: &str) -> bool
     ensures { result ≡ true → IsClean text.now }
 {

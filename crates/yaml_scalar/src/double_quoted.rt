@@ -24,7 +24,7 @@ use std::alloc::Allocator;
 use yaml_base::{is_space, yaml_error_t};
 use yaml_pen::{Indicator, Pen};
 
-/// The settings by which a double-quoted scalar is rendered.
+/// The settings of a double-quoted scalar.
 #[derive(Clone, Copy)]
 struct Quoting {
     allow_breaks: bool,
@@ -33,16 +33,15 @@ struct Quoting {
     width: i32,
 }
 
-/// Writes a scalar between double quotes (YAML 1.1, section 9.1.1), after a space where none stands there.
+/// Writes a scalar between double quotes (YAML 1.1, section 9.1.1), after a space if none precedes it.
 ///
-/// Escaped are unprintable characters, breaks, the quote and the backslash, and where `unicode` is off all
-/// past ASCII. Where `allow_breaks` is on and the column is past `width` (in characters, `i32::MAX` for
-/// none), the first space of a run becomes a line break and `indent` spaces, unless it is the value's first
-/// character or its last.
+/// Unprintable characters, breaks, the quote and the backslash are escaped, and with `unicode` off all characters beyond ASCII.
+/// If `allow_breaks` is on and the column is past `width` (in characters, `i32::MAX` for no limit), the first space of a run
+/// becomes a line break and `indent` spaces, unless it is the value's first or last character. `indent` is at least 2.
 ///
 /// # Errors
-/// `WriteError` where the output passes its limit, `Memory` where a growth was refused, else the pen's first
-/// error.
+///
+/// `WriteError` if the output passes its limit, `Memory` if it can't grow, or else the pen's first error.
 pub fn write_double_quoted_scalar<A: Allocator>(
     pen: &mut Pen<A>,
     value: &str,
@@ -122,7 +121,7 @@ fn folds<A: Allocator>(
     is_space(c) && may_fold(before, rest) && may_fold_here(pen, quoting.allow_breaks, quoting.width)
 }
 
-/// Writes a backslash where a space follows a fold, which would be lost otherwise.
+/// Writes a backslash if a space follows a fold: the space would be lost otherwise.
 fn write_backslash_before_space<A: Allocator>(
     pen: &mut Pen<A>,
     rest: &str,
@@ -146,7 +145,7 @@ fn write_fold<A: Allocator>(pen: &mut Pen<A>, rest: &str, indent: i32) -> Result
     write_backslash_before_space(pen, rest)
 }
 
-/// Writes one character of the value, after another or at its start, before the rest.
+/// Writes one character of the value, after `before`, or at the start if that is `None`.
 fn write_next<A: Allocator>(
     pen: &mut Pen<A>,
     before: Option<char>,
@@ -166,7 +165,7 @@ fn write_next<A: Allocator>(
     }
 }
 
-/// Returns the classes of bytes that end a run: those of what is escaped, and the space where it may become a fold.
+/// Returns the classes of bytes that end a run: those of escaped characters, and the space if it may become a fold.
 fn ending_classes(unicode: bool, folds: bool) -> u8
     ensures { ImpliesTest result (stays_where unicode folds) }
 {
@@ -180,7 +179,7 @@ fn ending_classes(unicode: bool, folds: bool) -> u8
     }
 }
 
-/// Returns the classes of bytes that end a run where all characters past ASCII are escaped.
+/// Returns the classes of bytes that end a run if all characters beyond ASCII are escaped.
 fn ascii_ending_classes(folds: bool) -> u8
     ensures { ImpliesTest result (stays_where false folds) }
 {
@@ -191,15 +190,15 @@ fn ascii_ending_classes(folds: bool) -> u8
     }
 }
 
-/// Returns the run of a text up to the first character that isn't written as itself. A space ends it where folds are allowed.
-fn run_after(before: char, text: &str, quoting: Quoting) -> Run
+/// Returns the run of a text up to the first character that isn't written as itself. A space ends it if folds are allowed.
+fn leading_verbatim_run(before: char, text: &str, quoting: Quoting) -> Run
     ensures { IsRun (stays quoting.unicode (limit_where quoting.allow_breaks quoting.width)) before text.now result.length result.last }
 {
     let folds = has_limit_where(quoting.allow_breaks, quoting.width);
     run_up_to(before, text, ending_classes(quoting.unicode, folds))
 }
 
-/// Writes what stands between the quotes.
+/// Writes the text between the quotes.
 fn write_value<A: Allocator>(
     pen: &mut Pen<A>,
     value: &str,
@@ -210,7 +209,7 @@ fn write_value<A: Allocator>(
     ensures { Wrote (spec.double_inside quoting.unicode (limit_where quoting.allow_breaks quoting.width) (natural quoting.indent) None (chars value.now))
         pen.old pen.new result }
 {
-    // A short value stands as it is, wherever its line ends.
+    // A short value is written as it is, wherever its line ends.
     let folds = has_limit_where(quoting.allow_breaks, quoting.width);
     if is_short_run(value, ascii_ending_classes(folds)) {
         write_short_run(pen, value)
@@ -251,7 +250,7 @@ fn write_next_escapes<'a, A: Allocator>(
     Ok(next)
 }
 
-/// Writes what stands between the quotes: in turn a character, the run after it, and escapes with what is between them.
+/// Writes the text between the quotes: in turn a character, the run after it, and a batch that begins with an escape.
 fn write_inside<A: Allocator>(
     pen: &mut Pen<A>,
     value: &str,
@@ -267,7 +266,7 @@ fn write_inside<A: Allocator>(
     while let Some(c) = chars.next() {
         let rest = chars.as_str();
         write_next(pen, before, c, rest, quoting)?;
-        let run = run_after(c, rest, quoting);
+        let run = leading_verbatim_run(c, rest, quoting);
         let (prefix, after) = rest.split_at(run.length);
         pen.write_run(prefix)?;
         let (last, left) = write_next_escapes(pen, run.last, after, quoting.unicode)?;

@@ -7,7 +7,7 @@ ghost use Rattle.yaml_scalar.specs.EscapeBytes.{escape_bytes};
 use crate::classes::{BREAK, ESCAPED, UNPRINTABLE, is_free};
 use yaml_base::{hex_digit, is_ascii, is_break, is_printable};
 
-/// An escape, by how many characters it has, all of ASCII.
+/// An escape by its number of characters, all of ASCII.
 #[derive(Clone, Copy)]
 pub(crate) enum Escape {
     /// A backslash and a letter.
@@ -20,7 +20,7 @@ pub(crate) enum Escape {
     Eight([u8; 10]),
 }
 
-/// Returns whether a character is unprintable, past ASCII where that isn't kept, a break, the quote or the backslash.
+/// Returns whether a character is unprintable, beyond ASCII with `unicode` off, a break, the quote or the backslash.
 pub(crate) fn needs_escape(c: char, unicode: bool) -> bool
     ensures { result ≡ spec.needs_escape unicode c }
 {
@@ -39,7 +39,7 @@ fn is_escaped_byte(byte: u8) -> bool
     !is_free(byte, BREAK | UNPRINTABLE | ESCAPED)
 }
 
-/// Returns a backslash, and a letter where there is one for the character, else its number.
+/// Returns a backslash and the letter of the character if it has one, else its number.
 #[inline(always)]
 pub(crate) fn escape_of(c: char) -> Escape
     ensures { escape_bytes result ≡ spec.escape_text c }

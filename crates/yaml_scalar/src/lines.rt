@@ -21,7 +21,7 @@ use std::alloc::Allocator;
 use yaml_base::{is_break, is_space, yaml_error_t};
 use yaml_pen::Pen;
 
-/// The kind of character that a run is made of.
+/// The kind of the characters of a run.
 #[derive(Clone, Copy)]
 pub(crate) enum CharacterKind {
     Space,
@@ -29,15 +29,15 @@ pub(crate) enum CharacterKind {
     Other,
 }
 
-/// The facts that are known of a value before it is written: none, or that it is simple ASCII.
+/// The facts known of a value before it is written: none, or that it is simple ASCII.
 #[derive(Clone, Copy)]
 pub(crate) enum Known {
     Nothing,
     SimpleAscii,
 }
 
-/// The rules by which lines are rendered: between quotes each `'` is written twice; a fold may stand where breaks are allowed
-/// and the column is past the width; later lines are indented. What is known of the value spares a look at it.
+/// The rules of lines: between quotes each `'` is written twice; a fold is possible if breaks are allowed and the column is
+/// past the width; later lines are indented. A known fact about the value saves a look at it.
 #[derive(Clone, Copy)]
 pub(crate) struct Lines {
     pub(crate) quoted: bool,
@@ -101,8 +101,7 @@ fn write_extra_break<A: Allocator>(pen: &mut Pen<A>, needed: bool) -> Result<(),
     }
 }
 
-// A break of a run, LF before it where it is to be written twice, and behind the run's last one the
-// indentation.
+// A break of a run, after an extra LF if it is to be written twice, and before the indentation if it is the run's last.
 fn write_line_break<A: Allocator>(
     pen: &mut Pen<A>,
     character: char,
@@ -124,7 +123,7 @@ fn write_line_break<A: Allocator>(
     }
 }
 
-/// Writes a character that is no break, a `'` twice between single quotes.
+/// Writes a character that is no break; a `'` twice between single quotes.
 fn write_other<A: Allocator>(
     pen: &mut Pen<A>,
     character: char,
@@ -185,7 +184,7 @@ fn write_step<A: Allocator>(
     }
 }
 
-/// Returns how many columns follow before one that is past the width, if any.
+/// Returns the number of columns that are left before one past the width, if there is a width.
 fn line_room<A: Allocator>(pen: &Pen<A>, lines: Lines) -> usize
     ensures { 0 < result → HasRoom (limit_where lines.allow_breaks lines.width) pen.now.cursor.column result }
 {
@@ -198,9 +197,14 @@ fn line_room<A: Allocator>(pen: &Pen<A>, lines: Lines) -> usize
     }
 }
 
-// Returns the run that follows a character: to the next space where no column is left, else as many bytes at most as
-// columns are. A `'` ends it where it is doubled.
-fn run_after<A: Allocator>(pen: &Pen<A>, character: char, rest: &str, lines: Lines) -> Run
+// Returns the run after a character: up to the next space if no column is left, else at most as many bytes as there are
+// columns. A `'` ends it if it is doubled.
+fn leading_verbatim_run<A: Allocator>(
+    pen: &Pen<A>,
+    character: char,
+    rest: &str,
+    lines: Lines,
+) -> Run
     ensures { IsLineRun (limit_where lines.allow_breaks lines.width) lines.quoted pen.now.cursor character rest.now result.length result.last }
 {
     let room = line_room(pen, lines);
@@ -220,7 +224,7 @@ fn run_after<A: Allocator>(pen: &Pen<A>, character: char, rest: &str, lines: Lin
     }
 }
 
-/// Writes the lines of a value, the flags of the cursor left as they are. A short line stands as it is.
+/// Writes the lines of a value; the flags of the cursor stay. A short line is written as it is.
 #[inline(always)]
 pub(crate) fn write_lines<A: Allocator>(
     pen: &mut Pen<A>,
@@ -238,7 +242,7 @@ pub(crate) fn write_lines<A: Allocator>(
     match lines.known {
         Known::SimpleAscii => write_short_run(pen, value),
         Known::Nothing => {
-            // An empty value isn't taken for short: it fits even where no column is left.
+            // An empty value doesn't count as short: it fits even if no column is left.
             let short = !value.is_empty() & is_short_run(value, short_classes(lines.quoted));
             if short {
                 write_short_run(pen, value)
@@ -249,20 +253,20 @@ pub(crate) fn write_lines<A: Allocator>(
     }
 }
 
-/// Writes the lines of a value run by run, the flags of the cursor left as they are.
+/// Writes the lines of a value run by run; the flags of the cursor stay.
 fn write_runs<A: Allocator>(pen: &mut Pen<A>, value: &str, lines: Lines) -> Result<(), yaml_error_t>
     requires { IsReady pen.old }
     ensures { Wrote (layout.render_runs (steps.written_as lines.quoted) (limit_where lines.allow_breaks lines.width) lines.indent true
         (layout.runs (chars value.now))) pen.old pen.new result }
 {
-    let first = run_after(pen, ' ', value, lines);
+    let first = leading_verbatim_run(pen, ' ', value, lines);
     let (prefix, rest) = value.split_at(first.length);
     pen.write_run(prefix)?;
     let before = kind_of(first.last);
     write_from(pen, before, rest, lines)
 }
 
-/// Writes what follows a character of a kind: a character, and the run that follows it, in turn.
+/// Writes the rest after a character of a kind: a character and the run after it, in turn.
 fn write_from<A: Allocator>(
     pen: &mut Pen<A>,
     start: CharacterKind,
@@ -278,7 +282,7 @@ fn write_from<A: Allocator>(
     while let Some(character) = characters.next() {
         let rest = characters.as_str();
         write_step(pen, lines, before, character, rest)?;
-        let run = run_after(pen, character, rest, lines);
+        let run = leading_verbatim_run(pen, character, rest, lines);
         let (prefix, after) = rest.split_at(run.length);
         pen.write_run(prefix)?;
         before = kind_of(run.last);

@@ -16,13 +16,13 @@ use std::alloc::Allocator;
 use yaml_base::yaml_error_t;
 use yaml_pen::Pen;
 
-/// Writes a literal scalar (YAML 1.1, section 9.3.1), a space before it where one is needed: the header, then
-/// each nonempty line after `indent` spaces. `best_indent` is what the header's digit says. Returns the
-/// open-ended state: 2 where the header keeps all final breaks, else 0.
+/// Writes a literal scalar (YAML 1.1, section 9.3.1), after a space if one is needed: the header, then each nonempty line after
+/// `indent` spaces. `best_indent` is the header's digit. Returns the open-ended state: 2 if the header keeps all final breaks,
+/// else 0.
 ///
 /// # Errors
-/// `WriteError` where the output passes its limit, `Memory` where a growth was refused, else the pen's first
-/// error.
+///
+/// `WriteError` if the output passes its limit, `Memory` if it can't grow, or else the pen's first error.
 pub fn write_literal_scalar<A: Allocator>(
     pen: &mut Pen<A>,
     value: &str,

@@ -16,13 +16,13 @@ use std::alloc::Allocator;
 use yaml_base::yaml_error_t;
 use yaml_pen::Pen;
 
-/// Writes a plain scalar (YAML 1.1, section 9.1.3), a space before it where one is needed: an empty value
-/// needs one only in a flow collection. Where breaks are allowed a lone space past the width, a column
-/// counted in characters, becomes a break and the indentation; `i32::MAX` is no width.
+/// Writes a plain scalar (YAML 1.1, section 9.1.3), after a space if one is needed: an empty value needs one only in a flow
+/// collection. If breaks are allowed, a lone space past the width, a column in characters, becomes a break and the indentation;
+/// `i32::MAX` means no width.
 ///
 /// # Errors
-/// `WriteError` where the output passes its limit, `Memory` where a growth was refused, else the pen's first
-/// error.
+///
+/// `WriteError` if the output passes its limit, `Memory` if it can't grow, or else the pen's first error.
 pub fn write_plain_scalar<A: Allocator>(
     pen: &mut Pen<A>,
     value: &str,
@@ -52,7 +52,7 @@ pub fn write_plain_scalar<A: Allocator>(
     )
 }
 
-/// Writes a plain scalar after the space before it, where there is one.
+/// Writes a plain scalar after the space before it, if there is one.
 #[inline(always)]
 pub(crate) fn write_body<A: Allocator>(
     pen: &mut Pen<A>,

@@ -6,7 +6,7 @@ ghost use Rattle.yaml_scalar.specs.WholeRuns.{IsRun, stays_in_line};
 
 use crate::classes::{APOSTROPHE, BREAK, SPACE, WIDE, free_length, last_of};
 
-/// The run that follows a character: its bytes, and the last character up to its end.
+/// The run after a character: its bytes, and the last character up to its end.
 #[derive(Clone, Copy)]
 pub(crate) struct Run {
     pub(crate) length: usize,
@@ -32,8 +32,8 @@ pub(crate) fn ending_classes(ends: RunEnds) -> u8
     }
 }
 
-/// Returns the classes of bytes that a short line doesn't hold: those of breaks, of what is past ASCII, and of a `'` where it is
-/// doubled.
+/// Returns the classes of bytes that a short line doesn't hold: those of breaks, of characters beyond ASCII, and of `'` if it
+/// is doubled.
 pub(crate) fn short_classes(quote: bool) -> u8
     ensures plain { ImpliesTest result is_unbroken_ascii }
     ensures line { ImpliesTest result (stays_in_line false quote) }
@@ -45,7 +45,7 @@ pub(crate) fn short_classes(quote: bool) -> u8
     }
 }
 
-/// Returns the run up to the first byte of some classes, which may end it early.
+/// Returns the run up to the first byte of some classes; it may end earlier.
 pub(crate) fn run_up_to(before: char, text: &str, classes: u8) -> Run
     ensures { (test : ℕ → Bool) → ImpliesTest classes test → IsRun test before text.now result.length result.last }
 {
@@ -57,7 +57,7 @@ pub(crate) fn run_up_to(before: char, text: &str, classes: u8) -> Run
     }
 }
 
-/// Returns the run of a text up to what ends it.
+/// Returns the run of a text up to the first character that ends it.
 pub(crate) fn line_run_after(before: char, text: &str, ends: RunEnds) -> Run
     ensures { IsRun (stays_in_line ends.space ends.quote) before text.now result.length result.last }
 {

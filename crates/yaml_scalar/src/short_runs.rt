@@ -13,10 +13,10 @@ use std::alloc::Allocator;
 use yaml_base::yaml_error_t;
 use yaml_pen::Pen;
 
-/// The most bytes of a short text.
+/// The largest size of a short text in bytes.
 const MOST_BYTES: usize = 512;
 
-/// Returns whether a text is short and holds no byte of these classes, which are those of what isn't ASCII and more.
+/// Returns whether a text is short and holds no byte of these classes, which include those of all bytes beyond ASCII.
 #[inline(always)]
 pub(crate) fn is_short_run(text: &str, classes: u8) -> bool
     ensures value { result ≡ (nat_le (length text.now) most_short && list_all (is_free classes) text.now) }

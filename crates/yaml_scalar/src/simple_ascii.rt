@@ -1,5 +1,5 @@
-//! Simple ASCII scalars: short texts of one line that every style may hold, of which no character needs a look at what
-//! follows it.
+//! Simple ASCII scalars: short texts of one line that every style may hold, and none of whose characters depends on the one
+//! after it.
 ghost use Rattle.std.specs.Prelude.{◌≡◌, pos, ◌≤ℤ◌, Bool, true, false};
 ghost use Rattle.std.specs.Str.{chars};
 ghost use Rattle.yaml_base.specs.scalars.Plain.{render_plain};
@@ -20,8 +20,8 @@ use yaml_pen::Pen;
 /// The classes of bytes that no simple ASCII text holds.
 const NOT_SIMPLE_ASCII: u8 = BREAK | UNPRINTABLE | INDICATOR | WIDE;
 
-/// Returns whether a text is simple ASCII: at most 512 bytes of ASCII, a letter or a digit first and no space last, without
-/// a break, a control character, `#`, `:`, `?` and the flow indicators. Every style may hold such a text.
+/// Returns whether a text is simple ASCII: at most 512 bytes of ASCII, first a letter or a digit, last no space, without a
+/// break, a control character, `#`, `:`, `?` and the flow indicators. Every style may hold such a text.
 #[inline(always)]
 pub fn is_simple_ascii(text: &str) -> bool
     ensures value { result ≡ is_simple_ascii text.now }
@@ -37,12 +37,12 @@ pub fn is_simple_ascii(text: &str) -> bool
     }
 }
 
-/// Writes a simple ASCII text as a plain scalar: as `write_plain_scalar` does, in flow or not, without looking at its
-/// characters again where it fits the line.
+/// Writes a simple ASCII text as a plain scalar, as `write_plain_scalar` does in flow or not, but without looking at its
+/// characters again if it fits the line. The text must be simple ASCII.
 ///
 /// # Errors
-/// `WriteError` where the output passes its limit, `Memory` where a growth was refused, else the pen's first
-/// error.
+///
+/// `WriteError` if the output passes its limit, `Memory` if it can't grow, or else the pen's first error.
 pub fn write_simple_ascii_scalar<A: Allocator>(
     pen: &mut Pen<A>,
     value: &str,

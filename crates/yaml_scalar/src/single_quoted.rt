@@ -14,14 +14,14 @@ use std::alloc::Allocator;
 use yaml_base::yaml_error_t;
 use yaml_pen::{Indicator, Pen};
 
-/// Writes a scalar between single quotes (YAML 1.1, section 9.1.2), a space before it where one is needed.
-/// Each `'` is doubled, and so is LF that begins a run of breaks; behind a run stands the indentation.
-/// Where breaks are allowed a lone space past the width, a column counted in characters, becomes a break
-/// and the indentation, unless it is the value's first or last character; `i32::MAX` is no width.
+/// Writes a scalar between single quotes (YAML 1.1, section 9.1.2), after a space if one is needed. Each `'` is doubled, and so
+/// is LF that begins a run of breaks; after a run of breaks comes the indentation. If breaks are allowed, a lone space past the
+/// width, a column in characters, becomes a break and the indentation, unless it is the value's first or last character;
+/// `i32::MAX` means no width.
 ///
 /// # Errors
-/// `WriteError` where the output passes its limit, `Memory` where a growth was refused, else the pen's first
-/// error.
+///
+/// `WriteError` if the output passes its limit, `Memory` if it can't grow, or else the pen's first error.
 pub fn write_single_quoted_scalar<A: Allocator>(
     pen: &mut Pen<A>,
     value: &str,

@@ -1,4 +1,4 @@
-//! The style that is chosen for a scalar, and whether the bare tag `!` is written.
+//! The choice of a scalar's style, and whether the bare tag `!` is written.
 ghost use Rattle.std.specs.Prelude.{◌≡◌, MatchResult, true, false, ◌||◌, ◌&&◌};
 ghost use Rattle.yaml_base.specs.Seen.{seen_scalar_style};
 ghost use Rattle.yaml_base.specs.scalars.Style as spec;
@@ -11,22 +11,23 @@ use yaml_base::{
     yaml_error_t, yaml_scalar_style_t,
 };
 
-/// The place where a scalar stands.
+/// The context of a scalar.
 #[derive(Clone, Copy)]
 struct Context {
     flow: bool,
     simple_key: bool,
 }
 
-/// Chooses a scalar's style, and whether the bare tag `!` stands before it.
+/// Chooses a scalar's style, and whether the bare tag `!` precedes it.
 ///
-/// `allowed` is the analysis of the value and `empty` says that the value is; `tag_written` says that a tag
-/// is written, and the two flags are the event's; `flow` and `simple_key` tell where the scalar stands.
-/// Any becomes plain; canonical, and a simple key that holds a break, need double quotes; plain gives way
-/// to single quotes, and these and the block styles to double quotes, where they can't stand.
+/// `allowed` is the analysis of the value, and `empty` says that the value is empty; `tag_written` says that a tag is written,
+/// and the two flags are the event's; `flow` and `simple_key` say whether the scalar is in flow and whether it is a simple key.
+/// Any becomes plain; canonical mode, and a simple key that holds a break, need double quotes; plain gives way to single quotes,
+/// and these and the block styles to double quotes, if they aren't possible.
 ///
 /// # Errors
-/// `NoTagNorImplicit` where no tag is written and both flags are off.
+///
+/// `NoTagNorImplicit` if no tag is written and both flags are off.
 pub fn select_scalar_style(
     style: yaml_scalar_style_t,
     allowed: &scalar_data_t,
@@ -60,7 +61,7 @@ pub fn select_scalar_style(
 }
 
 /// Returns whether plain fits: the value allows it in its context and isn't empty in flow or as a simple key, and a tag or the
-/// flag distinguishes the scalar from a quoted one.
+/// flag tells the scalar from a quoted one.
 fn fits_plain(
     allowed: &scalar_data_t,
     empty: bool,

@@ -1,4 +1,4 @@
--- What a writer of literal or folded scalars wrote reads back.
+-- The text of a literal or folded scalar reads back.
 use Rattle.yaml_scalar.proofs.Common.{ℕ, ◌≤◌, Option, Ok, negsuc, pos, ℤ, ◌≤ℤ◌, true, ◌≡◌, arith, ints, Text, read_block, Charset, allows_block, allows_literal}
 use Rattle.yaml_scalar.proofs.Common.{Encloses, folded_body, render_folded, literal_body, render_literal, Page, natural, Wrote, ReadsBack, Cursor, Rendered, ap}
 use Rattle.yaml_scalar.proofs.Common.{Result, Err, subst, sym, ◌∙◌}
@@ -7,7 +7,7 @@ use Rattle.yaml_base.specs.declared.errors.yaml_error_t.{yaml_error_t}
 use Rattle.yaml_scalar.specs.BlockCode.{without_open_ended}
 use Rattle.yaml_scalar.proofs.{LinesReadBack.two_or_more, LinesReadBack.body_back, blocks.BlockLines.literal-kept, blocks.BlockLines.folded-kept}
 
--- the exit of a `?` tells the error of the call that failed, also where an answer holds the open-ended state
+-- the exit of a `?` gives the error of the call that failed, also if an answer holds the open-ended state
 pub block_exit : {render : Cursor → Rendered} {before after : Page} {error : yaml_error_t} (answer : Result ℤ yaml_error_t)
     → IsErr answer × IsErrAnd answer (λ returned. returned ≡ error) → Wrote render before after (Err error)
     → Wrote render before after (without_open_ended answer)

@@ -6,7 +6,7 @@ use Rattle.yaml_scalar.proofs.Common.{ending, Part, line, line_break, begun, par
 use Rattle.yaml_base.specs.reading.ReadBlock.{fold_read, Chomping, strip, clip, keep}
 use Rattle.yaml_scalar.proofs.blocks.BlockParts.{bare}
 
--- where there is no content, nothing is kept
+-- without content nothing is kept
 kept-none : (es : List Element) → has_content es ≡ false → kept_lines es ≡ []
 kept-none [] h = refl
 kept-none (content text ∷ rest) h = cc h
@@ -28,7 +28,7 @@ fold-kept (content text ∷ rest) = refl
 fold-kept (line_end b ∷ rest) =
     elim (cases_Bool (has_content rest)) [ inl some ↦ rw some refl | inr none ↦ rw none refl ]
 
--- what a line's end reads as
+-- the text as which a line's end reads
 abbrev break_read : Bool → ℕ → List Element → Text
 break_read after_even b rest = if after_even && b == line_feed && next_content_unindented rest then fold_read rest else b ∷ []
 
@@ -36,7 +36,7 @@ break-none : (after_even : Bool) (b : ℕ) (rest : List Element) → next_conten
 break-none true b rest h = grind (arith)
 break-none false b rest h = refl
 
--- literal: what is kept and the final breaks make up all
+-- literal: the kept text and the final breaks make up all
 pub joined-kept : (es : List Element) → joined (kept_lines es) ++ final_ends es ≡ joined es
 joined-kept [] = refl
 joined-kept (content text ∷ rest) = append_assoc text (joined (kept_lines rest)) (final_ends rest) ∙ ap (λ t. text ++ t) (joined-kept rest)
@@ -49,7 +49,7 @@ unfolded-kept after_even (content text ∷ rest) = grind (arith, append_assoc, u
 unfolded-kept after_even (line_end b ∷ rest) =
     grind (arith, cases_Bool, even-kept, fold-kept, append_assoc, kept-none, break-none, even-none, unfolded-kept false rest)
 
--- what an ending says of the final breaks
+-- the final breaks, by an ending
 abbrev pub Ends : Ending → List Element → Type 0
 Ends without_break es = (has_content es ≡ true) × (final_ends es ≡ [])
 Ends one_break es = (has_content es ≡ true) × ((b : ℕ) × (final_ends es ≡ b ∷ []))

@@ -10,12 +10,12 @@ feed-ordinary : (breaks12 : Bool) → Ordinary false breaks12 line_feed
 feed-ordinary true = record { same_break = refl; same_blank = λ none. refl; no_return = refl; no_next_line = refl }
 feed-ordinary false = record { same_break = refl; same_blank = λ none. refl; no_return = refl; no_next_line = refl }
 
--- the reader takes a line to begin with a blank where the writer takes it to begin with a space
+-- the reader finds a line that begins with a blank exactly if the writer finds one that begins with a space
 even-flush : (breaks12 : Bool) (text : Text) → IsLine false breaks12 text → begins_unindented text ≡ not (begins_with is_space text)
 even-flush breaks12 [] h = refl
 even-flush breaks12 (c ∷ rest) h = ap not ((h.0).same_blank refl)
 
--- what is known of a line that was cut, its first part and the others: before any rest they are clean, end as
+-- facts about a line that was cut, its first part and the others: before any rest they are clean, end as
 -- the rest does, and read as the line
 record Cut (breaks12 : Bool) (text first : Text) (others : List Part) : Type 0 where
   clean : (rest : List Part) → BeginsBroken rest → Clean false breaks12 rest → Clean false breaks12 (line first ∷ (others ++ rest))
@@ -38,7 +38,7 @@ cut-step breaks12 c rest o e (line_break b ∷ others) k fold f = absurd k
 cut-step breaks12 c rest o e (line first ∷ others) k true f = grind (arith, eqb-true, feed-ordinary)
 cut-step breaks12 c rest o e (line first ∷ others) k false f = grind (arith, clean-begun, o.same_blank refl)
 
--- a fold stands in place of a space, before another character
+-- a fold replaces a space before another character
 pub fold-spaced : (limit : Option ℕ) (column c : ℕ) (rest : Text) → folds limit column c rest ≡ true → (is_space c ≡ true) × (begins_with is_space rest ≡ false)
 fold-spaced limit column c rest h = grind (arith, and_parts, not-true)
 
@@ -50,7 +50,7 @@ cut-known breaks12 limit indent column (c ∷ rest) h =
     cut-step breaks12 c rest h.0 h.1 (cut_from limit indent at rest) (cut-known breaks12 limit indent at rest h.2)
     (folds limit column c rest) (fold-spaced limit column c rest)
 
--- what is known of a line's parts
+-- facts about a line's parts
 record LineCut (breaks12 : Bool) (text : Text) (ps : List Part) : Type 0 where
   clean : (rest : List Part) → BeginsBroken rest → Clean false breaks12 rest → Clean false breaks12 (ps ++ rest)
   ends : (rest : List Part) → final_ends (bare (ps ++ rest)) ≡ final_ends (bare rest)
@@ -100,13 +100,13 @@ twice-even : (twice : Bool) (b : ℕ) (ps : List Part) → next_content_unindent
 twice-even true b ps = refl
 twice-even false b ps = refl
 
--- it is doubled exactly where it would be folded, and then its second stays
+-- it is doubled exactly if it would be folded, and then its second stays
 twice-reads : (twice after_even : Bool) (b : ℕ) (ps : List Part) → (after_even && b == line_feed && next_content_unindented (bare ps)) ≡ twice
     → unfolded after_even (bare (twice_or_once twice b ++ ps)) ≡ b ∷ unfolded false (bare ps)
 twice-reads true after_even b ps e = rw e refl
 twice-reads false after_even b ps e = rw e refl
 
--- it is doubled only where a content follows, so not among the final breaks
+-- it is doubled only if a content follows, so not among the final breaks
 twice-ends : (twice some : Bool) (b : ℕ) (ps : List Part) → has_content (bare ps) ≡ some → (twice ≡ true → some ≡ true)
     → final_ends (bare (twice_or_once twice b ++ ps)) ≡ (if some then [] else b ∷ []) ++ final_ends (bare ps)
 twice-ends true true b ps s f = rw s refl
@@ -134,7 +134,7 @@ module _ (breaks12 : Bool) (limit : Option ℕ) (indent : ℕ) where
       (line-cut breaks12 limit indent text h.0).clean (folded_parts limit indent even rest) (folded-begins even rest h.1) (folded-clean even rest h.2)
   folded-clean after_even (line_break b ∷ rest) h = grind (arith, twice-clean, folded-clean false rest h.2)
 
-  -- hold content where the value does
+  -- hold content if the value does
   pub folded-content : (after_even : Bool) (ps : List Part) → Clean false breaks12 ps
       → has_content (bare (folded_parts limit indent after_even ps)) ≡ has_content (bare ps)
   folded-content after_even [] h = refl
@@ -143,7 +143,7 @@ module _ (breaks12 : Bool) (limit : Option ℕ) (indent : ℕ) where
   folded-content after_even (line_break b ∷ rest) h =
       twice-content (after_even && b == line_feed && next_line_unindented rest) b (folded_parts limit indent false rest) ∙ folded-content false rest h.2
 
-  -- are followed by a line without a leading blank where the value's are
+  -- are followed by a line without a leading blank if the value's are
   folded-even : (after_even : Bool) (ps : List Part) → Clean false breaks12 ps
       → next_content_unindented (bare (folded_parts limit indent after_even ps)) ≡ next_line_unindented ps
   folded-even after_even [] h = refl
@@ -170,7 +170,7 @@ module _ (breaks12 : Bool) (limit : Option ℕ) (indent : ℕ) where
       (line-cut breaks12 limit indent text h.0).ends (folded_parts limit indent even rest) ∙ folded-ends even rest h.2
   folded-ends after_even (line_break b ∷ rest) h = grind (arith, twice-ends, folded-content, even-some, and_parts, folded-ends false rest h.2)
 
-  -- and begin with a line that shows the indentation where the value's do
+  -- and begin with a line that shows the indentation if the value's do
   pub folded-flush : (ps : List Part) → Clean false breaks12 ps → BeginsFlush ps → BeginsFlush (folded_parts limit indent false ps)
   folded-flush [] h f = tt
   folded-flush (line text ∷ rest) h f =

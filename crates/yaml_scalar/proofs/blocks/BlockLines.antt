@@ -10,7 +10,7 @@ use Rattle.yaml_base.proofs.Common.{ne_eqb}
 use Rattle.yaml_scalar.proofs.blocks.{BlockFolds.folded-clean, BlockParts.Ordinary, BlockParts.IsLine, BlockParts.Clean, BlockParts.parts-clean}
 use Rattle.yaml_scalar.proofs.blocks.BlockReads.{allowed-ordinary, literal-ordinary, block-text, digit_text, block_indicator_of, literal-reads, folded-read}
 
--- an ordinary character may stand in a rendered text
+-- an ordinary character may be in a rendered text
 ordinary-rendered : (tabs breaks12 : Bool) (c : ℕ) → Ordinary tabs breaks12 c → not (c == carriage_return || c == next_line) ≡ true
 ordinary-rendered tabs breaks12 c o = not_from_false (c == carriage_return || c == next_line) (or_from _ _ o.no_return o.no_next_line)
 
@@ -113,7 +113,7 @@ body-indented tabs breaks12 folded (suc zero) best_indent value ps cursor high l
 body-indented tabs breaks12 folded (suc (suc less)) best_indent value ps cursor high low clean =
     grind (arith, block-text, header-indented, lines-begin tabs breaks12 less ps clean, lines-indented tabs breaks12 less ps clean)
 
--- what is promised of a body: as it was written, with any line breaks, it reads as the value, and each nonempty
+-- the promise about a body: as it was written, with any line breaks, it reads as the value, and each nonempty
 -- line after its first begins with at least two spaces
 pub record IsBlockText (breaks12 : Bool) (column : Option ℕ) (setting : LineBreak) (value body : Text) : Type 0 where
   pub reads : read_block breaks12 column (with_line_breaks_read (with_breaks_written setting body)) ≡ Some value

@@ -1,4 +1,4 @@
--- A value's parts, and that a reader cuts indented parts where they were joined.
+-- A value's parts, and that a reader divides indented parts at the places at which they were joined.
 use Rattle.yaml_scalar.proofs.Common.{arith, suc, zero, ℕ, if◌then◌else◌, ◌==◌, option_map, Some, replicate, Bool, false, true, List, [], ◌++◌, ◌∷◌, refl, ◌≡◌}
 use Rattle.yaml_scalar.proofs.Common.{ap, ◌∙◌, Text, carriage_return, next_line, space, is_space, is_blank, is_break, is_read_break, Element, content, line_end}
 use Rattle.yaml_scalar.proofs.Common.{elements, all_unindented, joined, begins_with, Part, line, line_break, begun, parts, indented}
@@ -49,13 +49,13 @@ pub parts-clean : (tabs breaks12 : Bool) (value : Text) → AllOrdinary tabs bre
 parts-clean tabs breaks12 [] h = tt
 parts-clean tabs breaks12 (c ∷ rest) h = clean-before tabs breaks12 c (parts rest) h.0 (parts-clean tabs breaks12 rest h.1) (is_break c) refl
 
--- the elements that a reader finds where parts stand by themselves
+-- the elements that a reader finds in parts by themselves
 abbrev pub bare : List Part → List Element
 bare [] = []
 bare (line text ∷ rest) = content text ∷ bare rest
 bare (line_break b ∷ rest) = line_end b ∷ bare rest
 
--- and where each line is indented
+-- and in parts whose lines are indented
 abbrev pub shifted : ℕ → List Part → List Element
 shifted indent [] = []
 shifted indent (line text ∷ rest) = content (replicate indent space ++ text) ∷ shifted indent rest
@@ -119,7 +119,7 @@ elements-unbroken breaks12 c (d ∷ text) rest h apart = grind (arith, element-u
 element-broken : (c : ℕ) (es : List Element) (b : Bool) → b ≡ true → (if b then line_end c ∷ es else prepend_to_elements c es) ≡ line_end c ∷ es
 element-broken c es b e = rw e refl
 
--- a reader cuts indented clean parts where they were joined
+-- a reader divides indented clean parts at the places at which they were joined
 pub elements-indented : (tabs breaks12 : Bool) (less : ℕ) (ps : List Part)
     → Clean tabs breaks12 ps → elements breaks12 (indented (suc less) ps) ≡ shifted (suc less) ps
 elements-indented tabs breaks12 less [] h = refl
@@ -153,7 +153,7 @@ leading-spaces zero [] h = refl
 leading-spaces zero (c ∷ rest) h = rw h refl
 leading-spaces (suc n) text h = ap suc (leading-spaces n text h)
 
--- where no digit tells the indentation, the first line shows it
+-- if no digit gives the indentation, the first line shows it
 pub detected_indentation-shifted : (n : ℕ) (ps : List Part) → BeginsFlush ps
     → all_unindented (detected_indentation (shifted n ps)) (shifted n ps) ≡ Some (bare ps)
 detected_indentation-shifted n [] h = refl

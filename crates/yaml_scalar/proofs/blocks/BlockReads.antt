@@ -13,7 +13,7 @@ use Rattle.yaml_scalar.proofs.blocks.BlockFolds.{folded-clean, folded-content, f
 use Rattle.yaml_scalar.proofs.blocks.BlockParts.{Ordinary, AllOrdinary, Clean, parts-clean, bare, shifted, joined-parts, elements-indented, unindented-shifted}
 use Rattle.yaml_scalar.proofs.blocks.BlockParts.{BeginsFlush, detected_indentation-shifted}
 
--- what isn't printable isn't among printable characters
+-- a character that isn't printable isn't among printable characters
 other-than : (c d : ℕ) → is_printable c ≡ true → is_printable d ≡ false → (c == d) ≡ false
 other-than c d p q = false_from_ne_true (c == d) (λ e. false≢true (sym q ∙ rw (eqb-true c d e) at p))
 
@@ -59,7 +59,7 @@ ordinary-somewhere charset (c ∷ rest) h =
 pub allowed-ordinary : (charset : Charset) (value : Text) → allows_block charset value ≡ true → AllOrdinary false charset.breaks12 value
 allowed-ordinary charset value h = grind (arith, or_parts, not-true, ordinary-somewhere)
 
--- so is a tab, where there may be tabs
+-- so is a tab, if there may be tabs
 tab-ordinary : (breaks12 : Bool) → Ordinary true breaks12 tab
 tab-ordinary true = record { same_break = refl; same_blank = λ none. absurd (true≢false none); no_return = refl; no_next_line = refl }
 tab-ordinary false = record { same_break = refl; same_blank = λ none. absurd (true≢false none); no_return = refl; no_next_line = refl }
@@ -117,7 +117,7 @@ digit_text blank best_indent = if blank then (48 + best_indent) ∷ [] else []
 abbrev pub block_indicator_of : Bool → ℕ
 block_indicator_of folded = if folded then 62 else 124
 
--- the reader takes from a header what it says
+-- the reader finds in a header its hints
 read-header : (breaks12 folded blank : Bool) (e : Ending) (best_indent : ℕ) (column : Option ℕ) (lines : Text) → 2 ≤ best_indent → best_indent ≤ 9
     → read_block breaks12 column (block_indicator_of folded ∷ ((digit_text blank best_indent ++ ending_hint e) ++ line_feed ∷ lines))
     ≡ read_lines folded (chomping_of e) (digit_of blank best_indent) column (elements breaks12 lines)
@@ -157,7 +157,7 @@ flush-value : (value : Text) → begins_blank value ≡ false → BeginsFlush (p
 flush-value [] h = tt
 flush-value (c ∷ rest) h = flush-parts c rest h
 
--- whatever lines stand under a value's header, they are read without their read_indentation
+-- whatever lines come after a value's header, they are read without their indentation
 block-reads : (tabs breaks12 folded : Bool) (indent best_indent : ℕ) (column : Option ℕ) (value : Text) (ps : List Part) (cursor : Cursor)
     → 2 ≤ best_indent → best_indent ≤ 9 → 1 ≤ indent → Encloses indent best_indent column
     → Clean tabs breaks12 ps → (begins_blank value ≡ false → BeginsFlush ps)

@@ -1,4 +1,4 @@
--- What stays in a block scalar's line is rendered as itself.
+-- A character that stays in a block scalar's line is rendered as itself.
 use Rattle.yaml_scalar.proofs.Common.{arith, ℕ, Option, Ok, Bool, false, true, [], ◌∷◌, refl, ◌≡◌, ap, sym, ◌∙◌, Text, is_break, Cursor, render_then, wrote_all}
 use Rattle.yaml_scalar.proofs.Common.{render_text, Page, Wrote, place_after, render_content, render_inner, render_step, stays_at, lines_from, has_limit}
 use Rattle.yaml_scalar.{proofs.RunsWritten.StandAlone, proofs.WholeRuns.no_fold, specs.BlockSteps.within, specs.declared.block_lines.Place.Place}
@@ -11,7 +11,7 @@ stays_unbroken limit LineStart c h = cc
 stays_unbroken limit Folding c h = line.stays_unbroken (has_limit limit) false c h
 stays_unbroken limit Fixed c h = line.stays_unbroken false false c h
 
--- behind a character of a line indentation is off
+-- after a character of a line indentation is off
 inner_off : (limit : Option ℕ) (indent : ℕ) (place : Place) (c : ℕ) (rest : Text) (cursor : Cursor)
     → (render_inner limit indent place c rest cursor).cursor.indention ≡ false
 inner_off limit indent LineStart c rest cursor = refl
@@ -39,7 +39,7 @@ stands_at : (folded : Bool) (limit : Option ℕ) (indent : ℕ) (place : Place) 
     → lines_from folded limit indent place (c ∷ rest) cursor ≡ render_then (render_text (c ∷ []) cursor) (lines_from folded limit indent place rest)
 stands_at folded limit indent place c rest cursor h off = grind (arith, stays_unbroken, stays_within, inner_kept)
 
--- so it stands for itself behind a step
+-- so it is written as itself after a step
 pub block_alone : (folded : Bool) (limit : Option ℕ) (indent : ℕ) (place placed : Place) (c : ℕ) (rest : Text) {here after : Page}
     → placed ≡ place_after folded place c → Wrote (render_step limit indent place c rest) here after (Ok tt)
     → StandAlone (λ before. lines_from folded limit indent placed) (stays_at limit placed) after.cursor

@@ -8,7 +8,7 @@ use Rattle.std.proofs.lemmas.Bool.{ltb-false}
 use Rattle.yaml_scalar.specs.{BlockSteps.render_fold_or_content, declared.block_lines.Place.Place}
 use Rattle.yaml_scalar.specs.declared.block_lines.Place.TheVariants.{Fixed, Folding, LineStart}
 
--- a new line where a line begins
+-- a new line at the start of a line
 new-line-first : (indent : ℕ) → new_line indent first_cursor
     ≡ record { text = replicate indent space; cursor = record { column = indent; whitespace = true; indention = true } }
 new-line-first indent = grind (arith, or_from, le-ltb, and_right)
@@ -91,7 +91,7 @@ ending-last c [] = grind (arith)
 ending-last c (d ∷ []) = grind (arith)
 ending-last c (d ∷ e ∷ rest) = ending-last d (e ∷ rest)
 
--- what a line's first character leads to
+-- the layout after a line's first character
 pub start-step : (limit : Option ℕ) (indent c : ℕ) (rest : Text) → is_break c ≡ false
     → render_step limit indent LineStart c rest first_cursor ≡ record { text = replicate indent space ++ c ∷ []; cursor = spot (indent + 1) false }
 start-step limit indent c rest e =
@@ -159,7 +159,7 @@ literal-from : (limit : Option ℕ) (indent : ℕ) (text : Text) → LiteralFrom
 literal-from limit indent [] = record { start = refl; inner = λ column. refl }
 literal-from limit indent (c ∷ rest) = literal-more limit indent c rest (literal-from limit indent rest)
 
--- what was rendered, and the cursor, by the text alone
+-- the rendered text, and the cursor, by the text alone
 pub rendered-by : (text : Text) (lines : Text) (a : Rendered) → a.text ≡ lines → a.cursor ≡ after_text a.text (ends_in_break (ending text)) 0
     → a ≡ render_lines text lines first_cursor
 rendered-by text lines a e f = λ i. record { text = e i; cursor = (f ∙ ap (λ t. after_text t (ends_in_break (ending text)) 0) e) i }

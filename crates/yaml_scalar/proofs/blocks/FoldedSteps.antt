@@ -8,13 +8,13 @@ use Rattle.yaml_scalar.proofs.blocks.BlockSteps.{after_text, spot, lines-cursor,
 use Rattle.yaml_scalar.proofs.blocks.BlockSteps.{rendered-by}
 use Rattle.yaml_scalar.specs.declared.block_lines.Place.TheVariants.{Fixed, Folding, LineStart}
 
--- a line of folded parts goes on, where it is never folded
+-- a line of folded parts goes on, if it is never folded
 abbrev fixed_text : Option ℕ → ℕ → List Part → Text
 fixed_text limit indent [] = []
 fixed_text limit indent (line text ∷ rest) = text ++ indented indent (folded_parts limit indent false rest)
 fixed_text limit indent (line_break b ∷ rest) = indented indent (folded_parts limit indent false (line_break b ∷ rest))
 
--- and where it may be, from a column on
+-- and if it may be, from a column on
 abbrev folding_text : Option ℕ → (indent column : ℕ) → List Part → Text
 folding_text limit indent column [] = []
 folding_text limit indent column (line text ∷ rest) = continued indent (cut_from limit indent column text ++ folded_parts limit indent true rest)
@@ -57,7 +57,7 @@ fold-step : (limit : Option ℕ) (indent c : ℕ) (rest : Text) (column : ℕ) (
 fold-step limit indent c rest column true e f = rw (e, f) refl
 fold-step limit indent c rest column false e f = rw (e, f) refl
 
--- the rest of a text begins with a space where the rest of its line does
+-- the rest of a text begins with a space exactly if the rest of its line does
 space-no-break : (d : ℕ) → is_break d ≡ true → is_space d ≡ false
 space-no-break d e = false_from_ne_true (is_space d) (λ s. false≢true (rw (eqb-true d space s) at e))
 
@@ -79,7 +79,7 @@ head-spaced (d ∷ rest) = grind (arith, cases_Bool, space-no-break, head-begun)
 folds-head : (limit : Option ℕ) (column c : ℕ) (rest : Text) → folds limit column c (head_line (parts rest)) ≡ folds limit column c rest
 folds-head limit column c rest = ap (λ b. is_space c && not b && is_past_limit limit column) (sym (head-spaced rest))
 
--- a line's first character, where it is a space and where it isn't
+-- a line's first character, whether it is a space or not
 fixed-begun : (limit : Option ℕ) (indent c : ℕ) (ps : List Part) → is_space c ≡ true
     → indented indent (folded_parts limit indent false (begun c ps)) ≡ (replicate indent space ++ c ∷ []) ++ fixed_text limit indent ps
 fixed-begun limit indent c [] e = rw e refl
@@ -109,7 +109,7 @@ folding-inner limit indent column c (line text ∷ rest) fold e = cut-text limit
 folding-inner limit indent column c (line_break b ∷ rest) fold e =
     cut-text limit indent column c [] (folded_parts limit indent true (line_break b ∷ rest)) fold e
 
--- a line's first character, where it isn't a space, is never a fold
+-- a line's first character, if it isn't a space, is never a fold
 begun-first : (indent c : ℕ) (ps rest : List Part) → BeginsLine ps
     → indented indent (begun c ps ++ rest) ≡ (replicate indent space ++ c ∷ []) ++ continued indent (ps ++ rest)
 begun-first indent c ps rest h = grind (arith, indented-line, begun-line, continued-first, append_assoc)

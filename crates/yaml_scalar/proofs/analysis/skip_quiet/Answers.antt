@@ -4,7 +4,7 @@ use Rattle.yaml_base.proofs.Common.{chars}
 use Rattle.yaml_scalar.proofs.{Barred.either_none, Barred.either_more, Barred.quiet_run, ByteRuns.run_boundary, ByteRuns.free_passes}
 use Rattle.yaml_scalar.proofs.analysis.skip_quiet.Goals as goal
 
--- quiet characters bar what a space at their end does
+-- quiet characters bar the styles that a space at their end bars
 quiet_skipped : (charset : Charset) (found after : Barred) (quiet rest : Text) (last : ℕ) → list_all (is_quiet charset) quiet ≡ true
     → last ≡ last_from 0 quiet → after ≡ either found (barred_by_space charset last rest)
     → either found (barred_in charset (quiet ++ rest)) ≡ either after (barred_in charset rest)

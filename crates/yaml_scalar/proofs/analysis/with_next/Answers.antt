@@ -5,7 +5,7 @@ use Rattle.yaml_scalar.proofs.analysis.with_next.Goals as goal
 pub returns-then-is_flow_indicator : goal.returns-then-is_flow_indicator
 returns-then-is_flow_indicator c =
     ap (λ (key : Bool). let more : Barred = record (seen_barred c.args.barred) { flow_plain = true; block_plain = c.args.barred.block_plain || key } in more)
-    c.is_key.ensures
+    c.is_value_indicator.ensures
     ∙ indicator_seen (seen_charset c.args.charset) (seen_barred c.args.barred) c.args.c (chars c.args.rest.now) (sym c.if-is_flow_indicator.ensures)
 
 pub returns-then-is_ordinary : goal.returns-then-is_ordinary

@@ -9,11 +9,11 @@ use Rattle.yaml_scalar.proofs.Shorter.{shorter_left, shorter_dropped}
 use Rattle.yaml_scalar.proofs.block_lines.write_lines.Goals as goal
 
 pub split_at-requires : goal.split_at-requires
-split_at-requires g c = c.run_after-run.ensures.boundary
+split_at-requires g c = c.leading_verbatim_run-run.ensures.boundary
 
 pub write_run-requires-clause-no_break : goal.write_run-requires-clause-no_break
 write_run-requires-clause-no_break g c =
-    run_unbroken _ (stays_unbroken (limit_of c.args.lines.width) c.place_after-place.result) c.run_after-run.ensures c.split_at.ensures.front
+    run_unbroken _ (stays_unbroken (limit_of c.args.lines.width) c.place_after-place.result) c.leading_verbatim_run-run.ensures c.split_at.ensures.front
 
 pub returns-in_err-write_step : goal.returns-in_err-write_step
 returns-in_err-write_step g c =
@@ -43,7 +43,7 @@ returns-in_err-write_run g c =
     wrote_exit c.from_residual-in_err-write_run.ensures
     (run_failed (λ before. lines_from folded limit n placed) c.split_at.result.1.now
     (block_alone folded limit n c.loop-character.place placed c.in-Some.character (chars rest) c.place_after-place.ensures step)
-    is_text c.run_after-run.ensures c.split_at.ensures.front c.split_at.ensures.back still c.in_err-write_run.ensures.written)
+    is_text c.leading_verbatim_run-run.ensures c.split_at.ensures.front c.split_at.ensures.back still c.in_err-write_run.ensures.written)
 
 pub loop-character-preserved : goal.loop-character-preserved
 loop-character-preserved g c =
@@ -63,8 +63,8 @@ loop-character-preserved g c =
     (chars (chars_rest c.chars-characters-in-Some.result)) placed c.args.pen.now c.write_run.new.self =
     run_more (λ before. lines_from folded limit n placed)
     (block_alone folded limit n c.loop-character.place placed c.in-Some.character (chars rest) c.place_after-place.ensures step)
-    is_text c.run_after-run.ensures c.split_at.ensures.front behind still c.in_ok-write_run.ensures.written in
-    (more, subst IsUtf8 (sym behind) (IsUtf8-drop _ _ is_text c.run_after-run.ensures.boundary))
+    is_text c.leading_verbatim_run-run.ensures c.split_at.ensures.front behind still c.in_ok-write_run.ensures.written in
+    (more, subst IsUtf8 (sym behind) (IsUtf8-drop _ _ is_text c.leading_verbatim_run-run.ensures.boundary))
 
 pub returns : goal.returns
 returns g c =
@@ -75,7 +75,7 @@ returns g c =
 pub loop-character-smaller : goal.loop-character-smaller
 loop-character-smaller g c =
     let rest = c.as_str-rest.result.now in
-    let place = c.run_after-run.result.length in
+    let place = c.leading_verbatim_run-run.result.length in
     shorter_left _ _ rest (drop place rest) _ c.in-Some.character c.in-Some.ensures.steps.0 c.as_str-rest.ensures (shorter_dropped place rest)
     (c.chars-characters-in-Some.ensures.rest ∙ c.split_at.ensures.back)
 

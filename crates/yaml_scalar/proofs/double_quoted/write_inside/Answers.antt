@@ -8,11 +8,11 @@ use Rattle.yaml_scalar.proofs.Shorter.{shorter_left, shorter_after_run}
 use Rattle.yaml_scalar.proofs.double_quoted.write_inside.Goals as goal
 
 pub split_at-requires : goal.split_at-requires
-split_at-requires g c = c.run_after-run.ensures.boundary
+split_at-requires g c = c.leading_verbatim_run-run.ensures.boundary
 
 pub write_run-requires-clause-no_break : goal.write_run-requires-clause-no_break
 write_run-requires-clause-no_break g c =
-    run_unbroken _ (stays_unbroken c.args.quoting.unicode (limit_where c.args.quoting.allow_breaks c.args.quoting.width)) c.run_after-run.ensures
+    run_unbroken _ (stays_unbroken c.args.quoting.unicode (limit_where c.args.quoting.allow_breaks c.args.quoting.width)) c.leading_verbatim_run-run.ensures
     c.split_at.ensures.front
 
 pub loop-c-preserved : goal.loop-c-preserved
@@ -26,7 +26,7 @@ loop-c-preserved g c =
     let first = character_still (double_inside quoting.unicode limit indent c.loop-c.before) c.in-Some.c _ _ rest so_far.is_text c.in-Some.ensures.steps.0
     c.as_str-rest.ensures so_far.still in
     let after = run_more (inside_after quoting.unicode limit indent) (inside_alone quoting.unicode limit indent c.write_next.new.pen.cursor)
-    is_text c.run_after-run.ensures c.split_at.ensures.front c.split_at.ensures.back (still_rest first c.in_ok-write_next.ensures)
+    is_text c.leading_verbatim_run-run.ensures c.split_at.ensures.front c.split_at.ensures.back (still_rest first c.in_ok-write_next.ensures)
     c.in_ok-write_run.ensures.written in
     record {
       is_text = subst IsUtf8 (sym c.chars-chars-in-Some.ensures.rest) c.in_ok-last.ensures.is_text;
@@ -45,7 +45,7 @@ returns-in_err-last g c =
     let first = character_still (double_inside quoting.unicode limit indent c.loop-c.before) c.in-Some.c _ _ rest so_far.is_text c.in-Some.ensures.steps.0
     c.as_str-rest.ensures so_far.still in
     let after = run_more (inside_after quoting.unicode limit indent) (inside_alone quoting.unicode limit indent c.write_next.new.pen.cursor)
-    is_text c.run_after-run.ensures c.split_at.ensures.front c.split_at.ensures.back (still_rest first c.in_ok-write_next.ensures)
+    is_text c.leading_verbatim_run-run.ensures c.split_at.ensures.front c.split_at.ensures.back (still_rest first c.in_ok-write_next.ensures)
     c.in_ok-write_run.ensures.written in
     wrote_exit c.from_residual-in_err-last.ensures
     (batched_failed quoting.unicode limit indent c.in_err-last.ensures.written after)
@@ -76,7 +76,7 @@ returns-in_err-write_run g c =
     c.as_str-rest.ensures so_far.still in
     wrote_exit c.from_residual-in_err-write_run.ensures
     (run_failed (inside_after quoting.unicode limit indent) c.split_at.result.1.now (inside_alone quoting.unicode limit indent c.write_next.new.pen.cursor)
-    is_text c.run_after-run.ensures c.split_at.ensures.front c.split_at.ensures.back
+    is_text c.leading_verbatim_run-run.ensures c.split_at.ensures.front c.split_at.ensures.back
     (still_rest first c.in_ok-write_next.ensures) c.in_err-write_run.ensures.written)
 
 pub returns : goal.returns
@@ -88,7 +88,7 @@ returns g c =
 pub loop-c-smaller : goal.loop-c-smaller
 loop-c-smaller g c =
     let rest = c.as_str-rest.result.now in
-    let few = shorter_after_run c.run_after-run.result.length rest _ _ c.split_at.ensures.back c.in_ok-last.ensures.shorter in
+    let few = shorter_after_run c.leading_verbatim_run-run.result.length rest _ _ c.split_at.ensures.back c.in_ok-last.ensures.shorter in
     shorter_left _ _ rest _ _ c.in-Some.c c.in-Some.ensures.steps.0 c.as_str-rest.ensures few c.chars-chars-in-Some.ensures.rest
 
 pub loop-c-init : goal.loop-c-init

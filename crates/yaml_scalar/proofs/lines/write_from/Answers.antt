@@ -8,11 +8,11 @@ use Rattle.yaml_scalar.proofs.Shorter.{shorter_left, shorter_dropped}
 use Rattle.yaml_scalar.proofs.lines.write_from.Goals as goal
 
 pub split_at-requires : goal.split_at-requires
-split_at-requires g c = c.run_after-run.ensures.run.boundary
+split_at-requires g c = c.leading_verbatim_run-run.ensures.run.boundary
 
 pub write_run-requires-clause-no_break : goal.write_run-requires-clause-no_break
 write_run-requires-clause-no_break g c =
-    let run = c.run_after-run.ensures in
+    let run = c.leading_verbatim_run-run.ensures in
     run_unbroken _ (stays_unbroken run.folds c.args.lines.quoted) run.run c.split_at.ensures.front
 
 pub returns-in_err-write_step : goal.returns-in_err-write_step
@@ -38,8 +38,8 @@ returns-in_err-write_run g c =
     c.as_str-rest.ensures so_far.still in
     wrote_exit c.from_residual-in_err-write_run.ensures
     (standing_failed (lines_after lines.quoted limit lines.indent) c.split_at.result.1.now
-    (line_stands lines.quoted limit lines.indent c.write_step.new.pen.cursor is_text c.run_after-run.ensures c.split_at.ensures.front)
-    is_text c.run_after-run.ensures.run c.split_at.ensures.front c.split_at.ensures.back
+    (line_stands lines.quoted limit lines.indent c.write_step.new.pen.cursor is_text c.leading_verbatim_run-run.ensures c.split_at.ensures.front)
+    is_text c.leading_verbatim_run-run.ensures.run c.split_at.ensures.front c.split_at.ensures.back
     (still_rest first c.in_ok-write_step.ensures) c.in_err-write_run.ensures.written)
 
 pub loop-character-preserved : goal.loop-character-preserved
@@ -54,14 +54,14 @@ loop-character-preserved g c =
     let first = character_still (render_steps written limit lines.indent (seen_kind c.loop-character.before)) c.in-Some.character _ _ rest so_far.is_text
     c.in-Some.ensures.steps.0 c.as_str-rest.ensures so_far.still in
     record {
-      is_text = subst IsUtf8 (sym behind) (IsUtf8-drop _ _ is_text c.run_after-run.ensures.run.boundary);
+      is_text = subst IsUtf8 (sym behind) (IsUtf8-drop _ _ is_text c.leading_verbatim_run-run.ensures.run.boundary);
       still = subst (λ (kind : Kind).
           LinesLeft written limit lines.indent (seen_kind c.args.start) (chars c.args.value.now)
           (chars (chars_rest c.chars-characters-in-Some.result)) kind c.args.pen.now c.write_run.new.self)
           (sym c.kind_of-before.ensures)
           (standing_more (lines_after lines.quoted limit lines.indent)
-          (line_stands lines.quoted limit lines.indent c.write_step.new.pen.cursor is_text c.run_after-run.ensures c.split_at.ensures.front)
-          is_text c.run_after-run.ensures.run c.split_at.ensures.front behind (still_rest first c.in_ok-write_step.ensures) c.in_ok-write_run.ensures.written);
+          (line_stands lines.quoted limit lines.indent c.write_step.new.pen.cursor is_text c.leading_verbatim_run-run.ensures c.split_at.ensures.front)
+          is_text c.leading_verbatim_run-run.ensures.run c.split_at.ensures.front behind (still_rest first c.in_ok-write_step.ensures) c.in_ok-write_run.ensures.written);
     }
 
 pub returns : goal.returns
@@ -74,7 +74,7 @@ returns g c =
 pub loop-character-smaller : goal.loop-character-smaller
 loop-character-smaller g c =
     let rest = c.as_str-rest.result.now in
-    let place = c.run_after-run.result.length in
+    let place = c.leading_verbatim_run-run.result.length in
     shorter_left _ _ rest (drop place rest) _ c.in-Some.character c.in-Some.ensures.steps.0 c.as_str-rest.ensures (shorter_dropped place rest)
     (c.chars-characters-in-Some.ensures.rest ∙ c.split_at.ensures.back)
 

@@ -5,11 +5,11 @@ use Rattle.yaml_scalar.proofs.{StaysInLine.lines_after, StaysInLine.line_stands,
 use Rattle.yaml_scalar.proofs.lines.write_runs.Goals as goal
 
 pub split_at-requires : goal.split_at-requires
-split_at-requires g c = c.run_after-first.ensures.run.boundary
+split_at-requires g c = c.leading_verbatim_run-first.ensures.run.boundary
 
 pub write_run-requires-clause-no_break : goal.write_run-requires-clause-no_break
 write_run-requires-clause-no_break g c =
-    let run = c.run_after-first.ensures in
+    let run = c.leading_verbatim_run-first.ensures in
     run_unbroken _ (stays_unbroken run.folds c.args.lines.quoted) run.run c.split_at.ensures.front
 
 pub returns-in_err-write_run : goal.returns-in_err-write_run
@@ -19,8 +19,8 @@ returns-in_err-write_run g c =
     wrote_exit c.from_residual.ensures
     (wrote_runs lines.quoted limit lines.indent (chars c.args.value.now)
     (standing_failed (lines_after lines.quoted limit lines.indent) c.split_at.result.1.now
-    (line_stands lines.quoted limit lines.indent c.args.pen.now.cursor c.utf8.value c.run_after-first.ensures c.split_at.ensures.front)
-    c.utf8.value c.run_after-first.ensures.run c.split_at.ensures.front c.split_at.ensures.back (still_all c.requires) c.in_err-write_run.ensures.written))
+    (line_stands lines.quoted limit lines.indent c.args.pen.now.cursor c.utf8.value c.leading_verbatim_run-first.ensures c.split_at.ensures.front)
+    c.utf8.value c.leading_verbatim_run-first.ensures.run c.split_at.ensures.front c.split_at.ensures.back (still_all c.requires) c.in_err-write_run.ensures.written))
 
 pub returns : goal.returns
 returns g c =
@@ -28,8 +28,8 @@ returns g c =
     let limit = limit_where lines.allow_breaks lines.width in
     let still =
     standing_more (lines_after lines.quoted limit lines.indent)
-    (line_stands lines.quoted limit lines.indent c.args.pen.now.cursor c.utf8.value c.run_after-first.ensures c.split_at.ensures.front)
-    c.utf8.value c.run_after-first.ensures.run c.split_at.ensures.front c.split_at.ensures.back (still_all c.requires) c.in_ok-write_run.ensures.written in
+    (line_stands lines.quoted limit lines.indent c.args.pen.now.cursor c.utf8.value c.leading_verbatim_run-first.ensures c.split_at.ensures.front)
+    c.utf8.value c.leading_verbatim_run-first.ensures.run c.split_at.ensures.front c.split_at.ensures.back (still_all c.requires) c.in_ok-write_run.ensures.written in
     wrote_runs lines.quoted limit lines.indent (chars c.args.value.now)
     (still.writes _ _
     (subst (λ (kind : Kind). Wrote (render_steps (written_as lines.quoted) limit lines.indent kind (chars c.split_at.result.1.now)) c.write_run.new.self

@@ -1,6 +1,6 @@
 use Rattle.yaml_scalar.proofs.Common.{◌≤◌, length, false, ◌≡◌, length-take-le, ap, ◌∙◌, arith, stays_in_line, limit_where}
 use Rattle.yaml_scalar.proofs.{StaysInLine.positive, StaysInLine.room_less, WholeRuns.run_in_prefix}
-use Rattle.yaml_scalar.proofs.lines.run_after.Goals as goal
+use Rattle.yaml_scalar.proofs.lines.leading_verbatim_run.Goals as goal
 
 pub returns-else-room-eq0 : goal.returns-else-room-eq0
 returns-else-room-eq0 g c =

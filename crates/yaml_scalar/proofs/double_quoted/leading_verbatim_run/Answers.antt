@@ -1,5 +1,5 @@
 use Rattle.yaml_scalar.proofs.Common.{Bool, subst, rules, w32, to_z-of_z, FitsSigned, IsRun, stays_where}
-use Rattle.yaml_scalar.proofs.double_quoted.run_after.Goals as goal
+use Rattle.yaml_scalar.proofs.double_quoted.leading_verbatim_run.Goals as goal
 
 pub returns : goal.returns
 returns c =
