@@ -1,4 +1,4 @@
--- What crates that write whole values need, so that a value's events are an accepted list.
+-- Lemmas by which crates that write whole values show that a value's events are an accepted list.
 use Rattle.yaml_base.proofs.Common.{suc, zero, ℕ, ◌+◌, ◌-◌, ◌≤◌, count_by, Bool, cond, false, true, List, [], ◌++◌, ◌∷◌, ◌≡◌, subst, sym, ◌∙◌, arith}
 use Rattle.yaml_base.proofs.Common.{and_from, list_all-append, sum_by-append, list_all, Event, begins_collection, ends_collection, is_sound, open_count}
 
@@ -14,7 +14,7 @@ both_sound canonical first second one other =
 
 -- ---- how many collections are open
 
--- after an event that begins a collection or doesn't, and ends one or doesn't
+-- the number of open collections after an event, by whether it begins one and whether it ends one
 abbrev pub after_atoms : (begins ends : Bool) → ℕ → ℕ
 after_atoms true ends now = suc now
 after_atoms false true zero = zero
@@ -24,7 +24,7 @@ after_atoms false false now = now
 abbrev pub after_event : Event → ℕ → ℕ
 after_event event now = after_atoms (begins_collection event) (ends_collection event) now
 
--- with so many open before some events, no more than the most are open before and after each of them
+-- with `now` open before some events, at most `most` are open before and after each of them
 abbrev pub Stays : (most now : ℕ) → List Event → Type 0
 Stays most now [] = now ≤ most
 Stays most now (event ∷ events) = (now ≤ most) × Stays most (after_event event now) events
@@ -53,7 +53,7 @@ prefix_stays most now (event ∷ prefix) rest h =
     (prefix_stays most (after_event event now) prefix rest h.1) in
     omega (arith, begun, ended, more)
 
--- no prefix leaves more than the most open
+-- no prefix leaves more than `most` open
 pub few_open : (most : ℕ) (events prefix rest : List Event) → Stays most 0 events → prefix ++ rest ≡ events → open_count prefix ≤ most
 few_open most events prefix rest stays is =
     let few = prefix_stays most 0 prefix rest (subst (Stays most 0) (sym is) stays) in omega (arith, few)

@@ -1,18 +1,18 @@
--- Atoms and names, which stand on one line.
+-- Atoms and names, which are written on one line.
 use Rattle.std.specs.Prelude.{ℕ, Bool, false, Option, None, Some, List, ◌&&◌, nat_lt}
 use Rattle.std.specs.List.{list_any, list_all}
 use Rattle.yaml_base.specs.Characters.{Text, is_break}
 use Rattle.yaml_base.specs.Event.{TagDirective}
 
--- bytes of ASCII that stand for themselves as characters, none of them a blank, a break or a control
+-- true if each of these bytes is ASCII and no blank, break or control
 abbrev pub is_visible_ascii : List ℕ → Bool
 is_visible_ascii bytes = list_all (λ c. nat_lt 0x20 c && nat_lt c 0x7F) bytes
 
--- a name without a break, where there is one
+-- true if there is a name and it holds a break
 abbrev pub name_breaks : Option Text → Bool
 name_breaks None = false
 name_breaks (Some name) = list_any is_break name
 
--- some directive's handle holds a break
+-- true if some directive's handle holds a break
 abbrev pub some_handle_breaks : List TagDirective → Bool
 some_handle_breaks directives = list_any (λ directive. list_any is_break directive.handle) directives

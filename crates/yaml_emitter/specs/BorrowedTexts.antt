@@ -12,16 +12,16 @@ use Rattle.yaml_emitter.specs.declared.writing.contents.CollectionContent.{Colle
 use Rattle.yaml_emitter.specs.declared.writing.spelling.SpelledTag.{SpelledTag}
 use Rattle.yaml_emitter.specs.declared.writing.spelling.SpelledTag.TheVariants.{Shorthand, Verbatim}
 
--- a borrowed text, where there is one
+-- the characters of a borrowed text, if there is one
 abbrev pub seen_name : Option (Bor (List ℕ)) → Option Text
 seen_name name = option_map chars (option_copied name)
 
--- a copy of a text, or no memory for one
+-- the result of copying a text: a copy, or the memory error
 abbrev pub CopiesText : {A : Type 0} → Text → Result (String A) yaml_error_t → Type 0
 CopiesText text (Ok copy) = seen_text copy ≡ text
 CopiesText text (Err error) = error ≡ Memory
 
--- a spelling by its characters
+-- a tag's spelling by its characters
 abbrev pub seen_spelling : SpelledTag → Spelling
 seen_spelling (Shorthand handle suffix) = shorthand (chars handle.now) (chars suffix.now)
 seen_spelling (Verbatim tag) = verbatim (chars tag.now)
@@ -38,7 +38,7 @@ seen_scalar content =
       style = seen_scalar_style content.style;
     }
 
--- a collection's start, of a style
+-- a collection's start by its characters, with this style
 abbrev pub seen_collection : CollectionContent → CollectionStyle → Collection
 seen_collection content style =
     record { anchor = seen_name content.anchor; tag = seen_name content.tag; implicit = content.implicit; style = style }

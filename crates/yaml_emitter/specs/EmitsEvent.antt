@@ -1,4 +1,4 @@
--- What a call that gives an event does, whether it owns the event or borrows it.
+-- The effect of a call that gives an event, whether it owns the event or borrows it.
 use Rattle.std.specs.Prelude.{◌≡◌, ◌≤◌, ℕ, true, false, None, Some, IsSome, Result, Ok, Err, IsOk, List, [], ◌∷◌, ◌++◌, drop, length}
 use Rattle.yaml_base.specs.Settings.{Settings}
 use Rattle.yaml_base.specs.Event.{Event}
@@ -15,23 +15,23 @@ use Rattle.yaml_emitter.specs.Queue.{are_ready_by_one_more, is_head_ready}
 use Rattle.yaml_emitter.specs.declared.borrowed.ScalarAnswer.{ScalarAnswer}
 use Rattle.yaml_emitter.specs.declared.borrowed.ScalarAnswer.TheVariants.{Taken, NotTaken}
 
--- a call's error, where it has one, is kept
+-- the machine with the error of a call kept, if it has one
 abbrev pub kept_error : Result (Unit {0}) yaml_error_t → MachineState → MachineState
 kept_error (Ok _) machine = machine
 kept_error (Err error) machine = failed_by error machine
 
--- no event waits, or the first isn't ready though this one stands behind them
+-- no event waits, or the first isn't ready even if `last` follows them
 abbrev pub StillWait : List Event → (last : Event) → Type 0
 StillWait [] last = Unit {0}
 StillWait (event ∷ rest) last = is_head_ready (event ∷ rest ++ last ∷ []) ≡ false
 
--- of the events that waited, the first `count` are written, and no other is ready though this one stands behind them
+-- of the waiting events the first `count` are written, and no other is ready if `last` follows
 pub record WroteWaiting (waiting : List Event) (last : Event) (count : ℕ) (before after : MachineState) : Type 0 where
   pub within : count ≤ length waiting
   pub reached : ReachedOn (waiting ++ last ∷ []) before (drop count waiting ++ last ∷ []) after
   pub waits : StillWait (drop count waiting) last
 
--- an emitter wrote those
+-- an emitter wrote the waiting events that are ready if `last` follows them
 pub record Settled (before : State) (last : Event) (after : State) : Type 0 where
   pub count : ℕ
   pub held : after.held ≡ drop count before.held
@@ -41,7 +41,7 @@ pub record Settled (before : State) (last : Event) (after : State) : Type 0 wher
   pub set : KeepsSet before after
   pub no_error : after.error ≡ None
 
--- one of them failed
+-- writing one of them failed
 pub record SettlingFailed (before : State) (last : Event) (error : yaml_error_t) (after : State) : Type 0 where
   pub ready : is_head_ready (before.held ++ last ∷ []) ≡ true
   pub stands : (given : Settings) (all prefix : List Event) → HasReached given all prefix (before.held ++ last ∷ []) (machine_of before)
@@ -50,12 +50,12 @@ pub record SettlingFailed (before : State) (last : Event) (error : yaml_error_t)
   pub set : KeepsSet before after
   pub is_error : after.error ≡ Some error
 
--- an emitter wrote the events that were ready once this one stood behind those that wait
+-- an emitter writes the waiting events that are ready if `last` follows them, or fails
 abbrev pub Settles : State → (last : Event) → Result (Unit {0}) yaml_error_t → State → Type 0
 Settles before last (Ok _) after = Settled before last after
 Settles before last (Err error) after = SettlingFailed before last error after
 
--- a machine was given an event that is ready, where none waits
+-- a machine was given an event that is ready, and no event waits
 pub record WroteAlone (before : MachineState) (event : Event) (answer : Result (Unit {0}) yaml_error_t) (after : MachineState) : Type 0 where
   pub stands : (given : Settings) (all prefix : List Event) → HasReached given all prefix (event ∷ []) before
       → MachineStands given all after.error [] after
@@ -63,7 +63,7 @@ pub record WroteAlone (before : MachineState) (event : Event) (answer : Result (
   pub set : KeepsGiven before after
   pub answered : answer ≡ result_of_error after.error
 
--- an emitter was given an event: what `yaml_emitter_emit` says of its event, clause by clause
+-- an emitter was given an event: the clauses of `yaml_emitter_emit` for it
 pub record EmitsEvent (before : State) (event : Event) (answer : Result (Unit {0}) yaml_error_t) (after : State) : Type 0 where
   pub moves : Moves before (event ∷ []) answer after
   pub promised : (given : Settings) (all : List Event) → StandsAfter given all before → Promised given (all ++ event ∷ []) after
@@ -71,18 +71,18 @@ pub record EmitsEvent (before : State) (event : Event) (answer : Result (Unit {0
       → written (all ++ event ∷ []) ≡ written all → IsOk answer
   pub kept : IsSome before.error → after ≡ record before { started = true }
 
--- there was no memory to copy a scalar that has to wait, since not all before it are ready with it: nothing changed, and the emitter has no error
+-- no memory for the copy of a scalar that has to wait, since not all events before it are ready with it: nothing changed, and there is no error
 pub record CopyFailed (before after : State) : Type 0 where
   pub unchanged : after ≡ before
   pub no_error : before.error ≡ None
   pub waits : are_ready_by_one_more before.held ≡ false
 
--- an emitter took a scalar, or there was no memory to copy it
+-- an emitter took a scalar, or had no memory to copy it
 abbrev pub EmitsScalar : State → Event → ScalarAnswer → State → Type 0
 EmitsScalar before event (Taken answer) after = EmitsEvent before event answer after
 EmitsScalar before event NotTaken after = CopyFailed before after
 
--- what is returned where nothing more is asked: want of memory for a scalar that wasn't taken
+-- the result of a scalar's call; the memory error for a scalar that wasn't taken
 abbrev pub result_of_answer : ScalarAnswer → Result (Unit {0}) yaml_error_t
 result_of_answer (Taken answer) = answer
 result_of_answer NotTaken = Err Memory

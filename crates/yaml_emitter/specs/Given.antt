@@ -8,12 +8,12 @@ use Rattle.yaml_emitter.specs.declared.settings.Quotes.TheVariants.{Single, Doub
 use Rattle.yaml_emitter.specs.declared.settings.Settings.{Settings}
 use Rattle.yaml_emitter.specs.declared.effective.EffectiveSettings.{EffectiveSettings}
 
--- whether quotes are double
+-- true if quotes are double
 abbrev pub is_double : Quotes → Bool
 is_double Single = false
 is_double Double = true
 
--- what was given to each setter
+-- the arguments of the setters, as the definitions see them
 abbrev pub seen_settings : Settings → base.Settings
 seen_settings settings =
     record {
@@ -31,12 +31,12 @@ seen_settings settings =
       limit = settings.limit;
     }
 
--- a width of the largest `i32` is no limit
+-- a width in columns; the largest `i32` means no limit
 abbrev pub seen_width : ℤ → Option ℕ
 seen_width (pos n) = if n == largest_i32 then None else Some n
 seen_width (negsuc n) = None
 
--- what the layout goes by
+-- the settings that the layout uses
 abbrev pub seen_effective : EffectiveSettings → Effective
 seen_effective settings =
     record {

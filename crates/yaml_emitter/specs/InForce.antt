@@ -3,6 +3,6 @@ use Rattle.std.specs.Prelude.{List, [], ◌∷◌, ◌++◌, if◌then◌else◌
 use Rattle.yaml_base.specs.Event.{TagDirective}
 use Rattle.yaml_base.specs.Tags.{gives_handle}
 
--- a default is added where its handle isn't given
+-- the directives with a default added, unless its handle is given
 abbrev pub with_default : List TagDirective → TagDirective → List TagDirective
 with_default own default = if gives_handle default.handle own then own else own ++ default ∷ []

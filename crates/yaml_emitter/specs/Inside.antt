@@ -1,4 +1,4 @@
--- What an emitter holds, and what contracts see of it.
+-- The fields of an emitter, and their view in contracts.
 use Rattle.std.specs.Prelude.{◌≡◌, ◌≤◌, false, true, vec_capacity}
 use Rattle.yaml_base.specs.Seen.{seen_events}
 use Rattle.yaml_pen.specs.Page.{IsUntouched}
@@ -6,7 +6,7 @@ use Rattle.yaml_emitter.specs.Queue.{is_head_ready}
 use Rattle.yaml_emitter.specs.State.{State, is_at_stream}
 use Rattle.yaml_emitter.specs.declared.emitter.yaml_emitter_t.TheInside.{Inside}
 
--- what contracts see of an emitter
+-- the view of an emitter in contracts
 abbrev pub state_of : {A : Type 0} → Inside A → State
 state_of e =
     record {
@@ -23,8 +23,8 @@ state_of e =
       error = e.machine.error;
     }
 
--- nothing is written, begun or opened before an output is set; the first event that waits isn't ready, so that at most three
--- wait, and there is room for one more
+-- before an output is set nothing is written, begun or opened; the first waiting event isn't ready, so at most three wait, and
+-- there is room for one more
 pub record IsEmitter {A : Type 0} (e : Inside A) : Type 0 where
   pub untouched : e.has_output ≡ false → IsUntouched e.machine.page
   pub begun : is_at_stream e.machine.stage ≡ false → e.has_output ≡ true

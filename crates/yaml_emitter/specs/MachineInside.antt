@@ -1,4 +1,4 @@
--- What a machine holds, and what contracts see of it.
+-- The fields of a machine, and their view in contracts.
 use Rattle.std.specs.Prelude.{◌≡◌, false}
 use Rattle.yaml_emitter.specs.Given.{seen_settings, seen_effective}
 use Rattle.yaml_emitter.specs.Stages.{seen_stage}
@@ -7,7 +7,7 @@ use Rattle.yaml_emitter.specs.State.{MachineState, FitsPage}
 use Rattle.yaml_emitter.specs.WrittenPieces.{seen_open_ended}
 use Rattle.yaml_emitter.specs.declared.machine.Machine.TheInside.{Inside}
 
--- what contracts see of a machine
+-- the view of a machine in contracts
 abbrev pub machine_state : {A : Type 0} → Inside A → MachineState
 machine_state m =
     record {

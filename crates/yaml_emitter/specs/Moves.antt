@@ -1,4 +1,4 @@
--- Calls that give events to an emitter: what they do to it, whatever it was given before.
+-- The effect of calls that give events to an emitter, whatever it was given before.
 use Rattle.std.specs.Prelude.{◌≡◌, Bool, true, Result, IfErr, List, [], ◌∷◌, ◌++◌}
 use Rattle.yaml_base.specs.Settings.{Settings}
 use Rattle.yaml_base.specs.Event.{Event}
@@ -10,22 +10,22 @@ use Rattle.yaml_emitter.specs.State.{State, KeepsSet}
 use Rattle.yaml_emitter.specs.StandsAfter.{StandsAfter}
 use Rattle.yaml_emitter.specs.Promises.{FitsLimit, Promised}
 
--- an emitter is started by the first event
+-- true if an emitter has started after these events
 abbrev pub started_by : Bool → List Event → Bool
 started_by started [] = started
 started_by started (event ∷ rest) = true
 
--- wherever an emitter stood, it stands after these events more: its text and its output only grow, what the caller set stays,
--- and the answer is its error
+-- for all events given before, the emitter's state is the one after those events and these; its text and its output only grow,
+-- the caller's settings stay, and the answer is the emitter's error
 pub record Moves (before : State) (events : List Event) (answer : Result (Unit {0}) yaml_error_t) (after : State) : Type 0 where
   pub stands : (given : Settings) (all : List Event) → StandsAfter given all before → StandsAfter given (all ++ events) after
   pub grows : Grows before.page after.page
   pub set : KeepsSet (record before { started = started_by before.started events }) after
   pub answered : answer ≡ result_of_error after.error
 
--- what follows of a move: the promises of the events, which error there can be, that the output stays, that a move by no event
--- leaves the emitter where it stood, and that moves compose; and that where an emitter stands isn't changed by noting that its stream
--- is opened or closed as a whole
+-- the consequences of a move: the promises about the events, which errors there can be, that the output stays, that a move by no
+-- event leaves the emitter after the same events, and that moves compose; and that noting a stream as opened or closed as a whole
+-- doesn't change which events the emitter's state comes after
 pub record MovesTell : Type 0 where
   pub promised : (before after : State) (events : List Event) (answer : Result (Unit {0}) yaml_error_t) → Moves before events answer after
       → (given : Settings) (all : List Event) → StandsAfter given all before → Promised given (all ++ events) after

@@ -1,4 +1,4 @@
--- Events within a document, and the stage that they stand at.
+-- Events within a document, and the stage at which they come.
 use Rattle.std.specs.Prelude.{Bool, true, false, None, not, ◌&&◌}
 use Rattle.yaml_base.specs.Characters.{Text}
 use Rattle.yaml_base.specs.Settings.{Effective}
@@ -6,12 +6,12 @@ use Rattle.yaml_base.specs.Event.{Collection, Event, Scalar, ScalarStyle, scalar
 use Rattle.yaml_base.specs.Layout.{Brackets, square, curly, Role, as_item, as_key, is_undented}
 use Rattle.yaml_base.specs.Steps.{Stage, at_node}
 
--- within a document
+-- true within a document
 abbrev pub is_at_node : Stage → Bool
 is_at_node (at_node directives frames) = true
 is_at_node _ = false
 
--- a scalar
+-- true for a scalar
 abbrev pub is_scalar : Event → Bool
 is_scalar (scalar content) = true
 is_scalar _ = false
@@ -36,11 +36,11 @@ abbrev pub brackets_of : (mapping : Bool) → Brackets
 brackets_of true = curly
 brackets_of false = square
 
--- the first entry of a mapping, or of a sequence
+-- the role of the first entry of a mapping, or of a sequence
 abbrev pub first_entry : (mapping : Bool) → Role
 first_entry true = as_key true
 first_entry false = as_item true
 
--- what starts is a sequence that is undented
+-- true if the collection that starts is a sequence that is undented
 abbrev pub starts_undented : Effective → (mapping : Bool) → Role → Bool
 starts_undented s mapping role = not mapping && is_undented s role

@@ -9,7 +9,7 @@ use Rattle.yaml_base.specs.declared.kinds.CollectionKind.TheVariants.{Sequence, 
 use Rattle.yaml_emitter.specs.declared.place.Place as place
 use Rattle.yaml_emitter.specs.declared.place.Frame as frame
 
--- a mapping, or a sequence
+-- true for a mapping, false for a sequence
 abbrev pub is_mapping : CollectionKind → Bool
 is_mapping Sequence = false
 is_mapping Mapping = true

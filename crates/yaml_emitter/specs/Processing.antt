@@ -1,4 +1,4 @@
--- What one event does to a machine.
+-- The effect of one event on a machine.
 use Rattle.std.specs.Prelude.{◌≡◌, Bool, true, false, Option, None, Some, Result, Ok, Err, List, ◌∷◌}
 use Rattle.yaml_base.specs.Settings.{effective}
 use Rattle.yaml_base.specs.Cursor.{Cursor, Rendered}
@@ -12,23 +12,23 @@ use Rattle.yaml_pen.specs.Wrote.{Wrote}
 use Rattle.yaml_emitter.specs.State.{MachineState, standing_of}
 use Rattle.yaml_emitter.specs.WrittenPieces.{piece_at}
 
--- the first event ends a sequence
+-- true if the first event ends a sequence
 abbrev pub ends_sequence : List Event → Bool
 ends_sequence (sequence_end ∷ rest) = true
 ends_sequence rest = false
 
--- the first event ends a mapping
+-- true if the first event ends a mapping
 abbrev pub ends_mapping : List Event → Bool
 ends_mapping (mapping_end ∷ rest) = true
 ends_mapping rest = false
 
--- an event that starts a collection is followed at once by that collection's end
+-- true if an event starts a collection and the next event ends it
 abbrev pub closes_at_once : Event → List Event → Bool
 closes_at_once (sequence_start start) rest = ends_sequence rest
 closes_at_once (mapping_start start) rest = ends_mapping rest
 closes_at_once event rest = false
 
--- an event's piece and what comes next; empty: the collection that it starts ends at once
+-- an event's piece, and the stage after it; `empty`: the collection that it starts ends at once
 abbrev pub event_stepped : MachineState → Event → (empty : Bool) → Stepped
 event_stepped before event empty = step before.settings before.stage event empty (standing_of before)
 
@@ -37,17 +37,17 @@ abbrev pub render_event : MachineState → Event → (empty : Bool) → Cursor �
 render_event before event empty =
     piece_at (λ standing. (step before.settings before.stage event empty standing).rendered) before.open_ended
 
--- the refusal of an event where it stands
+-- the refusal of an event at this stage, if there is one
 abbrev pub refusal_now : MachineState → Event → Option yaml_error_t
 refusal_now state event = stage_refusal state.given.canonical state.stage event
 
--- an event changes what is written and what comes next, and nothing that the caller set
+-- an event changes the text and the stage, and nothing that the caller set
 abbrev pub Keeps : MachineState → MachineState → Type 0
 Keeps before after =
     after
     ≡ record before { settings = after.settings; stage = after.stage; open_ended = after.open_ended; page = after.page }
 
--- the stream's start settles what it is written by; any other event writes its piece
+-- the stream's start sets the page's encoding and break; any other event writes its piece
 abbrev pub WritesPage : Event → (empty : Bool) → MachineState → MachineState → Type 0
 WritesPage (stream_start encoding) empty before after =
     let settings = effective before.given encoding in
@@ -65,7 +65,7 @@ pub record WritesEvent (event : Event) (empty : Bool) (before after : MachineSta
   pub page : WritesPage event empty before after
   pub flushed_whole : flushes event ≡ true → after.page.output ≡ encoded after.page
 
--- a prefix of an event's piece is written, all of it where memory is refused after it
+-- a prefix of an event's piece is written; all of it if memory fails after it
 pub record WrotePart (error : yaml_error_t) (event : Event) (empty : Bool) (before after : MachineState) : Type 0 where
   pub accepted : refusal_now before event ≡ None
   pub passed : after.page.error ≡ Some WriteError → error ≡ WriteError
@@ -73,12 +73,12 @@ pub record WrotePart (error : yaml_error_t) (event : Event) (empty : Bool) (befo
   pub answer : Result (Unit {0}) yaml_error_t
   pub wrote : Wrote (render_event before event empty) before.page after.page answer
 
--- what is written of an event that is cut short: nothing, where memory is refused before; or a prefix of its piece
+-- the page after an event that is cut short: unchanged if memory fails before anything is written, or with a prefix of the piece
 pub data CutPage (error : yaml_error_t) (event : Event) (empty : Bool) (before after : MachineState) : Type 0 where
   unwritten : error ≡ Memory → after.page ≡ before.page → CutPage error event empty before after
   partly_written : WrotePart error event empty before after → CutPage error event empty before after
 
--- an event in whose work the output passes its limit, or memory is refused
+-- an event during which the output passes its limit, or memory fails
 pub record CutShort (error : yaml_error_t) (event : Event) (empty : Bool) (before after : MachineState) : Type 0 where
   pub kept : Keeps before after
   pub settings : after.settings ≡ before.settings

@@ -1,4 +1,4 @@
--- What a caller is promised of an emitter that stands after the events that it was given.
+-- The promises to a caller about an emitter after the events that it was given.
 use Rattle.std.specs.Prelude.{◌≡◌, ◌↔◌, ℕ, zero, suc, ◌<◌, ◌≤◌, Bool, true, false, Option, None, Some, IsSome, List, [], ◌∷◌, ◌++◌, length, take}
 use Rattle.std.specs.List.{All}
 use Rattle.yaml_base.specs.Prefix.{IsPrefix}
@@ -25,12 +25,12 @@ use Rattle.yaml_emitter.specs.State.{State}
 use Rattle.yaml_emitter.specs.StaysFlushed.{StaysFlushed}
 use Rattle.yaml_emitter.specs.Uncut.{IsUncut}
 
--- the text so far is that of the first so many pieces
+-- the text so far is that of the first `count` pieces
 abbrev pub HasText : Settings → List Event → ℕ → State → Type 0
 HasText given all count state =
     state.page.text ≡ text_written (settings_for given all) (pieces (settings_for given all) all count)
 
--- nothing waits, or the first that waits starts a document or a collection
+-- true if nothing waits, or the first waiting event starts a document or a collection
 abbrev pub begins_with_start : List Event → Bool
 begins_with_start [] = true
 begins_with_start (document_start start ∷ rest) = true
@@ -38,20 +38,20 @@ begins_with_start (sequence_start start ∷ rest) = true
 begins_with_start (mapping_start start ∷ rest) = true
 begins_with_start events = false
 
--- as many events may wait as the first of them awaits: one at a document's start, two at a sequence's, three at a mapping's
+-- the most events that may wait, by the first of them: one after a document's start, two after a sequence's, three after a mapping's
 abbrev pub most_held : List Event → ℕ
 most_held [] = 0
 most_held (event ∷ rest) = awaited event
 
--- the events that aren't ready wait
+-- exactly the events that aren't ready wait
 pub record QueuesUnready (all : List Event) (state : State) : Type 0 where
   pub held : state.held ≡ held_back all
   pub few : length state.held ≤ most_held state.held
   pub starts : begins_with_start state.held ≡ true
 
--- an accepted list begins with these events: the text of the first so many pieces of its layout is a prefix of the text so
--- far, which is a prefix of that of these events' pieces; the output is a prefix of its bytes, and begins with all bytes of the
--- documents among the first so many events
+-- an accepted list begins with `prefix`. The text of the first `count` pieces of its layout is a prefix of the text so far, which is
+-- a prefix of the text of the pieces of `prefix`. The output is a prefix of the list's bytes, and begins with all bytes of the
+-- documents among the first `count` events
 pub record BeginsOutput (given : Settings) (all prefix : List Event) (count : ℕ) (state : State) : Type 0 where
   pub later : List Event
   pub parts : prefix ++ later ≡ all
@@ -68,8 +68,8 @@ pub record BeginsOutput (given : Settings) (all prefix : List Event) (count : �
       state.page.output ≡ cut (length state.page.output) (bytes_written s (list_layout s (prefix ++ more)))
   pub flushed : StaysFlushed given all count state.page.output
 
--- an event that became ready was refused: those before it begin an accepted list, with it they begin none; text and output are
--- those of the events before it
+-- an event that became ready was refused: the events before it begin an accepted list, with it they begin none; text and output
+-- are those of the events before it
 pub record RefusedAt (given : Settings) (all : List Event) (error : yaml_error_t) (state : State) : Type 0 where
   pub prefix : List Event
   pub event : Event
@@ -82,63 +82,63 @@ pub record RefusedAt (given : Settings) (all : List Event) (error : yaml_error_t
   pub text : HasText given all (length prefix) state
   pub output : BeginsOutput given all prefix (length prefix) state
 
--- after an error these events, which come before the one in work, are written whole; of its own piece nothing is, or a prefix
+-- after an error the events of `prefix`, which come before the one in work, are written whole; of its own piece nothing, or a prefix
 pub data StopsWriting (given : Settings) (all prefix : List Event) (state : State) : Type 0 where
   stops_before : BeginsOutput given all prefix (length prefix) state → StopsWriting given all prefix state
   stops_within : (event : Event) → BeginsOutput given all (prefix ++ event ∷ []) (length prefix) state → StopsWriting given all prefix state
 
--- without an error the events that are written are all that are ready
+-- without an error the written events are all that are ready
 abbrev pub OutputBegins : Settings → List Event → Option yaml_error_t → State → Type 0
 OutputBegins given all None state = BeginsOutput given all (take (written all) all) (written all) state
 OutputBegins given all (Some error) state = (prefix : List Event) × StopsWriting given all prefix state
 
--- an accepted list begins with these events whose bytes are within the limit
+-- an accepted list whose bytes are within the limit begins with these events
 pub record FitsLimit (given : Settings) (all : List Event) : Type 0 where
   pub more : List Event
   pub accepted : IsAccepted given.canonical (all ++ more)
   pub uncut : IsUncut given (all ++ more)
 
--- the bytes of the text pass the limit, and the output is full: it is that of every accepted list that begins with all
--- events, and no such list fits the limit
+-- the bytes of the text pass the limit, and the output is full: it is that of every accepted list that begins with all events,
+-- and no such list fits the limit
 pub record FillsLimit (given : Settings) (all : List Event) (state : State) : Type 0 where
   pub passed : given.limit < length (encoded state.page)
   pub full : length state.page.output ≡ given.limit
   pub output : (more : List Event) → IsAccepted given.canonical (all ++ more) → state.page.output ≡ output_of given (all ++ more)
   pub unfit : FitsLimit given all → ⊥
 
--- an error of an event that can't be written: neither the output's limit nor memory
+-- an error of an event that can't be written, so neither of the output's limit nor of memory
 abbrev pub IsRefusal : yaml_error_t → Type 0
 IsRefusal WriteError = ⊥
 IsRefusal Memory = ⊥
 IsRefusal error = Unit {0}
 
--- neither the output's limit nor memory gave out
+-- neither the output's limit nor memory failed
 abbrev pub HasRoomAndMemory : Option yaml_error_t → Type 0
 HasRoomAndMemory None = Unit {0}
 HasRoomAndMemory (Some error) = IsRefusal error
 
--- nothing failed but for want of memory
+-- there is no error but that of memory
 abbrev pub FailsOnlyByMemory : Option yaml_error_t → Type 0
 FailsOnlyByMemory None = Unit {0}
 FailsOnlyByMemory (Some error) = error ≡ Memory
 
--- the last of some events is the stream's end
+-- true if the last event is the stream's end
 abbrev pub ends_stream : List Event → Bool
 ends_stream [] = false
 ends_stream (stream_end ∷ []) = true
 ends_stream (event ∷ rest) = ends_stream rest
 
--- where there is room, a list that ends the stream is accepted exactly if no event was refused and none waits
+-- if neither the limit nor memory failed, a list that ends the stream is accepted exactly if no event was refused and none waits
 abbrev pub EndsExactly : Settings → List Event → State → Type 0
 EndsExactly given all state =
     HasRoomAndMemory state.error → IsAccepted given.canonical all ↔ ((state.error ≡ None) × (state.held ≡ []))
 
--- of no pieces there are no bytes, not even a byte order mark
+-- these bytes, or none if there are no pieces, not even a byte order mark
 abbrev pub bytes_of_some : ℕ → List ℕ → List ℕ
 bytes_of_some zero bytes = []
 bytes_of_some (suc count) bytes = bytes
 
--- all bytes of the pieces that are written
+-- all bytes of the written pieces
 abbrev pub bytes_so_far : Settings → List Event → List ℕ
 bytes_so_far given all =
     let s = settings_for given all in
@@ -148,11 +148,11 @@ bytes_so_far given all =
 abbrev pub HasAllBytes : Settings → List Event → State → Type 0
 HasAllBytes given all state = state.page.output ≡ bytes_so_far given all
 
--- an accepted list is written whole, uncut, and means what it says: each scalar reads as its value, canonical bytes read as
--- the content, and in every mode the bytes read as documents that agree with the list, in portable mode whatever it is, else
--- where no document is lost and no tag has a flow indicator, and in portable mode with the line breaks of YAML 1.1 and of
--- 1.2; what stands raw in the text is printable, or a tab where blanks are literal, and no U+2028 or U+2029 with the line breaks
--- of YAML 1.2 or in portable mode; each scalar's text is tidy
+-- an accepted list is written whole, uncut, and keeps its meaning. Each scalar reads as its value. Canonical bytes read as the
+-- content. In every mode the bytes read as documents that agree with the list: in portable mode for every list, and with the line
+-- breaks of YAML 1.1 and of 1.2; in other modes for each list that loses no document and has no flow indicator in a tag. The text
+-- holds printable characters, the CR of line breaks, and tabs if blanks are literal; with the line breaks of YAML 1.2 or in
+-- portable mode neither U+2028 nor U+2029. Each scalar's text is tidy
 pub record IsWritten (given : Settings) (all : List Event) (state : State) : Type 0 where
   pub text : state.page.text ≡ text_written (settings_for given all) (list_layout (settings_for given all) all)
   pub output : state.page.output ≡ output_of given all
@@ -166,7 +166,7 @@ pub record IsWritten (given : Settings) (all : List Event) (state : State) : Typ
   pub raw : HoldsRaw (settings_for given all) state.page.text
   pub tidy : All (BodyIsTidy (settings_for given all)) (bodies_of (list_layout (settings_for given all) all))
 
--- what a caller may rely on wherever an emitter stands
+-- all that a caller may rely on after these events
 pub record Promised (given : Settings) (all : List Event) (state : State) : Type 0 where
   pub text : state.error ≡ None → HasText given all (written all) state
   pub held : state.error ≡ None → QueuesUnready all state

@@ -1,4 +1,4 @@
--- How far in a document goes.
+-- The deepest column in a document.
 use Rattle.std.specs.Prelude.{ℕ, ◌≤◌, Option}
 use Rattle.yaml_base.specs.Layout.{line_column}
 
@@ -6,6 +6,6 @@ use Rattle.yaml_base.specs.Layout.{line_column}
 abbrev pub most_column : ℕ
 most_column = 9000000
 
--- entries stand at this column
+-- the entries' column is at most the deepest
 abbrev pub IsWithinReach : Option ℕ → Type 0
 IsWithinReach column = line_column column ≤ most_column

@@ -1,5 +1,5 @@
--- An emitter stands after the events that it was given: what its state must be, for the proofs. What its caller may rely on
--- is in `Promises`; of the words here contracts name `StandsAfter` alone.
+-- The state of an emitter after the events that it was given, for the proofs. `Promises` has all that its caller may rely on; of the
+-- names here contracts use `StandsAfter` alone.
 use Rattle.std.specs.Prelude.{◌≡◌, ◌+◌, ◌<◌, Bool, true, false, Option, None, Some, Result, List, [], ◌∷◌, ◌++◌, length, take}
 use Rattle.std.specs.List.{list_all}
 use Rattle.yaml_base.specs.Settings.{Settings, Effective}
@@ -18,7 +18,7 @@ use Rattle.yaml_emitter.specs.StaysFlushed.{StaysFlushed}
 use Rattle.yaml_emitter.specs.State.{MachineState, State, machine_of, standing_of}
 use Rattle.yaml_emitter.specs.Processing.{Processed, closes_at_once}
 
--- a page of a stream that was begun, with its settings, and this text
+-- a page of a stream that was begun, with these settings
 pub record IsPage (s : Effective) (page : Page) : Type 0 where
   pub encoding : page.encoding ≡ Some s.encoding
   pub bom_written : page.bom_due ≡ false
@@ -26,13 +26,13 @@ pub record IsPage (s : Effective) (page : Page) : Type 0 where
   pub limit : page.limit ≡ s.limit
   pub sound_output : IsFlushedOutput (encoded page) page.output page.limit page.error
 
--- before the stream's start a page is new; after it, it holds the text of the pieces; it has this error
+-- a page is new before the stream's start, and holds the text of the pieces after it; it has this error
 abbrev pub HoldsPiecesWith : Option yaml_error_t → Effective → List Event → List Piece → Page → Type 0
 HoldsPiecesWith error s [] pieces page = page ≡ record (new_page s.limit) { error = error }
 HoldsPiecesWith error s (event ∷ events) pieces page =
     IsPage s page × (page.text ≡ text_written s pieces) × (page.error ≡ error)
 
--- nothing failed
+-- a page holds the text of the pieces, without an error
 abbrev pub HoldsPieces : Effective → List Event → List Piece → Page → Type 0
 HoldsPieces s events pieces page = HoldsPiecesWith None s events pieces page
 
@@ -41,7 +41,7 @@ abbrev pub IsSettled : Effective → List Event → MachineState → Type 0
 IsSettled s [] machine = Unit {0}
 IsSettled s (event ∷ events) machine = machine.settings ≡ s
 
--- the machine after some steps over a prefix of the events; what was flushed at the ends of its documents is in the output
+-- the machine after the steps over a prefix of the events; the output has all that was flushed at the ends of its documents
 pub record HasProgress (given : Settings) (all prefix : List Event) (progress : Steps) (machine : MachineState) : Type 0 where
   pub given_kept : machine.given ≡ given
   pub settled : IsSettled (settings_for given all) prefix machine
@@ -57,12 +57,12 @@ pub record StandsWithoutError (given : Settings) (all waiting : List Event) (mac
   pub progress : HasProgress given all (take (written all) all) (progress (settings_for given all) all) machine
   pub held : waiting ≡ held_back all
 
--- all events up to one that became ready, and those given after it
+-- the list has the events before one that became ready, that event, and those given after it
 pub record FailedAt (all prefix : List Event) (event : Event) (later : List Event) : Type 0 where
   pub parts : prefix ++ event ∷ later ≡ all
   pub became_ready : length prefix < written all
 
--- the last of some events starts a collection that the event after them ends
+-- true if the last event of a list starts a collection that the event after them ends
 abbrev pub closes_last : List Event → List Event → Bool
 closes_last [] rest = false
 closes_last (event ∷ []) rest = closes_at_once event rest
@@ -77,8 +77,8 @@ pub record StandsRefused (given : Settings) (all : List Event) (error : yaml_err
   pub progress : HasProgress given all prefix (steps (settings_for given all) false prefix at_stream first_standing) machine
   pub refusal : refusal given.canonical prefix event ≡ Some error
 
--- what a page holds of an event that was cut short, with the steps of the events before it, and with it: the text of
--- those before, where memory was refused before it; or that text and a prefix of the event's own piece
+-- the page of an event that was cut short, by the steps of the events before it, and with it: the text of those before, if memory
+-- failed before it; or that text and a prefix of the event's own piece
 pub data HoldsCut (given : Settings) (s : Effective) (prefix : List Event) (event : Event) (before with_event : Steps) (error : yaml_error_t)
     (page : Page) : Type 0 where
   holds_before : error ≡ Memory → HoldsPieces s prefix before.pieces page → HoldsCut given s prefix event before with_event error page
@@ -89,7 +89,7 @@ pub data HoldsCut (given : Settings) (s : Effective) (prefix : List Event) (even
       → IsPrefix page.text (text_written s with_event.pieces)
       → HoldsCut given s prefix event before with_event error page
 
--- the output's limit was passed, or memory refused, at an event
+-- the output passed its limit, or memory failed, at an event
 pub record StandsCut (given : Settings) (all : List Event) (error : yaml_error_t) (machine : MachineState) : Type 0 where
   pub prefix : List Event
   pub event : Event
@@ -104,8 +104,8 @@ pub record StandsCut (given : Settings) (all : List Event) (error : yaml_error_t
       HoldsCut given s prefix event before with_event error machine.page
   pub flushed : StaysFlushed given all (length prefix) machine.page.output
 
--- the output's limit was passed, or memory refused, by a flush between events: all that were ready were written, more may
--- have been given since
+-- the output passed its limit, or memory failed, in a flush between events: all that were ready were written, and more may have
+-- been given since
 pub record StandsUnflushed (given : Settings) (all : List Event) (error : yaml_error_t) (machine : MachineState) : Type 0 where
   pub before : List Event
   pub later : List Event
@@ -118,7 +118,7 @@ pub record StandsUnflushed (given : Settings) (all : List Event) (error : yaml_e
   pub sound_output : IsFlushedOutput (encoded machine.page) machine.page.output machine.page.limit machine.page.error
   pub flushed : StaysFlushed given all (written before) machine.page.output
 
--- the output's limit was passed, or memory refused, at an event or between two
+-- the output passed its limit, or memory failed, at an event or between two
 pub data StandsStopped (given : Settings) (all : List Event) (error : yaml_error_t) (machine : MachineState) : Type 0 where
   at_event : StandsCut given all error machine → StandsStopped given all error machine
   between_events : StandsUnflushed given all error machine → StandsStopped given all error machine
@@ -129,42 +129,42 @@ StandsFailed given all WriteError machine = StandsStopped given all WriteError m
 StandsFailed given all Memory machine = StandsStopped given all Memory machine
 StandsFailed given all error machine = StandsRefused given all error machine
 
--- a machine without an error holds what isn't ready; after an error nothing is held
+-- a machine without an error holds the events that aren't ready; after an error nothing is held
 abbrev pub MachineStands : Settings → List Event → Option yaml_error_t → (held : List Event) → MachineState → Type 0
 MachineStands given all None held machine = StandsWithoutError given all held machine
 MachineStands given all (Some error) held machine = (held ≡ []) × StandsFailed given all error machine
 
--- an emitter stands after these events, by its error or without one
+-- the state of an emitter after these events, by its error or without one
 abbrev pub StateStands : Settings → List Event → State → Type 0
 StateStands given all state = MachineStands given all state.error state.held (machine_of state)
 
--- the emitter stands after these events, whose texts are those of strings, under these settings
+-- this is the state of an emitter after these events, whose texts are those of strings, under these settings
 pub record StandsAfter (given : Settings) (all : List Event) (state : State) : Type 0 where
   pub texts : list_all has_scalar_texts all ≡ true
   pub so : StateStands given all state
 
--- on the way: a prefix of the events is written, the others wait
+-- in between: a prefix of the events is written, the others wait
 pub record HasReached (given : Settings) (all prefix rest : List Event) (machine : MachineState) : Type 0 where
   pub parts : prefix ++ rest ≡ all
   pub ready : written all ≡ length prefix + written rest
   pub progress : HasProgress given all prefix (steps (settings_for given all) (closes_last prefix rest) prefix at_stream first_standing) machine
 
--- the first error is kept
+-- the machine with this error kept
 abbrev pub failed_by : yaml_error_t → MachineState → MachineState
 failed_by error machine = record machine { error = Some error }
 
--- every list that `before` has reached, `after` reaches with more written
+-- for every list that `before` has reached, `after` has reached it with more written
 abbrev pub ReachedOn : (waiting : List Event) → MachineState → (left : List Event) → MachineState → Type 0
 ReachedOn waiting before left after =
     (given : Settings) (all prefix : List Event) → HasReached given all prefix waiting before
     → (next : List Event) × HasReached given all next left after
 
--- one of these failed, wherever the machine had come
+-- one of the waiting events failed, for every list that the machine had reached
 abbrev pub FailedReady : (waiting : List Event) → (error : yaml_error_t) → (before after : MachineState) → Type 0
 FailedReady waiting error before after =
     (given : Settings) (all prefix : List Event) → HasReached given all prefix waiting before → StandsFailed given all error (failed_by error after)
 
--- the first event that waits was processed
+-- the first waiting event was processed
 pub record ProcessedFirst (waiting : List Event) (before after : MachineState) (answer : Result (Unit {0}) yaml_error_t) : Type 0 where
   pub event : Event
   pub rest : List Event

@@ -1,4 +1,4 @@
--- What contracts see of an emitter.
+-- The view of an emitter in contracts.
 use Rattle.std.specs.Prelude.{◌≡◌, ℕ, Bool, true, false, not, ◌||◌, is_some, Option, None, List, []}
 use Rattle.yaml_base.specs.Settings.{largest_usize, Settings, Effective, effective, nothing_given}
 use Rattle.yaml_base.specs.Event.{Event}
@@ -7,9 +7,9 @@ use Rattle.yaml_base.specs.Steps.{Stage, at_stream}
 use Rattle.yaml_base.specs.declared.errors.yaml_error_t.{yaml_error_t}
 use Rattle.yaml_pen.specs.Page.{Page, new_page, all_taken, IsUntouched, IsReady}
 
--- what was set, and what it came to at the stream's start; whether an event was given, an output set, the stream
--- opened and closed; the events that wait; what may come next; the open-ended state; the text so far, its cursor, the bytes
--- flushed and how many of them were taken; the first error
+-- the settings as given, and in effect from the stream's start on; whether an event was given, an output set, the stream opened and
+-- closed; the waiting events; the next stage; the open-ended state; the text so far, its cursor, the flushed bytes and how many of
+-- them were taken; the first error
 pub record State : Type 0 where
   pub given : Settings
   pub settings : Effective
@@ -23,8 +23,8 @@ pub record State : Type 0 where
   pub page : Page
   pub error : Option yaml_error_t
 
--- what contracts see of the machine that writes an emitter's events: what was set, and what it came to at the stream's start;
--- what may come next; the open-ended state; the text so far, its cursor and the bytes flushed; the first error
+-- the view of the machine that writes an emitter's events: the settings as given, and in effect from the stream's start on; the next
+-- stage; the open-ended state; the text so far, its cursor and the flushed bytes; the first error
 pub record MachineState : Type 0 where
   pub given : Settings
   pub settings : Effective
@@ -74,7 +74,7 @@ new_state =
       error = None;
     }
 
--- a new emitter with these settings and an output: what the setters give, called one by one
+-- a new emitter with these settings and an output, as the setters called one by one make it
 abbrev pub new_state_with : Settings → State
 new_state_with given =
     record new_state {
@@ -84,35 +84,35 @@ new_state_with given =
       page = new_page given.limit;
     }
 
--- where writing stands
+-- the cursor and the open-ended state
 abbrev pub standing_of : MachineState → Standing
 standing_of machine = record { cursor = machine.page.cursor; open_ended = machine.open_ended }
 
--- nothing is written before the stream's start; a page is begun with it
+-- a page isn't begun before the stream's start, and is begun with it
 abbrev pub FitsPage : Stage → Page → Type 0
 FitsPage at_stream page = IsUntouched page × (page.bom_due ≡ false) × (page.output ≡ [])
 FitsPage _ page = IsReady page
 
--- an emitter whose output is all taken
+-- the emitter with all its output taken
 abbrev pub with_all_taken : State → State
 with_all_taken state = record state { page = all_taken state.page }
 
--- the stream has not begun
+-- true if the stream has not begun
 abbrev pub is_at_stream : Stage → Bool
 is_at_stream at_stream = true
 is_at_stream _ = false
 
--- the encoding is known once it was set, or the stream has begun
+-- true if the encoding was set, or the stream has begun
 abbrev pub knows_encoding : State → Bool
 knows_encoding state = is_some state.given.encoding || not (is_at_stream state.stage)
 
--- the settings stay, and how much of the output was taken
+-- the settings stay, and the number of output bytes that were taken
 pub record KeepsGiven (before after : MachineState) : Type 0 where
   pub given : after.given ≡ before.given
   pub taken : after.page.taken ≡ before.page.taken
 
--- what the caller set stays: the settings, the output, how much of it was taken, and whether the stream was begun, opened
--- and closed
+-- all that the caller set stays: the settings, the output, the number of its bytes that were taken, and whether the stream was begun,
+-- opened and closed
 pub record KeepsSet (before after : State) : Type 0 where
   pub given : after.given ≡ before.given
   pub started : after.started ≡ before.started

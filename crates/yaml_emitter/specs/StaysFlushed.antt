@@ -1,4 +1,4 @@
--- What was flushed stays flushed: at the end of a document all of it is in the output, and stays there.
+-- Flushed bytes stay flushed: at the end of a document all its bytes are in the output, and stay there.
 use Rattle.std.specs.Prelude.{◌≡◌, ℕ, ◌≤◌, true, Option, List, ◌∷◌, ◌++◌, length, take}
 use Rattle.yaml_base.specs.Settings.{Encoding, Settings}
 use Rattle.yaml_base.specs.Prefix.{IsPrefix}
@@ -7,8 +7,8 @@ use Rattle.yaml_base.specs.Grammar.{Document, Documents, documents_and, document
 use Rattle.yaml_base.specs.Pieces.{pieces}
 use Rattle.yaml_base.specs.Output.{settings_for, bytes_written, last_flushes}
 
--- of each prefix of the first so many events that ends with the end of a document or of the stream, the bytes of its pieces are
--- a prefix of the output
+-- for each prefix of the first `count` events that ends with the end of a document or of the stream, the bytes of its pieces are a
+-- prefix of the output
 abbrev pub StaysFlushed : Settings → List Event → (count : ℕ) → (output : List ℕ) → Type 0
 StaysFlushed given all count output =
     (n : ℕ) → n ≤ count → last_flushes (take n all) ≡ true
@@ -18,7 +18,7 @@ StaysFlushed given all count output =
 abbrev pub whole_documents : Option Encoding → Documents → Document → List Event
 whole_documents encoding documents last = stream_start encoding ∷ documents_events (documents_and documents last)
 
--- all bytes of the documents that are complete in these events are in the output
+-- the output has all bytes of the documents that are complete in these events
 abbrev pub KeepsDocuments : Settings → List Event → (output : List ℕ) → Type 0
 KeepsDocuments given all output =
     (encoding : Option Encoding) (documents : Documents) (last : Document) (later : List Event) → whole_documents encoding documents last ++ later ≡ all

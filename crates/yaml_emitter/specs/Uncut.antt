@@ -1,4 +1,4 @@
--- What the output of an accepted list tells, in canonical mode and in every mode, where no limit cuts it.
+-- The meaning of the output of an accepted list, in canonical mode and in every mode, if no limit cuts it.
 use Rattle.std.specs.Prelude.{◌≡◌, ◌≤◌, Bool, true, Some, List, length}
 use Rattle.std.specs.List.{list_all}
 use Rattle.yaml_base.specs.Settings.{Settings}
@@ -25,7 +25,7 @@ pub record IsWrittenWhole (given : Settings) (events : List Event) : Type 0 wher
   pub scalars : list_all has_scalar_texts events ≡ true
   pub uncut : IsUncut given events
 
--- its output reads as its content
+-- the output of such a list reads as its content
 abbrev pub OutputReads : Settings → List Event → Type 0
 OutputReads given events = IsWrittenWhole given events → canonical_content given.breaks12 (output_of given events) ≡ content_of events
 
@@ -35,22 +35,22 @@ OutputTells given first second =
     IsWrittenWhole given first → IsWrittenWhole given second → output_of given first ≡ output_of given second
     → content_of first ≡ content_of second
 
--- a list that is written whole, in any mode, as all readers of YAML read it
+-- a list that is written whole, in any mode, in a form that readers of YAML read alike
 pub record IsReadable (given : Settings) (events : List Event) : Type 0 where
   pub accepted : IsAccepted given.canonical events
   pub scalars : list_all has_scalar_texts events ≡ true
   pub portable : reads_alike given.portable given.canonical events ≡ true
   pub uncut : IsUncut given events
 
--- its output reads as documents that agree with it
+-- the output of such a list reads as documents that agree with it
 abbrev pub OutputReadsBack : Settings → List Event → Type 0
 OutputReadsBack given events =
     IsReadable given events → agrees given.canonical events (stream_trees given.breaks12 (output_of given events)) ≡ true
 
--- two lists have the same content, as far as it is written: some documents agree with both. They are as many, each with the
--- same version and directives, and node for node of the same kind, with the same anchor or alias, written tag, value and
--- entries; a scalar whose tag isn't written stands, plain, quoted or after the bare tag, as the flags of both allow. Not
--- kept are styles, markers of documents, and tags that flags leave out
+-- two lists have the same content, as far as it is written: some documents agree with both. They have equally many documents, with the
+-- same versions and directives, and node for node the same kind, anchor or alias, written tag, value and entries. A scalar whose tag
+-- isn't written is plain, quoted or after the bare tag, as the flags of both allow. Styles, markers of documents, and tags that
+-- flags leave out are not kept
 pub record HaveSameContent (canonical : Bool) (first second : List Event) : Type 0 where
   pub documents : List DocumentTree
   pub first_agrees : agrees canonical first (Some documents) ≡ true

@@ -1,4 +1,4 @@
--- Atoms, and what they render at a cursor.
+-- Atoms, and their text at a cursor.
 use Rattle.std.specs.Prelude.{ℕ, Bool, true, false, Option, None, Some, ◌||◌, codes, chars, option_map}
 use Rattle.std.specs.List.{list_any}
 use Rattle.yaml_base.specs.Characters.{is_break}
@@ -43,7 +43,7 @@ seen_indicator Alias = indicators.alias
 seen_indicator VerbatimStart = indicators.verbatim_start
 seen_indicator VerbatimEnd = indicators.verbatim_end
 
--- what an atom renders, where lines begin at a column
+-- the text of an atom at a place, at whose column lines begin
 abbrev pub render_atom : Effective → Place → Atom → Cursor → Rendered
 render_atom s place Nothing cursor = render_nothing cursor
 render_atom s place (Fixed atom) cursor = indicators.render_indicator (seen_indicator atom) cursor
@@ -56,37 +56,37 @@ render_atom s place (TagText content) cursor = render_name (percent_escaped (cha
 render_atom s place (Suffix suffix) cursor = render_name (suffix_escaped s.portable (chars suffix.now)) cursor
 render_atom s place (Prefix prefix) cursor = render_handle (prefix_escaped s.portable (chars prefix.now)) cursor
 
--- three atoms in order
+-- the text of three atoms in order
 abbrev pub render_atoms : Effective → Place → Atom × Atom × Atom → Cursor → Rendered
 render_atoms s place atoms cursor =
     render_then (render_then (render_atom s place atoms.0 cursor) (render_atom s place atoms.1)) (render_atom s place atoms.2)
 
--- a name or a handle holds a break
+-- true if an atom is a name or a handle that holds a break
 abbrev pub atom_breaks : Atom → Bool
 atom_breaks (Name name) = list_any is_break (chars name.now)
 atom_breaks (Handle handle) = list_any is_break (chars handle.now)
 atom_breaks _ = false
 
--- one of three atoms does
+-- true if one of three atoms holds a break
 abbrev pub some_atom_breaks : Atom × Atom × Atom → Bool
 some_atom_breaks atoms = atom_breaks atoms.0 || atom_breaks atoms.1 || atom_breaks atoms.2
 
--- a tag as it is spelled, where one is written
+-- a tag as it is spelled, if one is written
 abbrev pub seen_tag : Option SpelledTag → Option Spelling
 seen_tag tag = option_map seen_spelling tag
 
--- the tag that is written, or the bare tag
+-- the text of a written tag, or of the bare tag
 abbrev pub render_spelled_tag : (portable : Bool) → Option Spelling → (bare : Bool) → Cursor → Rendered
 render_spelled_tag portable (Some spelled) bare cursor = render_spelling portable spelled cursor
 render_spelled_tag portable None true cursor = render_handle (codes "!") cursor
 render_spelled_tag portable None false cursor = render_nothing cursor
 
--- the handle of a tag that is spelled with one holds a break
+-- true if a tag is spelled with a handle that holds a break
 abbrev pub spelling_breaks : Option Spelling → Bool
 spelling_breaks (Some (shorthand handle suffix)) = list_any is_break handle
 spelling_breaks _ = false
 
--- the length of a tag as it is spelled, nothing where none is written
+-- the length of a tag as it is spelled; zero if none is written
 abbrev pub spelled_count : Option Spelling → ℕ
 spelled_count None = 0
 spelled_count (Some spelled) = spelling_count spelled

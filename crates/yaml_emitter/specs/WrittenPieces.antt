@@ -1,4 +1,4 @@
--- A piece as what is rendered at a cursor, and the open-ended state.
+-- A piece as its text at a cursor, and the open-ended state.
 use Rattle.std.specs.Prelude.{ℕ, Bool, true, false, Option, List}
 use Rattle.yaml_base.specs.Cursor.{Cursor, Rendered, render_then, new_line}
 use Rattle.yaml_base.specs.Event.{Version, TagDirective}
@@ -15,7 +15,7 @@ use Rattle.yaml_emitter.specs.declared.writing.open_ended.OpenEnded.TheVariants.
 abbrev pub rendered_of : RenderedPiece → Rendered
 rendered_of rendered = record { text = piece_text rendered.piece; cursor = rendered.standing.cursor }
 
--- a piece's whole text by the cursor before it, where the open-ended state is known
+-- a piece's whole text by the cursor before it, with a known open-ended state
 abbrev pub piece_at : (Standing → RenderedPiece) → (open_ended : ℕ) → Cursor → Rendered
 piece_at piece open_ended cursor = rendered_of (piece (record { cursor = cursor; open_ended = open_ended }))
 
@@ -25,14 +25,14 @@ seen_open_ended Closed = 0
 seen_open_ended ImplicitEnd = 1
 seen_open_ended KeptBreaks = 2
 
--- what stands before a document's root, by whether `...` closes the document before and whether `---` is written
+-- the text before a document's root: `closes` says whether `...` ends the document before it, `explicit` whether `---` is written
 abbrev pub render_document_head : Effective → (closes : Bool) → Option Version → List TagDirective → (explicit : Bool) → Cursor → Rendered
 render_document_head s closes version directives explicit cursor =
     render_then
     (render_then (render_then (render_if closes render_closing_marker cursor) (render_version version)) (render_tag_directives s.portable directives))
     (render_if explicit (render_document_marker s.canonical))
 
--- a document's end: a new line, and `...` on a line of its own where it isn't implicit
+-- a document's end: a new line, and `...` on a line of its own if it isn't implicit
 abbrev pub render_document_end : (implicit : Bool) → Cursor → Rendered
 render_document_end true cursor = new_line 0 cursor
 render_document_end false cursor = render_then (render_then (new_line 0 cursor) (render_indicator document_end)) (new_line 0)

@@ -13,15 +13,15 @@ use Rattle.yaml_emitter.specs.WrittenAtoms.{seen_tag, spelling_breaks}
 use Rattle.yaml_emitter.specs.WrittenPieces.{piece_at}
 use Rattle.yaml_emitter.specs.declared.writing.spelling.SpelledTag.{SpelledTag}
 
--- a scalar whose names were checked, and the tag that is written with it, where there is one; where there is none, it has a flag
+-- the names of a scalar were checked; `tag` is written with it if it is there; if not, the scalar has a flag
 pub record IsChecked (canonical : Bool) (content : Scalar) (tag : Option SpelledTag) : Type 0 where
   pub anchor : name_breaks content.anchor ≡ false
   pub handle : spelling_breaks (seen_tag tag) ≡ false
   pub tag_written : is_some tag ≡ is_some (scalar_tag canonical content)
   pub flags : lacks_tag_and_flags (is_some (scalar_tag canonical content)) content.plain_implicit content.quoted_implicit ≡ false
 
--- the scalar's piece is written, under the directives by which its tag is spelled, with the open-ended state before it; after it that
--- state is the piece's
+-- the scalar's piece is written, under the directives by which its tag is spelled, with `open_ended` before it; the state after it is
+-- that of the piece
 pub record WritesScalar (s : Effective) (place : Place) (simple : Bool) (content : Scalar) (tag : Option SpelledTag) (before after : Page)
     (open_ended now : ℕ) (answer : Result (Unit {0}) yaml_error_t) : Type 0 where
   pub written : (directives : List TagDirective) → seen_tag tag ≡ option_map (spelling directives) (scalar_tag s.canonical content)

@@ -1,4 +1,4 @@
-//! Scalars whose texts are borrowed: one that needn't wait is written from where its texts lie.
+//! Scalars with borrowed texts. A scalar that needn't wait is written without a copy.
 
 ghost use Rattle.std.specs.Prelude.{◌≡◌, None, IfOk, IfErr, false, true, chars, option_map};
 ghost use Rattle.std.specs.Str.{all_scalars};
@@ -18,20 +18,21 @@ use crate::writing::ScalarContent;
 use std::alloc::Allocator;
 use yaml_base::{YAML_SCALAR_EVENT, yaml_error_t, yaml_event_t};
 
-/// The outcome of giving an emitter a scalar whose texts are borrowed.
+/// The answer of `yaml_emitter_emit_scalar`.
 #[derive(Clone, Copy, PartialEq, Eq, Debug)]
 pub enum ScalarAnswer {
-    /// The emitter took it, and returned this, as `yaml_emitter_emit` does.
+    /// The scalar was taken. Holds the result that `yaml_emitter_emit` returns.
     Taken(Result<(), yaml_error_t>),
-    /// It has to wait, and its copy couldn't be allocated: nothing changed, and the emitter has no error.
+    /// The scalar has to wait, and its copy couldn't be allocated: nothing changed, and the emitter has no error.
     NotTaken,
 }
 
 impl ScalarAnswer {
-    /// Returns what the emitter returned, or `Memory` for a scalar that wasn't taken.
+    /// Returns the result of a scalar that was taken, and `Memory` for one that wasn't.
     ///
     /// # Errors
-    /// Those of `yaml_emitter_emit`.
+    ///
+    /// Those of `yaml_emitter_emit`, and `Memory` for `NotTaken`.
     pub fn into_result(self) -> Result<(), yaml_error_t>
         ensures { result ≡ result_of_answer self }
     {
@@ -42,11 +43,13 @@ impl ScalarAnswer {
     }
 }
 
-/// Takes a scalar whose texts are borrowed, as `yaml_emitter_emit` takes its event. Where no event waits, or all that wait
-/// can be written with it, it is written at once, and nothing is copied. Else it is copied and waits behind them.
+/// Takes a scalar with borrowed texts, as `yaml_emitter_emit` takes its event. An output must be set.
+///
+/// If no event waits, or all that wait are ready with this scalar, it is written at once, without a copy. Else it is
+/// copied, and waits after them.
 ///
 /// Returns `NotTaken` if the copy can't be allocated: then nothing changed, the emitter has no error, and the call may be
-/// made again. Else the first error, of this call or an earlier one.
+/// made again. Otherwise returns `Taken` with the first error, of this call or an earlier one, if there is one.
 pub fn yaml_emitter_emit_scalar<A: Allocator + Copy>(
     emitter: &mut yaml_emitter_t<A>,
     content: &ScalarContent<'_>,
@@ -71,7 +74,7 @@ pub fn yaml_emitter_emit_scalar<A: Allocator + Copy>(
     wait_behind(emitter, content)
 }
 
-/// Queues a copy of a scalar with which not every queued event is ready.
+/// Queues a copy of a scalar that doesn't make every queued event ready.
 fn wait_behind<A: Allocator + Copy>(
     emitter: &mut yaml_emitter_t<A>,
     content: &ScalarContent<'_>,
@@ -109,7 +112,7 @@ fn text_is_scalars(text: &str)
     ensures { all_scalars (chars text.now) ≡ true }
 {}
 
-/// Returns an event of its own, with a copy of each text.
+/// Returns the event of a scalar, with a copy of each text.
 fn copied_scalar<A: Allocator + Copy>(
     spares: &mut SpareTexts<A>,
     alloc: A,
@@ -142,6 +145,7 @@ fn copied_choice<A: Allocator>(
 /// Returns a copy of a text.
 ///
 /// # Errors
+///
 /// `Memory` if it can't be allocated.
 pub fn copied_text<A: Allocator>(alloc: A, text: &str) -> Result<String<A>, yaml_error_t>
     ensures { CopiesText (chars text.now) result }

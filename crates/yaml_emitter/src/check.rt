@@ -12,7 +12,7 @@ use crate::writing::{CollectionContent, ScalarContent, writes_collection_tag, wr
 use yaml_base::yaml_error_t;
 use yaml_mark::analyze_anchor;
 
-/// Refuses a scalar's faulty anchor, and an empty tag where the tag is written.
+/// Refuses a faulty anchor of a scalar, and an empty tag if the tag is written.
 pub(crate) fn check_scalar_names(
     canonical: bool,
     content: &ScalarContent,
@@ -23,7 +23,7 @@ pub(crate) fn check_scalar_names(
     check_properties(content.anchor, content.tag, written)
 }
 
-/// Refuses a collection's faulty anchor, and an empty tag where the tag is written.
+/// Refuses a faulty anchor of a collection, and an empty tag if the tag is written.
 pub(crate) fn check_collection_names(
     canonical: bool,
     content: &CollectionContent,

@@ -1,4 +1,4 @@
-//! The directives of a document, as it begins.
+//! The directives in force in a document.
 
 ghost use Rattle.std.specs.Option.{option_or};
 ghost use Rattle.std.specs.Prelude.{Some, IfOk, option_map, option_and_then, ◌≡◌, ◌≢◌, [], ◌∷◌, ◌++◌, chars, map, Err, IfErr, OnOk, true};
@@ -16,10 +16,10 @@ use yaml_mark::{Directives, analyze_tag_directive, analyze_version};
 const LOCAL: &str = "!";
 /// The default handle of YAML's own types.
 const TYPES: &str = "!!";
-/// The prefix that `!!` stands for by default.
+/// The default prefix of `!!`.
 const TYPES_PREFIX: &str = "tag:yaml.org,2002:";
 
-/// Copies a document's own directives, each checked in its turn. `Memory` may come at any of them.
+/// Copies a document's own directives, and checks each in turn. Any of them may fail with `Memory`.
 pub(crate) fn read_directives<A: Allocator + Copy>(
     own: &[yaml_tag_directive_t<A>],
     directives: &mut Directives<A>,
@@ -47,7 +47,7 @@ fn read_directive<A: Allocator + Copy>(
     directives.append(directive, allow_duplicates)
 }
 
-/// Adds the defaults whose handles a document didn't give.
+/// Adds each default whose handle the document doesn't give.
 pub(crate) fn add_defaults<A: Allocator + Copy>(
     alloc: A,
     directives: &mut Directives<A>,
@@ -87,8 +87,8 @@ fn add_default<A: Allocator + Copy>(
     directives.append(&directive, allow_duplicates)
 }
 
-/// Returns the directives in force in a document with this version and these directives of its own, each checked in its
-/// turn. `Memory` may come at any of them.
+/// Returns the directives in force in a document with this version and these directives of its own. Checks each of these
+/// in turn; any of them may fail with `Memory`.
 pub(crate) fn directives_for<A: Allocator + Copy>(
     alloc: A,
     version: Option<yaml_version_directive_t>,
@@ -106,8 +106,8 @@ pub(crate) fn directives_for<A: Allocator + Copy>(
     Ok(directives)
 }
 
-/// Returns the directives in force in the next document. Those of the document before are kept where both have the
-/// defaults alone. `Memory` may come at any of its own.
+/// Returns the directives in force in the next document. If it and the document before it have the defaults alone, those of
+/// the document before are kept. Any of its own directives may fail with `Memory`.
 pub(crate) fn next_directives<A: Allocator + Copy>(
     alloc: A,
     before: Directives<A>,

@@ -4,7 +4,7 @@ ghost use Rattle.std.specs.Prelude.{pos, ◌≤◌, ◌≤ℤ◌};
 
 use yaml_base::{yaml_break_t, yaml_encoding_t};
 
-/// The settings that the layout goes by. Neither the encoding nor the break is ANY.
+/// The settings that the layout uses. Neither the encoding nor the break is ANY.
 #[derive(Clone, Copy)]
 pub(crate) struct EffectiveSettings {
     pub encoding: yaml_encoding_t,

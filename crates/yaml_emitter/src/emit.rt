@@ -1,4 +1,4 @@
-//! Events that wait are written where they are ready.
+//! Queues events, and writes each once its form is decided.
 
 ghost use Rattle.std.specs.Prelude.{◌≡◌, None, Ok, List, [], ◌∷◌, ◌++◌, OnOk, IfOk, IfErr, IsOk, IsSome, Err, false, true};
 ghost use Rattle.yaml_base.specs.Event.{Event, Scalar, scalar};
@@ -20,12 +20,15 @@ use crate::queue::{closes_at_once, first_and_rest, followers, is_ready};
 use std::alloc::Allocator;
 use yaml_base::{yaml_error_t, yaml_event_t};
 
-/// Takes an event, and writes what can be written now. The start of a document or of a collection is queued until the
-/// next one to three events decide its form.
+/// Takes an event, and writes all that can be written now. An output must be set. The start of a document or of a
+/// collection is queued until the next one to three events decide its form.
 ///
-/// Returns the first error, of this call or an earlier one. The event is taken in each case. After an error nothing
-/// waits, and nothing more is written. If a well-formed stream begins with the events and fits the limit, the only
-/// error is `Memory`.
+/// The event is taken in each case. After an error nothing waits, and nothing more is written.
+///
+/// # Errors
+///
+/// The first error, of this call or an earlier one. If a well-formed stream begins with the events and fits the limit, the
+/// only error is `Memory`.
 #[inline(never)]
 pub fn yaml_emitter_emit<A: Allocator + Copy>(
     emitter: &mut yaml_emitter_t<A>,
@@ -39,7 +42,7 @@ pub fn yaml_emitter_emit<A: Allocator + Copy>(
     ensures kept { IsSome emitter.old.error → emitter.new ≡ record emitter.old { started = true } }
 {
     emitter.started = true;
-    // (a refused event is dropped by name: that is one call, where a scope's end has one for each of its texts)
+    // (A refused event is dropped by name: that is one call, while the end of a scope makes one for each of its texts.)
     if let Some(error) = emitter.machine.error() {
         drop(event);
         return Err(error);
@@ -58,12 +61,14 @@ pub fn yaml_emitter_emit<A: Allocator + Copy>(
     Ok(())
 }
 
-/// Flushes all that is written. Events that wait go on waiting.
+/// Flushes all that is written. An output must be set. Events that wait go on waiting. If all is flushed already, nothing
+/// changes and no memory is needed.
 ///
-/// Returns the first error, of this call or an earlier one: `WriteError` if the text's bytes pass the output's limit,
-/// `Memory` if the output can't grow; it then stays as it was. After an error nothing waits. If a well-formed stream
-/// begins with the events and fits the limit, the only error is `Memory`. If all is flushed already, nothing changes
-/// and no memory is needed.
+/// # Errors
+///
+/// The first error, of this call or an earlier one: `WriteError` if the text's bytes pass the output's limit, `Memory` if the
+/// output can't grow; the output then stays as it was. After an error nothing waits. If a well-formed stream begins with the
+/// events and fits the limit, the only error is `Memory`.
 pub fn yaml_emitter_flush<A: Allocator + Copy>(
     emitter: &mut yaml_emitter_t<A>,
 ) -> Result<(), yaml_error_t>
@@ -87,11 +92,11 @@ pub fn yaml_emitter_flush<A: Allocator + Copy>(
     }
 }
 
-/// Returns the flushed bytes not yet taken, so that a stream of any length can be sent on while it is written. What
-/// these calls return, one after another, and what `output` returns then are together the output. The output's limit
-/// counts what was taken, too.
+/// Returns the flushed bytes not yet taken, so that a stream of any length can be sent on while it is written. The results
+/// of these calls, in order, and then that of `output` are together the whole output. The output's limit counts the taken
+/// bytes, too.
 ///
-/// It may be called at any time, also after an error, and takes no memory.
+/// It may be called at any time, also after an error, and allocates nothing.
 pub fn yaml_emitter_take_output<A: Allocator + Copy>(emitter: &mut yaml_emitter_t<A>) -> Vec<u8, A>
     ensures rest { result.items ≡ output_left emitter.old.page }
     ensures untaken { emitter.old.page.taken ≡ 0 → result.items ≡ emitter.old.page.output }
@@ -102,11 +107,11 @@ pub fn yaml_emitter_take_output<A: Allocator + Copy>(emitter: &mut yaml_emitter_
     emitter.machine.take_output()
 }
 
-/// Counts the flushed bytes not yet taken as taken, where the caller handed on what `output` returned: nothing of it is
-/// left then. The output's limit counts it, too. Its memory is used for what comes next, so a caller that hands on the
-/// output after each document, and calls this, asks for no memory each time.
+/// Counts the flushed bytes as taken, for a caller that has handed on the result of `output`, which is empty afterwards.
+/// The output's limit counts the taken bytes, too. Their memory is used for the bytes that follow, so a caller that hands on
+/// the output after each document, and calls this, doesn't allocate each time.
 ///
-/// It may be called at any time, also after an error, and takes no memory.
+/// It may be called at any time, also after an error, and allocates nothing.
 pub fn yaml_emitter_consume_output<A: Allocator + Copy>(emitter: &mut yaml_emitter_t<A>)
     ensures taken { emitter.new ≡ with_all_taken emitter.old }
     ensures stands { (given : Settings) (all : List Event) → StandsAfter given all emitter.old → StandsAfter given all emitter.new }
@@ -116,7 +121,7 @@ pub fn yaml_emitter_consume_output<A: Allocator + Copy>(emitter: &mut yaml_emitt
 }
 
 impl<A: Allocator + Copy> yaml_emitter_t<A> {
-    /// Writes the queued events that are ready with this one behind them; `None` stands for a scalar.
+    /// Writes the queued events that are ready if this event follows them; `None` means a scalar.
     pub(crate) fn write_waiting(
         &mut self,
         next: Option<&yaml_event_t<A>>,
@@ -131,7 +136,7 @@ impl<A: Allocator + Copy> yaml_emitter_t<A> {
         self.write_queue(next)
     }
 
-    /// Writes the queued events that are ready with a scalar behind them.
+    /// Writes the queued events that are ready if a scalar follows them.
     pub(crate) fn write_before_scalar<'a>(&'a mut self) -> Result<(), yaml_error_t>
         requires no_error { self.old.error ≡ None }
         requires output { self.old.has_output ≡ true }
@@ -141,7 +146,7 @@ impl<A: Allocator + Copy> yaml_emitter_t<A> {
         self.write_waiting(scalar)
     }
 
-    /// Does what `write_waiting` does where events wait. Out of line, so that `write_waiting` is inlined.
+    /// Does the work of `write_waiting` if events wait. Out of line, so that `write_waiting` is inlined.
     #[inline(never)]
     fn write_queue(&mut self, next: Option<&yaml_event_t<A>>) -> Result<(), yaml_error_t>
         requires no_error { self.old.error ≡ None }
@@ -163,7 +168,7 @@ impl<A: Allocator + Copy> yaml_emitter_t<A> {
 }
 
 impl<A: Allocator + Copy> Machine<A> {
-    /// Keeps the error of a call, where it has one, for good. Returns what the call returned.
+    /// Keeps the error of a call, if it has one, for good. Returns the call's result.
     pub(crate) fn keep_error(
         &mut self,
         answer: Result<(), yaml_error_t>,
@@ -177,7 +182,7 @@ impl<A: Allocator + Copy> Machine<A> {
         answer
     }
 
-    /// Writes the events that are ready with one behind them, in order up to the first error, and returns how many they are.
+    /// Writes the events that are ready if this one follows them, in order up to the first error, and returns their number.
     fn write_ready(
         &mut self,
         waiting: &[yaml_event_t<A>],

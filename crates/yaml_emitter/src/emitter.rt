@@ -1,4 +1,4 @@
-//! The emitter: a queue of the events that wait, beside the machine that writes them.
+//! The emitter: a queue of waiting events, and the machine that writes them.
 
 ghost use Rattle.std.specs.Prelude.{◌≡◌, ◌≤◌, IfOk, IfErr, [], false, true, vec_len, vec_capacity};
 ghost use Rattle.yaml_base.specs.Settings.{nothing_given};
@@ -13,8 +13,8 @@ use std::alloc::Allocator;
 use std::marker::Model;
 use yaml_base::{yaml_error_t, yaml_event_t};
 
-/// At most three events wait when the next comes. There is room for four from the start, so that none that comes asks for
-/// memory.
+/// At most three events wait when the next one comes. The queue has room for four from the start, so that taking an event
+/// never grows it.
 pub(crate) type WaitingEvents<A> = Vec<yaml_event_t<A>, A>;
 
 /// Writes events as YAML 1.1 into a vector of bytes.
@@ -28,7 +28,7 @@ pub struct yaml_emitter_t<A: Allocator> {
     pub(crate) machine: Machine<A>,
 }
 
-// Not derived, so that a function that drops an emitter has one call for it in place of one for each part.
+// Not derived, so that a function that drops an emitter makes one call, and not one for each part.
 impl<A: Allocator> Drop for yaml_emitter_t<A> {
     fn drop(self) {
         let yaml_emitter_t {
@@ -54,9 +54,11 @@ impl<A: Allocator> Model for yaml_emitter_t<A> {
     ghost invariant = { IsEmitter };
 }
 
-/// Makes a new emitter: nothing is set, no output, no event.
+/// Makes a new emitter: with no settings, no output and no event.
 ///
-/// Returns `Memory` if its buffer or its queue can't be allocated.
+/// # Errors
+///
+/// `Memory` if its buffer or its queue can't be allocated.
 pub fn yaml_emitter_initialize<A: Allocator + Copy>(
     alloc: A,
 ) -> Result<yaml_emitter_t<A>, yaml_error_t>
@@ -78,7 +80,8 @@ pub fn yaml_emitter_initialize<A: Allocator + Copy>(
 }
 
 impl<A: Allocator + Copy> yaml_emitter_t<A> {
-    /// Makes a new emitter with these settings and an output, as the setters make it, called one by one.
+    /// Makes a new emitter with these settings and an output of at most `settings.limit` bytes, as the setters called one by
+    /// one make it.
     ///
     /// # Errors
     ///

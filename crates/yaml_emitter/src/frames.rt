@@ -62,7 +62,7 @@ impl<A: Allocator> Frames<A> {
         self.is_open() && self.outer.len() >= MOST_OPEN - 1
     }
 
-    /// Returns where the next node stands.
+    /// Returns the place of the next node.
     pub(crate) fn next_place(&self) -> Place
         ensures place { seen_place result ≡ steps.next_place self.now }
         ensures nested { line_column (seen_place result).column ≤ 9 * length self.now }
@@ -83,14 +83,14 @@ impl<A: Allocator> Frames<A> {
         }
     }
 
-    /// Goes on after a node of the innermost collection, which may have been a simple key. Returns what comes next.
+    /// Goes past a node of the innermost collection; `simple` says whether it was a simple key. Returns the next stage.
     pub(crate) fn advance(&mut self, simple: bool) -> Stage
         ensures frames { self.new ≡ advanced simple self.old }
         ensures stage { (directives : List TagDirective) → seen_stage result directives self.new ≡ steps.stage_after directives self.old simple }
     {
         match &mut self.innermost {
             Some(frame) => {
-                // What the next node is.
+                // The role of the next node.
                 frame.place.role = match frame.place.role {
                     Role::Root => Role::Root,
                     Role::Item { .. } => Role::Item { first: false },

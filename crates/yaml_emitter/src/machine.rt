@@ -1,4 +1,4 @@
-//! The machine: it writes one event after another, and knows what may come next.
+//! The machine: writes one event after another, and knows what may come next.
 
 ghost use Rattle.std.specs.Prelude.{◌≡◌, IfOk, IfErr, None, []};
 ghost use Rattle.yaml_pen.specs.Page.{IsUntouched, all_taken, encoded, output_left};
@@ -44,11 +44,11 @@ impl<A: Allocator> Model for Machine<A> {
 }
 
 impl<A: Allocator + Copy> Machine<A> {
-    /// Makes a machine that nothing was given to.
+    /// Makes a machine that has been given nothing.
     ///
     /// # Errors
     ///
-    /// `Memory` where the pen's buffer finds no room.
+    /// `Memory` if the pen's buffer can't be allocated.
     pub(crate) fn new(alloc: A) -> Result<Machine<A>, yaml_error_t>
         ensures made { IfOk result (λ machine. machine ≡ new_machine) }
         ensures memory { IfErr result (λ error. error ≡ yaml_error_t.Memory) }
@@ -77,7 +77,7 @@ impl<A: Allocator> Machine<A> {
         self.error
     }
 
-    /// Returns the flushed bytes not yet taken; none where nothing is written.
+    /// Returns the flushed bytes not yet taken; none if nothing is written.
     pub(crate) fn output(&self) -> &[u8]
         ensures value { result.now ≡ output_left self.now.page }
         ensures untaken { self.now.page.taken ≡ 0 → result.now ≡ self.now.page.output }

@@ -1,4 +1,4 @@
-//! Events within a document: leaves, and the starts and ends of collections. One function a kind.
+//! Events within a document: leaves, and the starts and ends of collections. One function for each kind.
 
 ghost use Rattle.std.specs.Prelude.{◌≡◌, ◌≤◌, ◌+◌, ℕ, Bool, None, true, false, not, chars, length, is_some, option_map};
 ghost use Rattle.yaml_base.specs.Event.{CollectionStyle, alias, scalar, any_layout};
@@ -42,7 +42,7 @@ use yaml_pen::Pen;
 use yaml_scalar::write_simple_ascii_scalar;
 
 impl<A: Allocator + Copy> Machine<A> {
-    /// Processes a scalar. One that stands as it is has no anchor, and no tag is written: nothing of it can be refused.
+    /// Processes a scalar. One that is plain as it is has no anchor and no written tag, so nothing of it can be refused.
     #[inline(always)]
     pub(crate) fn scalar(&mut self, content: &ScalarContent) -> Result<(), yaml_error_t>
         ensures { (empty : Bool) → Processed (scalar (seen_scalar content.now)) empty self.old self.new result }
@@ -74,7 +74,7 @@ impl<A: Allocator + Copy> Machine<A> {
         })
     }
 
-    /// Processes any other scalar: its anchor and tag are looked at before its place.
+    /// Processes any other scalar: checks its anchor and tag, then its place.
     fn chosen_scalar(&mut self, content: &ScalarContent) -> Result<(), yaml_error_t>
         ensures { (empty : Bool) → Processed (scalar (seen_scalar content.now)) empty self.old self.new result }
     {
@@ -87,7 +87,7 @@ impl<A: Allocator + Copy> Machine<A> {
         }
     }
 
-    /// Writes a simple ASCII scalar that stands plain as it is; the open-ended state stays. Takes only the value, so that all it calls is inlined.
+    /// Writes a simple ASCII scalar that is plain as it is; the open-ended state stays. Takes only the value, so that its calls are inlined.
     fn put_simple_ascii(&mut self, value: &str) -> Result<(), yaml_error_t>
         requires stage { is_at_node self.old.stage ≡ true }
         requires simple_ascii { IsSimpleAscii value.now }
@@ -154,8 +154,8 @@ impl<A: Allocator + Copy> Machine<A> {
         write_alias(&mut self.pen, &site, name)
     }
 
-    /// Processes the start of a collection. Memory for what is open is asked for first: where it is refused, nothing of
-    /// the start is written.
+    /// Processes the start of a collection. Reserves memory for the open collection first: if that fails, nothing of the start
+    /// is written.
     pub(crate) fn start_collection(
         &mut self,
         content: &CollectionContent,
@@ -253,7 +253,7 @@ fn is_bare(content: &ScalarContent) -> bool
         && content.quoted_implicit
 }
 
-/// Returns whether a scalar whose tag isn't written has no flag, although it needs one.
+/// Returns whether a scalar has neither a written tag nor a flag that lets the tag be left out.
 fn lacks_flag(content: &ScalarContent, canonical: bool) -> bool
     ensures { result ≡ style.lacks_tag_and_flags
         (is_some (scalar_tag canonical (seen_scalar content.now))) content.now.plain_implicit content.now.quoted_implicit }

@@ -14,17 +14,17 @@ pub(crate) enum Role {
     Value { simple: bool },
 }
 
-/// The place where a node stands: in flow or in block, as what, and the column of the entries around it.
+/// The place of a node: whether it is in flow, its role, and the column of the entries around it.
 #[derive(Clone, Copy)]
 pub(crate) struct Place {
     pub in_flow: bool,
     pub role: Role,
-    /// In characters; none at the root.
+    /// In characters; `None` at the root.
     pub column: Option<u32>,
     ghost reach: { IsWithinReach column },
 }
 
-/// An open collection: where its next entry stands, and whether it is itself a simple key.
+/// An open collection: the place of its next entry, and whether the collection is itself a simple key.
 #[derive(Clone, Copy)]
 pub(crate) struct Frame {
     pub place: Place,
@@ -81,7 +81,7 @@ impl Place {
         }
     }
 
-    /// Returns where a new line begins here.
+    /// Returns the column at which a new line begins here.
     pub(crate) fn line_column(&self) -> u32
         ensures value { result ≡ line_column (seen_place self.now).column }
         ensures within { result ≤ most_column }

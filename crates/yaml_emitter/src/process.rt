@@ -1,4 +1,4 @@
-//! One event: what refuses it, what it writes, and what may come next. One function a place.
+//! One event: why it is refused, what it writes, and what may come next. One function for each place.
 
 ghost use Rattle.std.specs.Prelude.{Bool, map, option_map, ◌≡◌, ℕ, false, IsSome, OnOk, unwrap_or};
 ghost use Rattle.yaml_base.specs.Event.{stream_start, stream_end, document_start, document_end};
@@ -33,7 +33,7 @@ use yaml_mark::Directives;
 use yaml_pen::Pen;
 
 impl<A: Allocator + Copy> Machine<A> {
-    /// Processes one event, its names before its place.
+    /// Processes one event. Checks its names before its place.
     #[inline(always)]
     pub(crate) fn process(
         &mut self,
@@ -105,7 +105,7 @@ impl<A: Allocator + Copy> Machine<A> {
         }
     }
 
-    /// Processes the stream's start, which settles what it is written by.
+    /// Processes the stream's start, and settles the settings in effect.
     fn start_stream(&mut self, encoding: yaml_encoding_t) -> Result<(), yaml_error_t>
         ensures { (empty : Bool) → Processed (stream_start (seen_encoding encoding)) empty self.old self.new result }
     {
@@ -123,7 +123,7 @@ impl<A: Allocator + Copy> Machine<A> {
         Ok(())
     }
 
-    /// Processes a document's start. Memory is asked for before anything is written.
+    /// Processes a document's start. Allocates its directives before anything is written.
     fn start_document(
         &mut self,
         version: Option<yaml_version_directive_t>,
@@ -159,7 +159,7 @@ impl<A: Allocator + Copy> Machine<A> {
         Ok(())
     }
 
-    /// Processes a document's end, with `...` where it isn't implicit.
+    /// Processes a document's end, with `...` if it isn't implicit.
     fn end_document(&mut self, implicit: bool) -> Result<(), yaml_error_t>
         ensures { (empty : Bool) → Processed (document_end implicit) empty self.old self.new result }
     {
@@ -214,7 +214,7 @@ fn flush_stream_end<A: Allocator>(
     pen.flush()
 }
 
-/// Begins a page, with the byte order mark where its encoding has one.
+/// Begins a page, with the byte order mark if its encoding has one.
 fn begin_page<A: Allocator>(pen: &mut Pen<A>, encoding: yaml_encoding_t, line_break: yaml_break_t)
     requires untouched { IsUntouched pen.old }
     requires encoding { IsSome (seen_encoding encoding) }

@@ -1,4 +1,4 @@
-//! Which events can be written: the head of the queue waits for those that decide how it is written.
+//! Decides which events can be written. The head of the queue waits for the events that decide its form.
 
 ghost use Rattle.std.specs.Prelude.{◌≡◌, ◌<◌, ◌≤◌, ◌==◌, ◌&&◌, ◌+◌, ◌^◌, ◌∷◌, ◌++◌, [], true, drop, length, vec_len, vec_capacity};
 ghost use Rattle.std.specs.List.{list_any};
@@ -29,7 +29,7 @@ fn ends<A: Allocator>(event: &yaml_event_t<A>) -> bool
     )
 }
 
-/// Returns how many events must follow this one, where none closes it sooner.
+/// Returns the number of events that must follow this one, unless one of them closes it sooner.
 pub(crate) fn followers<A: Allocator>(event: &yaml_event_t<A>) -> usize
     ensures { result ≡ awaited (seen_event event.now) }
 {
@@ -41,8 +41,8 @@ pub(crate) fn followers<A: Allocator>(event: &yaml_event_t<A>) -> usize
     }
 }
 
-/// Returns how many collections, documents and streams are open within another one behind an event, where so many are
-/// before it. None where the event ends that one.
+/// Returns the number of collections, documents and streams that are open within another one after an event, if `before` are
+/// open before the event. `None` if the event ends the other one.
 fn open_behind<A: Allocator>(before: usize, event: &yaml_event_t<A>) -> Option<usize>
     requires { before + 1 < 2 ^ 64 }
     ensures { result ≡ open_behind before (seen_event event.now) }
@@ -57,7 +57,7 @@ fn open_behind<A: Allocator>(before: usize, event: &yaml_event_t<A>) -> Option<u
     }
 }
 
-/// Returns whether what an event starts is ended by those behind it and by the last one; none at the end is a scalar.
+/// Returns whether `rest` and then `next` end what the event before them starts; `None` means a scalar.
 fn closes<A: Allocator>(rest: &[yaml_event_t<A>], next: Option<&yaml_event_t<A>>) -> bool
     ensures { (first last : Event) → is_start first ≡ true → StandsLast (seen_next next.entry) last
         → result ≡ list_any is_balanced (nonempty_prefixes (first ∷ (seen_events rest.now ++ last ∷ []))) }
@@ -75,7 +75,7 @@ fn closes<A: Allocator>(rest: &[yaml_event_t<A>], next: Option<&yaml_event_t<A>>
     }
 }
 
-/// Returns whether an event that waits can be written with these and the last one behind it; none at the end is a scalar.
+/// Returns whether a waiting event can be written if `rest` and then `next` follow it; `None` means a scalar.
 pub(crate) fn is_ready<A: Allocator>(
     event: &yaml_event_t<A>,
     rest: &[yaml_event_t<A>],
@@ -101,7 +101,8 @@ pub(crate) fn are_ready_by_one_more<A: Allocator>(waiting: &[yaml_event_t<A>]) -
     true
 }
 
-/// Returns whether an event starts a collection that the next of these and the last one ends; none at the end is a scalar.
+/// Returns whether an event starts a collection that the event after it ends: the first of `rest`, or else `next`; `None`
+/// means a scalar.
 pub(crate) fn closes_at_once<A: Allocator>(
     event: &yaml_event_t<A>,
     rest: &[yaml_event_t<A>],
@@ -130,7 +131,7 @@ fn is_end_of<A: Allocator>(end: &yaml_event_t<A>, start: &yaml_event_t<A>) -> bo
     }
 }
 
-/// Returns the first of the events that wait, and those behind it.
+/// Returns the first of the waiting events, and those after it.
 pub(crate) fn first_and_rest<A: Allocator>(
     waiting: &[yaml_event_t<A>],
 ) -> (&yaml_event_t<A>, &[yaml_event_t<A>])

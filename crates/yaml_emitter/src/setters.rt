@@ -1,4 +1,4 @@
-//! The calls that set an emitter before the stream, and those that ask it.
+//! Setters of an emitter, called before the stream begins, and its getters.
 
 ghost use Rattle.std.specs.Prelude.{◌≡◌, ◌↔◌, IsTrue, Some, None, false, true, List, [], length};
 ghost use Rattle.yaml_base.specs.Event.{Event};
@@ -16,12 +16,12 @@ use crate::stage::Stage;
 use std::alloc::Allocator;
 use yaml_base::{YAML_ANY_ENCODING, yaml_break_t, yaml_encoding_t, yaml_error_t};
 
-/// Consumes the emitter and its output.
+/// Drops the emitter and its output.
 pub fn yaml_emitter_delete<A: Allocator>(emitter: yaml_emitter_t<A>) {
     drop(emitter);
 }
 
-/// Sets an output of at most `size` bytes.
+/// Sets an output of at most `size` bytes. No output may be set before.
 pub fn yaml_emitter_set_output_string<A: Allocator>(emitter: &mut yaml_emitter_t<A>, size: usize)
     requires { emitter.old.has_output ≡ false }
     ensures set { emitter.new
@@ -36,7 +36,7 @@ pub fn yaml_emitter_set_output_string<A: Allocator>(emitter: &mut yaml_emitter_t
     emitter.has_output = true;
 }
 
-/// Sets the encoding; ANY leaves it to the stream's start, and then to UTF-8.
+/// Sets the encoding; ANY means that of the stream's start, or else UTF-8. No event may have been given, and no encoding set.
 pub fn yaml_emitter_set_encoding<A: Allocator>(
     emitter: &mut yaml_emitter_t<A>,
     encoding: yaml_encoding_t,
@@ -49,7 +49,7 @@ pub fn yaml_emitter_set_encoding<A: Allocator>(
     emitter.machine.given.encoding = encoding;
 }
 
-/// Sets whether the output is canonical: in flow, double-quoted, every tag written.
+/// Sets whether the output is canonical: in flow, double-quoted, every tag written. No event may have been given.
 pub fn yaml_emitter_set_canonical<A: Allocator>(emitter: &mut yaml_emitter_t<A>, canonical: bool)
     requires { emitter.old.started ≡ false }
     ensures set { emitter.new
@@ -63,7 +63,7 @@ pub fn yaml_emitter_set_canonical<A: Allocator>(emitter: &mut yaml_emitter_t<A>,
     emitter.machine.settings.canonical = canonical;
 }
 
-/// Sets the indent in columns; 2 to 9 is kept, any other becomes 2.
+/// Sets the indent in columns; 2 to 9 is kept, any other becomes 2. No event may have been given.
 pub fn yaml_emitter_set_indent<A: Allocator>(emitter: &mut yaml_emitter_t<A>, indent: i32)
     requires { emitter.old.started ≡ false }
     ensures set { emitter.new ≡ record emitter.old { given = record emitter.old.given { indent = Some indent } } }
@@ -72,7 +72,7 @@ pub fn yaml_emitter_set_indent<A: Allocator>(emitter: &mut yaml_emitter_t<A>, in
     emitter.machine.given.indent = Some(indent);
 }
 
-/// Sets the column, in characters, past which lines are folded; a negative one is no limit.
+/// Sets the column, in characters, past which lines are folded; a negative one means no limit. No event may have been given.
 pub fn yaml_emitter_set_width<A: Allocator>(emitter: &mut yaml_emitter_t<A>, width: i32)
     requires { emitter.old.started ≡ false }
     ensures set { emitter.new ≡ record emitter.old { given = record emitter.old.given { width = Some width } } }
@@ -81,7 +81,7 @@ pub fn yaml_emitter_set_width<A: Allocator>(emitter: &mut yaml_emitter_t<A>, wid
     emitter.machine.given.width = Some(width);
 }
 
-/// Sets whether printable characters past ASCII stand as themselves.
+/// Sets whether printable characters beyond ASCII are written unescaped. No event may have been given.
 pub fn yaml_emitter_set_unicode<A: Allocator>(emitter: &mut yaml_emitter_t<A>, unicode: bool)
     requires { emitter.old.started ≡ false }
     ensures set { emitter.new ≡ record emitter.old { given = record emitter.old.given { unicode = unicode } } }
@@ -90,7 +90,7 @@ pub fn yaml_emitter_set_unicode<A: Allocator>(emitter: &mut yaml_emitter_t<A>, u
     emitter.machine.given.unicode = unicode;
 }
 
-/// Sets the quotes of a scalar that isn't plain and that both can hold.
+/// Sets the quotes of a scalar that isn't plain and that both kinds can hold. No event may have been given.
 pub fn yaml_emitter_set_quotes<A: Allocator>(emitter: &mut yaml_emitter_t<A>, quotes: Quotes)
     requires { emitter.old.started ≡ false }
     ensures set { emitter.new ≡ record emitter.old { given = record emitter.old.given { double_quotes = is_double quotes } } }
@@ -99,7 +99,7 @@ pub fn yaml_emitter_set_quotes<A: Allocator>(emitter: &mut yaml_emitter_t<A>, qu
     emitter.machine.given.quotes = quotes;
 }
 
-/// Sets the line break; ANY is LF.
+/// Sets the line break; ANY means LF. No event may have been given.
 pub fn yaml_emitter_set_break<A: Allocator>(
     emitter: &mut yaml_emitter_t<A>,
     line_break: yaml_break_t,
@@ -111,8 +111,8 @@ pub fn yaml_emitter_set_break<A: Allocator>(
     emitter.machine.given.line_break = line_break;
 }
 
-/// Sets whether the breaks U+2028 and U+2029, which YAML 1.2 takes for ordinary characters, are escaped, so that
-/// readers of both versions find the same value.
+/// Sets whether the breaks U+2028 and U+2029, which are ordinary characters in YAML 1.2, are escaped, so that readers of both
+/// versions find the same value. No event may have been given.
 pub fn yaml_emitter_set_line_breaks_1_2<A: Allocator>(
     emitter: &mut yaml_emitter_t<A>,
     breaks12: bool,
@@ -124,9 +124,9 @@ pub fn yaml_emitter_set_line_breaks_1_2<A: Allocator>(
     emitter.machine.given.line_breaks_1_2 = breaks12;
 }
 
-/// Sets whether what readers of YAML read differently, or not at all, is written in the way that all read alike: every
-/// document begins with `---`, `,` `[` `]` after a tag's handle and U+2028 and U+2029 are escaped, a `!` that begins a
-/// `%TAG` prefix isn't, and a root that begins with a blank or a line break is no block scalar.
+/// Sets whether text that readers of YAML read differently, or not at all, is written in a form that they read alike: every
+/// document begins with `---`; `,` `[` `]` after a tag's handle and U+2028 and U+2029 are escaped; a `!` that begins a `%TAG`
+/// prefix isn't; and a root that begins with a blank or a line break is no block scalar. No event may have been given.
 pub fn yaml_emitter_set_portable<A: Allocator>(emitter: &mut yaml_emitter_t<A>, portable: bool)
     requires { emitter.old.started ≡ false }
     ensures set { emitter.new ≡ record emitter.old { given = record emitter.old.given { portable = portable } } }
@@ -135,7 +135,8 @@ pub fn yaml_emitter_set_portable<A: Allocator>(emitter: &mut yaml_emitter_t<A>, 
     emitter.machine.given.portable = portable;
 }
 
-/// Sets whether a block sequence that is the key or the value of a pair is indented, as any other block collection is.
+/// Sets whether a block sequence that is the key or the value of a pair is indented, as any other block collection is. No
+/// event may have been given.
 pub fn yaml_emitter_set_indented_sequences<A: Allocator>(
     emitter: &mut yaml_emitter_t<A>,
     indented: bool,
@@ -147,8 +148,8 @@ pub fn yaml_emitter_set_indented_sequences<A: Allocator>(
     emitter.machine.given.indented_sequences = indented;
 }
 
-/// Sets whether blanks are literal: a scalar for which literal is asked is literal also where it holds tabs, or spaces before a
-/// break or at its end, if no nonempty line is of blanks alone.
+/// Sets whether blanks are literal: a scalar for which literal is asked is then literal even if it holds tabs, or spaces before
+/// a break or at its end, provided that no nonempty line is of blanks alone. No event may have been given.
 pub fn yaml_emitter_set_literal_blanks<A: Allocator>(emitter: &mut yaml_emitter_t<A>, literal: bool)
     requires { emitter.old.started ≡ false }
     ensures set { emitter.new ≡ record emitter.old { given = record emitter.old.given { literal_blanks = literal } } }
@@ -204,7 +205,7 @@ impl<A: Allocator> yaml_emitter_t<A> {
         self.closed
     }
 
-    /// Notes that the stream was opened as a whole.
+    /// Notes that the stream was opened as a whole. An output must be set.
     pub fn mark_opened(&mut self)
         requires { self.old.has_output ≡ true }
         ensures set { self.new ≡ record self.old { opened = true } }
@@ -232,7 +233,7 @@ impl<A: Allocator> yaml_emitter_t<A> {
         self.machine.output()
     }
 
-    /// Returns the first error.
+    /// Returns the first error, if there was one.
     pub fn error(&self) -> Option<yaml_error_t>
         ensures { result ≡ self.now.error }
     {

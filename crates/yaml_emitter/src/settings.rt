@@ -1,4 +1,4 @@
-//! The settings of a caller, and what they come to at the stream's start.
+//! The settings of a caller, and those in effect from the stream's start on.
 
 ghost use Rattle.std.specs.Prelude.{◌≡◌, ◌≤◌, pos, ◌≤ℤ◌, IsSome, Some};
 ghost use Rattle.yaml_base.specs.Settings.{effective, effective_indent, effective_width, nothing_given};
@@ -11,7 +11,7 @@ use yaml_base::{
     yaml_encoding_t,
 };
 
-/// The quotes that a scalar is written in where it isn't plain and both can hold it.
+/// The quotes of a scalar that isn't plain and that both kinds can hold.
 #[derive(Clone, Copy, PartialEq, Eq, Debug)]
 pub enum Quotes {
     Single,
@@ -21,34 +21,34 @@ pub enum Quotes {
 /// The settings given to an emitter before its stream. The default is what a new emitter has, as in libyaml.
 #[derive(Clone, Copy, PartialEq, Eq, Debug)]
 pub struct Settings {
-    /// The encoding; ANY leaves it to the stream's start, and then to UTF-8.
+    /// The encoding; ANY means that of the stream's start, or else UTF-8.
     pub encoding: yaml_encoding_t,
     /// One form for each content: flow collections, double quotes, all tags.
     pub canonical: bool,
-    /// Printable characters past ASCII stand as themselves.
+    /// Printable characters beyond ASCII are written unescaped.
     pub unicode: bool,
     /// The quotes of a scalar that both can hold.
     pub quotes: Quotes,
-    /// Columns a level, 2 to 9; any other number, and `None`, is taken for 2.
+    /// Columns per level, 2 to 9; any other number, and `None`, counts as 2.
     pub indent: Option<i32>,
-    /// Lines are folded past this column, counted in characters; a negative one is no limit. Up to twice the indent it is
-    /// taken for 80, and so is `None`.
+    /// The column, in characters, past which lines are folded. A negative one means no limit. One up to twice the indent, and
+    /// `None`, counts as 80.
     pub width: Option<i32>,
-    /// The break that ends a line; ANY is LF.
+    /// The break that ends a line; ANY means LF.
     pub line_break: yaml_break_t,
-    /// U+2028 and U+2029 are escaped, since YAML 1.2 takes them for no line breaks.
+    /// U+2028 and U+2029 are escaped, since they aren't line breaks in YAML 1.2.
     pub line_breaks_1_2: bool,
-    /// Constructs that readers of YAML read differently are written so that all read them alike.
+    /// Text that readers of YAML read differently is written in a form that they read alike.
     pub portable: bool,
     /// Block sequences in a mapping are indented, as other block collections are.
     pub indented_sequences: bool,
-    /// A scalar for which literal is asked is literal also where it holds tabs, or spaces before a break or at its end.
+    /// A scalar for which literal is asked is literal even if it holds tabs, or spaces before a break or at its end.
     pub literal_blanks: bool,
     /// The maximum output size in bytes.
     pub limit: usize,
 }
 
-/// Nothing is set: no limit below the largest vector.
+/// Sets nothing; the limit is the largest `usize`.
 impl Default for Settings {
     ghost is_default = { λ settings. seen_settings settings ≡ nothing_given };
 
@@ -70,7 +70,7 @@ impl Default for Settings {
     }
 }
 
-/// Returns the indent in force: one of 2 to 9 is kept, any other becomes 2.
+/// Returns the indent in force: 2 to 9 is kept, any other number becomes 2.
 fn indent_of(given: Option<i32>) -> u32
     ensures gives { result ≡ effective_indent given }
     ensures low { 2 ≤ result }
@@ -82,7 +82,7 @@ fn indent_of(given: Option<i32>) -> u32
     }
 }
 
-/// Returns the width in force: a negative one is no limit; up to twice the indent it becomes 80.
+/// Returns the width in force: a negative one means no limit; one up to twice the indent becomes 80.
 fn width_of(given: Option<i32>, indent: u32) -> i32
     requires { indent ≤ 9 }
     ensures gives { seen_width result ≡ effective_width given indent }
@@ -98,7 +98,7 @@ fn width_of(given: Option<i32>, indent: u32) -> i32
 }
 
 impl Settings {
-    /// Returns what the settings come to for a stream that begins with this encoding.
+    /// Returns the settings in effect for a stream whose start has this encoding.
     pub(crate) fn effective(&self, of_stream: yaml_encoding_t) -> EffectiveSettings
         ensures gives { seen_effective result ≡ effective (seen_settings self.now) (seen_encoding of_stream) }
         ensures encoding { IsSome (seen_encoding result.encoding) }

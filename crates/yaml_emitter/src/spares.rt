@@ -1,4 +1,4 @@
-//! Texts of scalars that have been written. Their memory is used again by the scalars that wait next.
+//! Texts of scalars that have been written. The scalars that wait next use their memory again.
 
 ghost use Rattle.std.specs.Prelude.{◌≡◌, ◌≤◌, [], chars, drop, vec_capacity, vec_len};
 ghost use Rattle.yaml_base.specs.Seen.{seen_events};
@@ -31,7 +31,7 @@ impl<A: Allocator> SpareTexts<A> {
         }
     }
 
-    /// Returns a copy of a text, in the memory of one that is kept where there is one.
+    /// Returns a copy of a text, in the memory of a kept text if there is one.
     pub(crate) fn copied(&mut self, alloc: A, text: &str) -> Result<String<A>, yaml_error_t>
         ensures { CopiesText (chars text.now) result }
     {
@@ -45,7 +45,7 @@ impl<A: Allocator> SpareTexts<A> {
         }
     }
 
-    /// Drops the first `count` events of a queue. Where these are all, texts of its scalars are kept.
+    /// Drops the first `count` events of a queue. If these are all, keeps texts of its scalars.
     pub(crate) fn release(&mut self, queue: &mut WaitingEvents<A>, count: usize)
         requires { count ≤ vec_len queue.old }
         ensures rest { seen_events queue.new.items ≡ drop count (seen_events queue.old.items) }

@@ -22,7 +22,7 @@ pub(crate) enum Stage {
 }
 
 impl Stage {
-    /// Returns why an event is refused that may not come next.
+    /// Returns the error for an event that may not come next.
     pub(crate) fn refusal(self) -> yaml_error_t
         ensures { (directives : List TagDirective) (frames : List Frame) → result ≡ stage_expected (seen_stage self directives frames) }
     {

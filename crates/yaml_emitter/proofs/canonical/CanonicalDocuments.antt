@@ -52,7 +52,7 @@ begins_fold : (before : List DocumentContent) (head : Head) (reading : Reading) 
     → token_read reading document_begins ≡ within before head [] (node_awaited None None)
 begins_fold before head reading stands = ap (λ r. token_read r document_begins) stands.is
 
--- what holds of the nodes of each document
+-- each document's nodes meet the conditions of the reader
 abbrev pub EachDocument : (portable : Bool) → Documents → Type 0
 EachDocument portable no_documents = Unit {0}
 EachDocument portable (documents_and before document) = EachDocument portable before × EachNode document.root (TagOf portable document.start.directives)

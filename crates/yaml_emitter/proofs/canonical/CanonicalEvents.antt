@@ -1,4 +1,4 @@
--- What holds of each event of a tree.
+-- Conditions that each event of a tree meets.
 use Rattle.yaml_emitter.proofs.Common.{Bool, true, [], ◌++◌, ◌∷◌, ◌≡◌, and_parts, list_all, all_of_both, Event, alias, scalar, sequence_start, sequence_end}
 use Rattle.yaml_emitter.proofs.Common.{mapping_start, mapping_end, Node, alias_node, scalar_node, Nodes, sequence_node, Pairs, mapping_node, no_nodes}
 use Rattle.yaml_emitter.proofs.Common.{nodes_and, no_pairs, pairs_and, node_events}

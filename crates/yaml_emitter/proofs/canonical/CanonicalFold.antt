@@ -61,7 +61,7 @@ pairs_begin portable (pairs_and pairs key value) own tail =
     }
 
 module _ (portable : Bool) (documents : List DocumentContent) (head : Head) where
-  -- a place where a node is awaited
+  -- a place at which a node is awaited
   abbrev awaits : List OpenContent → Option Text → Option ParsedTag → Reading
   awaits levels given read = within documents head levels (node_awaited given read)
 
@@ -84,7 +84,7 @@ module _ (portable : Bool) (documents : List DocumentContent) (head : Head) wher
   scalar_fold levels None (Some tag) quoted value = refl
   scalar_fold levels (Some name) (Some tag) quoted value = refl
 
-  -- where a sequence stands after its first items
+  -- the place in a sequence after its first items
   abbrev in_sequence : List OpenContent → Option Text → Option Text → Nodes → Reading
   in_sequence levels anchor tag no_nodes = awaits levels anchor (parsed_of tag false)
   in_sequence levels anchor tag (nodes_and items last) =

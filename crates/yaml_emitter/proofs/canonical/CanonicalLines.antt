@@ -1,4 +1,4 @@
--- What document markers and directives say to the canonical reader.
+-- The canonical reader's tokens for document markers and directives.
 use Rattle.yaml_base.proofs.Common.{and-false, slice_split, is_blank, is_read_break}
 use Rattle.yaml_base.proofs.AllPass.{all_pass, uncut_by}
 use Rattle.std.proofs.lemmas.List.Splits.{slice_split_at, slice_split_none}
@@ -87,7 +87,7 @@ version_says breaks12 (Some version) cursor ok = by (version_form version ok)
 
 -- Tag directives.
 
--- stands within a line
+-- true for a character within a line of a directive
 abbrev in_a_line : ℕ → Bool
 in_a_line c = is_written c || c == space
 

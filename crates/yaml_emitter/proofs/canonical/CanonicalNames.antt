@@ -1,4 +1,4 @@
--- What anchors, aliases and tags say to the canonical reader.
+-- The canonical reader's tokens for anchors, aliases and tags.
 use Rattle.yaml_emitter.proofs.Common.{ℕ, ◌==◌, None, codes, Bool, false, not, true, ◌||◌, List, [], ◌++◌, ◌∷◌, refl, ◌≡◌, append-nil, append_assoc, inl, inr}
 use Rattle.yaml_emitter.proofs.Common.{ap, subst, sym, ◌∙◌, arith, and_parts, and_from, false≢true, nat_tests, list_all-append, list_all, all_scalars}
 use Rattle.yaml_emitter.proofs.Common.{IsHandle, handle_form, spelling_is, in_force_found, Text, carriage_return, next_line, space, is_alpha, is_space}
@@ -13,7 +13,7 @@ use Rattle.yaml_base.specs.reading.CanonicalTokens.{completes_before, token_step
 use Rattle.yaml_emitter.proofs.canonical.CanonicalText.{name_ends, space_next, Says, step_fixed}
 use Rattle.yaml_base.proofs.AllPass.{all_pass}
 
--- what stands in a written tag, handle or prefix
+-- true for a character of a written tag, handle or prefix
 abbrev pub is_written : ℕ → Bool
 is_written c = stands_written c || is_among (codes "!<>") c
 

@@ -1,4 +1,4 @@
--- What the text of a node says to the canonical reader, after any text before it.
+-- The canonical reader's tokens for the text of a node, after any text before it.
 use Rattle.yaml_base.proofs.Common.{and-false}
 use Rattle.yaml_emitter.proofs.Common.{ℕ, ◌≤◌, if◌then◌else◌, is_some, Option, None, Some, codes, Bool, false, not, true, ◌&&◌, List, [], ◌++◌, ◌∷◌, refl, ◌≡◌}
 use Rattle.yaml_emitter.proofs.Common.{true≢false, append-nil, append_assoc, ap, subst, sym, ◌∙◌, arith, flat_map-append, all_scalars, Text, space, Cursor}
@@ -18,7 +18,7 @@ use Rattle.yaml_emitter.proofs.canonical.CanonicalText.{Demand, anything, name_e
 use Rattle.yaml_emitter.proofs.canonical.CanonicalText.{says_text, says_tokens, says_less, says_white, space_if-white, new_line-white, indicator_says}
 use Rattle.yaml_emitter.proofs.canonical.CanonicalTokens.{anchor_tokens, tag_tokens, properties_tokens, entry_indicator, node_tokens, nodes_tokens}
 
--- what an event's names and value must be
+-- conditions on an event's names and value
 abbrev pub EventOk : Event → Type 0
 EventOk (alias name) = IsName name
 EventOk (scalar content) = AnchorOk content.anchor × (all_scalars content.value ≡ true)
@@ -32,7 +32,7 @@ pub record After (breaks12 : Bool) (text : Text) (tokens : List Token) (before :
   pub off : rendered.standing.cursor.indention ≡ false
   pub open_ended : rendered.standing.open_ended ≡ before.open_ended
 
--- what follows entries: what followed the collection's start where there are none
+-- the demand on the text after entries: that after the collection's start if there are none
 abbrev demand_at : (empty : Bool) → Demand → Demand
 demand_at true demand = demand
 demand_at false demand = name_ends
@@ -67,14 +67,14 @@ space_opens space_next cursor h = by cursor.whitespace h
     by true e = absurd (true≢false e)
     by false e = record { meets = λ rest. refl }
 
--- the bare tag stands where there is neither a tag nor the quoted flag
+-- the bare tag is written if there is neither a tag nor the quoted flag
 bare_tokens : (portable : Bool) (own : List TagDirective) (tag : Option Text) (quoted : Bool)
     → tag_tokens portable own tag (not (is_some tag) && not quoted && not false) ≡ tag_tokens portable own tag (not quoted)
 bare_tokens portable own None true = refl
 bare_tokens portable own None false = refl
 bare_tokens portable own (Some tag) quoted = refl
 
--- what brackets say
+-- the tokens for brackets
 record BracketsSay (breaks12 : Bool) (brackets : Brackets) (opens closes : Token) : Type 0 where
   opening : Says breaks12 anything brackets.opening (opens ∷ [])
   closing : Says breaks12 anything brackets.closing (closes ∷ [])
@@ -171,7 +171,7 @@ module _ (breaks12 : Bool) (s : Effective) (wide : 2 ≤ s.indent) (own : List T
         open_ended = refl;
       }
 
-  -- a collection, where its entries go on from its start
+  -- a collection whose entries go on from its start
   collection_after : (at : Option Spot) (demand : Demand) (text : Text) (tokens : List Token) (brackets : Brackets) (opens closes : Token)
       → BracketsSay breaks12 brackets opens closes
       → (start : Collection) (undented empty : Bool) (entries : ℕ → Standing → RenderedPieces) (held : List Token) (standing : Standing)

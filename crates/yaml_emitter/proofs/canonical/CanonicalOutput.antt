@@ -1,4 +1,4 @@
--- The output of a list in canonical mode, where no limit cuts it, reads as its content.
+-- The output of a list in canonical mode, if no limit cuts it, reads as its content.
 use Rattle.yaml_emitter.proofs.Common.{List, take_all, ap, sym, ◌∙◌, Event, encoding_asked, settings_for, bytes_written, list_layout, Settings}
 use Rattle.yaml_emitter.proofs.Common.{canonical_content}
 use Rattle.yaml_emitter.{proofs.canonical.Canonical.canonical_bytes_read, specs.Uncut.OutputReads, specs.Uncut.OutputTells}

@@ -1,4 +1,4 @@
--- What the indicators of places and the properties of nodes say to the canonical reader.
+-- The canonical reader's tokens for the indicators of places and the properties of nodes.
 use Rattle.yaml_emitter.proofs.Common.{ℕ, Option, None, Some, codes, Bool, false, true, List, [], ◌++◌, ◌∷◌, refl, ◌≡◌, append-nil, append_assoc, subst, sym}
 use Rattle.yaml_emitter.proofs.Common.{Text, Cursor, new_line, space_if, indicator, TagDirective, root_place, render_anchor, render_spelling, render_properties}
 use Rattle.yaml_emitter.proofs.Common.{entry_place, Role, as_root, as_item, as_key, as_value, Place, opening_or_comma, render_place, Effective, spelling, Token}
@@ -33,7 +33,7 @@ abbrev pub spot_tokens : Option Spot → List Token
 spot_tokens None = []
 spot_tokens (Some spot) = role_tokens spot.role
 
--- a demand that what is written at a cursor after a space meets
+-- a demand that a text at this cursor meets, written after a space
 abbrev pub Fits : Demand → Cursor → Type 0
 Fits anything cursor = Unit {0}
 Fits name_ends cursor = cursor.whitespace ≡ false
@@ -126,7 +126,7 @@ abbrev pub AnchorOk : Option Text → Type 0
 AnchorOk None = Unit {0}
 AnchorOk (Some name) = IsName name
 
--- what must follow a node's properties
+-- the demand on the text after a node's properties
 abbrev pub demand_of : Option Text → Option Text → (bare : Bool) → Demand
 demand_of anchor (Some tag) bare = space_next
 demand_of anchor None true = space_next

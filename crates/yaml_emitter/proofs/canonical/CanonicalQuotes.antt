@@ -1,4 +1,4 @@
--- What a double-quoted text says to the canonical reader.
+-- The canonical reader's token for a double-quoted text.
 use Rattle.yaml_base.proofs.Common.{suc, zero, ℕ, ◌%◌, ◌/◌, ◌≤◌, if◌then◌else◌, ◌==◌, Option, None, Some, nat_le, Bool, false, true, ◌&&◌, List, [], ◌++◌}
 use Rattle.yaml_base.proofs.Common.{◌∷◌, refl, ◌≡◌, eqb-true, append-nil, append_assoc, ap, sym, ◌∙◌, arith, and_parts, and_from, agree_below_at, all_scalars}
 use Rattle.yaml_base.proofs.Common.{Text, is_space, hex_digit, hex_digits, Cursor, new_line, is_past_width, QuotePlace, between, goes_on, gives, ends_quotes}
@@ -12,7 +12,7 @@ use Rattle.yaml_base.specs.scalars.DoubleQuoted.{quote, ShortEscape, may_fold, s
 use Rattle.yaml_emitter.proofs.canonical.CanonicalText.{anything, Says, scalars-append, says_white, new_line-white, step_fixed}
 use Rattle.yaml_scalar.proofs.DoubleReads.{double-prefix, double-rendered}
 
--- a unit before what was read
+-- a unit before the units that were read
 with-unit : (unit : FoldUnit) (inner : Option Quoted) (q : Quoted) → with_unit unit inner ≡ Some q
     → (p : Quoted) × (inner ≡ Some p) × (q ≡ record { units = unit ∷ p.units; rest = p.rest })
 with-unit unit None q e = absurd (cc)

@@ -1,4 +1,4 @@
--- What accepted events are to the canonical reader: names, tags and directives that it reads.
+-- Accepted events have names, tags and directives that the canonical reader reads.
 use Rattle.yaml_emitter.proofs.Common.{if◌then◌else◌, option_and_then, Option, None, Some, Bool, false, true, List, [], ◌++◌, ◌∷◌, refl, ◌≡◌, ap, and_parts}
 use Rattle.yaml_emitter.proofs.Common.{list_all, option_or, all_scalars, neither, handle_form, all_of_both, Text, is_alpha, Version, TagDirective, Event}
 use Rattle.yaml_emitter.proofs.Common.{document_start, document_end, alias, scalar, sequence_start, mapping_start, Document, Documents, no_documents}

@@ -1,4 +1,4 @@
--- What the text of a stream says to the canonical reader.
+-- The canonical reader's tokens for the text of a stream.
 use Rattle.yaml_emitter.proofs.Common.{ℕ, ◌≤◌, if◌then◌else◌, ◌==◌, None, Bool, false, not, true, ◌&&◌, ◌||◌, List, [], ◌++◌, ◌∷◌, refl, ◌≡◌, append-nil}
 use Rattle.yaml_emitter.proofs.Common.{append_assoc, ap, subst, sym, ◌∙◌, false≢true, Text, Cursor, new_line, Document, Documents, no_documents}
 use Rattle.yaml_emitter.proofs.Common.{documents_and, Stream, render_if, render_closing_marker, render_version, render_tag_directives, has_directives}

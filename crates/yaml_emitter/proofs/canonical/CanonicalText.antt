@@ -1,4 +1,4 @@
--- What a text says to the canonical reader between tokens: the tokens that it is read as, where what follows meets a demand.
+-- The tokens as which the canonical reader reads a text between tokens, if the text after it meets a demand.
 use Rattle.yaml_emitter.proofs.Common.{suc, zero, ℕ, ◌-◌, if◌then◌else◌, ◌==◌, replicate, Bool, false, not, true, ◌&&◌, ◌||◌, List, [], ◌++◌, ◌∷◌, refl, ◌≡◌}
 use Rattle.yaml_emitter.proofs.Common.{eqb-true, true≢false, append_assoc, ap, subst, sym, ◌∙◌, and_parts, and_from, list_all, all_scalars, rendered-append}
 use Rattle.yaml_emitter.proofs.Common.{Text, line_feed, space, is_alpha, is_space, Cursor, new_line, space_if, indicator, is_rendered_text, Token, free}
@@ -7,7 +7,7 @@ use Rattle.yaml_base.proofs.Common.{breaks_line, is_break}
 use Rattle.yaml_base.proofs.stream_lines.StreamLineLaws.{break_line}
 use Rattle.yaml_base.specs.reading.CanonicalTokens.{CanonicalStep, ends_token, step_between_tokens}
 
--- what may follow a text: anything, no letter of a name, or a space alone
+-- a demand on the text after another: any text, no letter of a name first, or a space first
 pub data Demand : Type 0 where
   anything : Demand
   name_ends : Demand
@@ -63,7 +63,7 @@ says_text {breaks12} {d} a {b} {k} e says = subst (λ t. Says breaks12 d t k) (s
 pub says_tokens : {breaks12 : Bool} {d : Demand} {a : Text} {j : List Token} (k : List Token) → j ≡ k → Says breaks12 d a j → Says breaks12 d a k
 says_tokens {breaks12} {d} {a} k e says = subst (λ t. Says breaks12 d a t) e says
 
--- what may be followed by anything may be followed by what meets a demand
+-- a text that any text may follow may be followed by a text that meets a demand
 pub says_less : {breaks12 : Bool} {a : Text} {k : List Token} (d : Demand) → Says breaks12 anything a k → Says breaks12 d a k
 says_less d says = record { scalars = says.scalars; rendered = says.rendered; reads = λ rest meets. says.reads rest tt }
 
@@ -137,7 +137,7 @@ space_first cursor b e = by cursor.whitespace e
     by true e = absurd (true≢false e)
     by false e = record { meets = λ rest. refl }
 
--- what is no break begins the same between tokens with either rule of breaks
+-- a character that is no break begins the same between tokens with either rule of breaks
 pub step_fixed : (breaks12 : Bool) (c : ℕ) → is_break c ≡ false → step_between_tokens breaks12 c ≡ step_between_tokens true c
 step_fixed true c h = refl
 step_fixed false c h = rw (break_line false c h, break_line true c h) refl

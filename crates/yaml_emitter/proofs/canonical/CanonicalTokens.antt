@@ -1,4 +1,4 @@
--- The tokens of a tree's canonical text, as they are rendered: a comma or an opening bracket stands before each entry.
+-- The tokens of a tree's canonical text, as they are rendered: a comma or an opening bracket precedes each entry.
 use Rattle.yaml_emitter.proofs.Common.{Option, None, Some, codes, Bool, false, not, true, ◌&&◌, List, [], ◌++◌, ◌∷◌, Text, Version, TagDirective, Node}
 use Rattle.yaml_emitter.proofs.Common.{alias_node, scalar_node, Nodes, sequence_node, Pairs, mapping_node, no_nodes, nodes_and, no_pairs, pairs_and, Document}
 use Rattle.yaml_emitter.proofs.Common.{Documents, no_documents, documents_and, has_directives, has_no_nodes, has_no_pairs, directives_in_force, spelling}

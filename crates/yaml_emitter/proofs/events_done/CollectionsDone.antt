@@ -89,7 +89,7 @@ stated_well : (given : Option yaml_error_t) → Ok tt ≡ result_of_error given 
 stated_well None is = refl
 stated_well (Some other) is = cc
 
--- want of memory for what is open, after the start was written
+-- no memory for the open collection, after the start was written
 start_unkept : (before : MachineState) (directives : List TagDirective) (frames : List Frame) (mapping : Bool) (start : Collection) (empty simple : Bool)
     (place : Place) (after : Stage) (page : Page)
     → before.stage ≡ at_node directives frames → name_or_tag_fault before.given.canonical (start_of_kind mapping start) ≡ None
@@ -160,7 +160,7 @@ start_written before directives frames mapping start empty simple in_flow place 
     stage_by true = refl
     stage_by false = refl
 
--- what a start leaves, whether or not there was memory for what is open
+-- the machine after a start, whether or not there was memory for the open collection
 pub start_left : (before : MachineState) (directives : List TagDirective) (frames : List Frame) (mapping : Bool) (start : Collection)
     (empty simple in_flow : Bool)
     (place : Place) (frame : Frame) (after : Stage) (page : Page) (result : Result (Unit {0}) yaml_error_t)
@@ -265,7 +265,7 @@ end_written before directives frame outer mapping empty column after page at all
     stage_by true = refl
     stage_by false = refl
 
--- what a collection's end leaves, whether or not it was written whole
+-- the machine after a collection's end, whether or not it was written whole
 pub end_done : (before : MachineState) (directives : List TagDirective) (frame : Frame) (outer : List Frame) (mapping empty : Bool) (column : Option ℕ)
     (after : Stage) (page : Page) (answer : Result (Unit {0}) yaml_error_t)
     → before.stage ≡ at_node directives (frame ∷ outer) → node_allowed (frame ∷ outer) (end_of_kind mapping) ≡ true → column ≡ (next_place outer).column

@@ -145,7 +145,7 @@ names_other canonical (sequence_start start) = properties_other start.anchor (co
 names_other canonical (mapping_start start) = properties_other start.anchor (collection_tag canonical start)
 names_other canonical event = refl
 
--- what is looked at behind names and tags
+-- the checks that follow those of names and tags
 abbrev later : Bool → Stage → Event → Option yaml_error_t
 later canonical stage event =
     option_or (some_if (not (stage_allows stage event)) (stage_expected stage))

@@ -25,7 +25,7 @@ stream_started empty before encoding s page at settles begins =
       flushed_whole = λ hands. cc;
     }
 
--- what is there is what it is taken for
+-- a value that is given is the one that is taken
 pub given_is_there : {A : Type 0} (given : Option A) (otherwise : A) → IsSome given → given ≡ Some (unwrap_or given otherwise)
 given_is_there None otherwise there = cc
 given_is_there (Some a) otherwise there = refl

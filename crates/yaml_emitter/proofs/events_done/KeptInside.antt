@@ -1,4 +1,4 @@
--- What an emitter keeps true, after a call that writes.
+-- The invariants of an emitter, after a call that writes.
 use Rattle.yaml_emitter.proofs.Common.{ℕ, if◌then◌else◌, IsSome, None, Result, Bool, false, List, [], refl, ◌≡◌, ap, subst, sym, ◌∙◌, TagDirective, Frame}
 use Rattle.yaml_emitter.proofs.Common.{Stage, at_stream, at_document, at_node, at_document_end, at_nothing, some_handle_breaks, machine_state, IsMachine}
 use Rattle.yaml_emitter.proofs.Common.{seen_stage, MachineState, FitsPage, is_at_stream, Page, encoded, IsUntouched, IsReady, Flushed}
@@ -7,7 +7,7 @@ use Rattle.yaml_emitter.specs.declared.{machine.Machine.TheInside.Inside, writin
 use Rattle.yaml_emitter.specs.declared.stage.Stage.TheVariants.{Document, DocumentEnd, Node, Nothing, Stream}
 use Rattle.yaml_emitter.specs.declared.stage.Stage as stage
 
--- a page that is ready fits every stage behind the stream's start
+-- a page that is ready fits every stage after the stream's start
 pub fits_ready : (st : Stage) (page : Page) → is_at_stream st ≡ false → IsReady page → FitsPage st page
 fits_ready at_stream page behind ready = cc
 fits_ready (at_document first) page behind ready = ready
@@ -36,7 +36,7 @@ kept_prefix e pen after directives frames open_ended kept handles fits =
       page = fits;
     }
 
--- more room for what is open changes nothing that is seen
+-- more room for open collections changes nothing in the view
 pub kept_with_room : {A : Type 0} (e : Inside A) (frames : List Frame) → frames ≡ e.frames → IsMachine e → IsMachine (record e { frames = frames })
 kept_with_room e frames same kept = subst (λ (f : List Frame). IsMachine (record e { frames = f })) (sym same) kept
 
@@ -65,7 +65,7 @@ kept_without e directives first none at kept =
       page = subst (λ (st : Stage). FitsPage st e.pen) (sym (unseen e.stage e.directives directives e.frames first at)) kept.page;
     }
 
--- what is seen of a machine, of its fields
+-- the view of a machine, by its fields
 pub stage_inside : {A : Type 0} (e : Inside A) {seen : MachineState} {at : Stage} → machine_state e ≡ seen → seen.stage ≡ at → (machine_state e).stage ≡ at
 stage_inside e is stage = ap (λ (s : MachineState). s.stage) is ∙ stage
 
@@ -75,7 +75,7 @@ seen_at e st at = ap (λ (st : stage.Stage). seen_stage st e.directives e.frames
 pub behind_start : {st at : Stage} → st ≡ at → is_at_stream at ≡ false → is_at_stream st ≡ false
 behind_start is behind = ap is_at_stream is ∙ behind
 
--- what is kept where the start of a document is cut off: the directives before it are given up
+-- the invariants if the start of a document is cut off: the directives before it are given up
 pub kept_cut : {A : Type 0} (e : Inside A) (directives : List TagDirective) (pen : Page) (first : Bool) → directives ≡ []
     → (machine_state e).stage ≡ at_document first → IsMachine e → IsReady pen → IsMachine (record e { directives = directives; pen = pen })
 kept_cut e directives pen first none at kept ready =

@@ -38,7 +38,7 @@ pub pushed_at_node : {A : Type 0} (e : Inside A) (frames : List Frame) (frame : 
 pushed_at_node e frames frame at pushed =
     ap (λ (st : stage.Stage). seen_stage st e.directives frames) at ∙ ap (at_node e.directives) pushed
 
--- what is kept while the stage stays
+-- the invariants while the stage stays
 pub kept_at_node : {A : Type 0} (e : Inside A) (pen : Page) (frames : List Frame) (open_ended : OpenEnded) → IsMachine e
     → e.stage ≡ Node → IsReady pen → IsMachine (record e { pen = pen; frames = frames; open_ended = open_ended })
 kept_at_node e pen frames open_ended kept at ready =
@@ -49,7 +49,7 @@ after_is_behind : (directives : List TagDirective) (frames : List Frame) (simple
 after_is_behind directives [] simple = refl
 after_is_behind directives (frame ∷ outer) simple = refl
 
--- what is kept after a node
+-- the invariants after a node
 pub kept_advancing : {A : Type 0} (e : Inside A) (pen : Page) (after : stage.Stage) (frames around : List Frame) (simple : Bool) (open_ended : OpenEnded)
     → IsMachine e
     → seen_stage after e.directives frames ≡ stage_after e.directives around simple → IsReady pen
@@ -93,7 +93,7 @@ alias_written before directives frames name empty simple place after page at non
     (after_is ∙ ap (λ (b : Bool). stage_after directives frames b) here) refl
     (alias_wrote before frames name simple place page (Ok tt) place_is simple_is wrote) (λ hands. cc)
 
--- what an alias leaves, whether or not it was written whole
+-- the machine after an alias, whether or not it was written whole
 pub alias_done : (before : MachineState) (directives : List TagDirective) (frames : List Frame) (name : Text) (empty simple : Bool) (place : Place)
     (after : Stage)
     (page : Page) (answer : Result (Unit {0}) yaml_error_t)
@@ -188,7 +188,7 @@ scalar_written before directives frames content empty simple place after open_en
     ∙ ap (λ (p : Place). bom_written p (scalar_simple before.settings directives content p)) place_is)
     (scalar_wrote before directives frames content simple place page (Ok tt) place_is simple_is wrote) (λ hands. cc)
 
--- what a scalar leaves, whether or not it was written whole
+-- the machine after a scalar, whether or not it was written whole
 pub scalar_done : (before : MachineState) (directives : List TagDirective) (frames : List Frame) (content : Scalar) (empty simple : Bool) (place : Place)
     (after : Stage) (open_ended : ℕ) (page : Page) (answer : Result (Unit {0}) yaml_error_t)
     → before.stage ≡ at_node directives frames → name_or_tag_fault before.given.canonical (scalar content) ≡ None
@@ -223,7 +223,7 @@ collection_anchor canonical true start none =
 collection_anchor canonical false start none =
     sound_anchor start.anchor (first_none (option_and_then anchor_fault start.anchor) (option_and_then tag_fault (collection_tag canonical start)) none)
 
--- a scalar that stands plain has no anchor, and no tag of it is written
+-- a scalar that is plain as it is has no anchor, and no tag of it is written
 pub plain_names : {canonical given : Bool} (content : ScalarContent) → StandsPlain canonical content → canonical ≡ given
     → name_or_tag_fault given (scalar (seen_scalar content)) ≡ None
 plain_names {canonical} {given} content stands same = rw (← same, stands.readable, stands.implicit, stands.anchor) refl

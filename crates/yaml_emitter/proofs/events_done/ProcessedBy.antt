@@ -1,4 +1,4 @@
--- What an event did, from what the calls in its work did.
+-- The effect of an event, by the effects of the calls in its work.
 use Rattle.yaml_emitter.proofs.Common.{IsErrAnd, IsErr, Option, None, Some, Result, Err, Ok, Bool, true, ◌⊎◌, refl, ◌≡◌, inl, inr, ap, subst, sym, ◌∙◌}
 use Rattle.yaml_emitter.proofs.Common.{err_from_is_err_and, Event, stream_start, flushes, Stage, step, stage_refusal, event_stepped, render_event}
 use Rattle.yaml_emitter.proofs.Common.{refusal_now, Keeps, WritesPage, unwritten, partly_written, CutShort, Processed, IsRefusal, MachineState, standing_of}
@@ -100,7 +100,7 @@ pub processed_unwritten : (event : Event) (empty : Bool) (before after : Machine
 processed_unwritten event empty before after kept settings page =
     record { kept = kept; settings = settings; page = unwritten refl page }
 
--- What was written is the event's, where the stage is known by an equation.
+-- The event is written, with the stage known by an equation.
 rendered_at : (before after : MachineState) (event : Event) (empty : Bool) (stage : Stage) (answer : Result (Unit {0}) yaml_error_t) → before.stage ≡ stage
     → Wrote (piece_at (λ standing. (step before.settings stage event empty standing).rendered) before.open_ended) before.page after.page answer
     → Wrote (render_event before event empty) before.page after.page answer

@@ -17,7 +17,7 @@ directives_scalars : {A : Type 0} (directives : List (yaml_tag_directive_t A)) �
 directives_scalars [] = refl
 directives_scalars (directive ∷ rest) = and_from _ _ (string_scalars directive.prefix) (directives_scalars rest)
 
--- What is seen of an event.
+-- The view of an event.
 pub seen_scalars : {A : Type 0} (event : yaml_event_t A) → has_scalar_texts (seen_event event) ≡ true
 seen_scalars (YAML_DOCUMENT_START_EVENT version directives implicit) = directives_scalars directives.items
 seen_scalars (YAML_SCALAR_EVENT anchor tag value plain_implicit quoted_implicit style) = and_from _ _ (choice_scalars tag) (string_scalars value)

@@ -11,7 +11,7 @@ with_bom utf8 text = refl
 with_bom utf16_little text = refl
 with_bom utf16_big text = refl
 
--- to decode is to read what follows the byte order mark
+-- to decode is to read the text after the byte order mark
 without_bom : (encoding : Encoding) (text : Text) → text_of_bytes encoding (text_bytes encoding text) ≡ decode (Some encoding) (encode (Some encoding) text)
 unfolding decode
 without_bom utf8 text = refl

@@ -1,5 +1,5 @@
--- What holds of each body that a value allows holds of all bodies of a stream's layout: so each scalar of it reads back as
--- exactly its value.
+-- A fact about each body that a value allows holds for all bodies of a stream's layout: so each scalar of it reads back as exactly
+-- its value.
 use Rattle.yaml_emitter.proofs.Common.{ℕ, if◌then◌else◌, unwrap_or, option_map, Option, None, Some, nat_le, negsuc, pos, ℤ, Bool, false, true, ◌&&◌, List, []}
 use Rattle.yaml_emitter.proofs.Common.{◌∷◌, refl, ◌≡◌, ap, subst, sym, ◌∙◌, arith, and_parts, All-nil, All-cons, All, list_all, tree_of-stream_events, Cursor}
 use Rattle.yaml_emitter.proofs.Common.{ScalarStyle, TagDirective, Scalar, Event, stream_start, stream_end, document_start, document_end, scalar, sequence_end}
@@ -14,7 +14,7 @@ module _ (s : Effective) (Holds : Body → Type 0) (is_good : Event → Bool)
     (each : (place : Place) (style : ScalarStyle) (limit : Option ℕ) (content : Scalar) (cursor : Cursor) → is_good (scalar content) ≡ true
     → AllowsUnder s place.in_flow content.value style
     → Holds (body_at place style content.value (render_body style s limit (deeper s.indent place.column) content.value cursor))) where
-  -- what holds of a piece's body, where it has one
+  -- a fact about a piece's body, if it has one
   abbrev HoldsOf : Option Body → Type 0
   HoldsOf None = Unit {0}
   HoldsOf (Some body) = Holds body
@@ -58,7 +58,7 @@ module _ (s : Effective) (Holds : Body → Type 0) (is_good : Event → Bool)
       go None e h = rw e k
       go (Some body) e h = rw e (All-cons Holds body (bodies_of rest) h k)
 
-  -- What holds of each body that a value allows holds of the bodies of all events' pieces.
+  -- A fact about each body that a value allows holds for the bodies of all events' pieces.
   pub steps_hold : (events : List Event) (follows : Bool) (stage : Stage) (standing : Standing)
       → list_all is_good events ≡ true → All Holds (bodies_of (steps s follows events stage standing).pieces)
   steps_hold [] follows stage standing good = All-nil Holds

@@ -1,4 +1,4 @@
--- A body that stands in a layout reads as its value.
+-- A body in a layout reads as its value.
 use Rattle.yaml_emitter.proofs.Common.{ℕ, ◌≤◌, Option, None, Some, Bool, false, true, refl, ◌≡◌, arith, all_scalars, Text, Cursor, ScalarStyle, any_style}
 use Rattle.yaml_emitter.proofs.Common.{plain, single_quoted, double_quoted, literal, folded, render_body, body_at, Place, deeper, BodyMeans}
 use Rattle.yaml_emitter.proofs.Common.{Effective, Charset, allows_plain, allowances}
@@ -23,11 +23,11 @@ pub plain_context : (charset : Charset) (flow : Bool) (value : Text)
 plain_context charset true value h = h
 plain_context charset false value h = h
 
--- what may stand as itself by the line breaks alone
+-- true for a character that may be unescaped, by the line breaks alone
 abbrev pub charset_by_breaks : Effective → Charset
 charset_by_breaks s = record { unicode = s.unicode; breaks12 = s.breaks12 }
 
--- what a style needs of a value by the line breaks alone
+-- the condition of a style on a value, by the line breaks alone
 abbrev pub AllowsByBreaks : Effective → (flow : Bool) → Text → ScalarStyle → Type 0
 AllowsByBreaks s flow value literal = allows_literal (charset_by_breaks s) value ≡ true
 AllowsByBreaks s flow value style = Allows (allowances (charset_by_breaks s) value) flow style

@@ -1,4 +1,4 @@
--- The style that is chosen for a scalar is one that its value allows where it stands.
+-- The style that is chosen for a scalar is one that its value allows at its place.
 use Rattle.yaml_emitter.proofs.Common.{allowed_by_quotes, allowed_by_blanks, if◌then◌else◌, Bool, false, not, true, ◌&&◌, ◌||◌, refl, ◌≡◌, and_parts, any_style}
 use Rattle.yaml_emitter.proofs.Common.{ScalarStyle, plain, single_quoted, double_quoted, literal, folded, Allowances, requested_style, quoted_style, fits_plain}
 use Rattle.yaml_emitter.proofs.Common.{fitting_style, chosen, is_some, subst, sym, ◌∙◌, false≢true, Text, Scalar, scalar_tag, charset_of, style_asked_at, Place}
@@ -7,7 +7,7 @@ use Rattle.yaml_base.proofs.{Charsets.literal_of_block, Common.allows_block, Com
 use Rattle.yaml_base.proofs.Common.{◌⊎◌}
 use Rattle.yaml_base.specs.{Places.is_root, scalars.BlockHeader.begins_blank}
 
--- what a style needs of a value
+-- the condition of a style on a value
 abbrev pub Allows : Allowances → (flow : Bool) → ScalarStyle → Type 0
 Allows allowed flow any_style = ⊥
 Allows allowed flow plain = (if flow then allowed.flow_plain else allowed.block_plain) ≡ true
@@ -43,7 +43,7 @@ fitting_allowed allowed flow plain_fits block_fits double_quoted p b = tt
 fitting_allowed allowed flow plain_fits block_fits literal p b = block_allowed allowed flow block_fits literal b
 fitting_allowed allowed flow plain_fits block_fits folded p b = block_allowed allowed flow block_fits folded b
 
--- Plain is chosen only where the context allows it, the block styles only where the value does, and any never.
+-- Plain is chosen only if the context allows it, the block styles only if the value does, and any never.
 pub chosen_allowed : (allowed : Allowances) (asked : ScalarStyle) (empty tag_written plain_implicit quoted_implicit flow simple canonical : Bool)
     → Allows allowed flow (chosen allowed asked empty tag_written plain_implicit quoted_implicit flow simple canonical).style
 chosen_allowed allowed asked empty tag_written plain_implicit quoted_implicit flow simple canonical =
@@ -54,7 +54,7 @@ chosen_allowed allowed asked empty tag_written plain_implicit quoted_implicit fl
     (λ e. (and_parts _ _ (and_parts _ _ e).0).0)
     (λ e. (and_parts _ _ (and_parts _ _ e).0).0)
 
--- What a value allows without single quotes it allows with them.
+-- A value allows without single quotes at most the styles that it allows with them.
 pub allowed_with_single : (double_quotes : Bool) (allowed : Allowances) (flow : Bool) (style : ScalarStyle)
     → Allows (allowed_by_quotes double_quotes allowed) flow style → Allows allowed flow style
 allowed_with_single double_quotes allowed flow any_style h = h
@@ -64,19 +64,19 @@ allowed_with_single double_quotes allowed flow double_quoted h = h
 allowed_with_single double_quotes allowed flow literal h = h
 allowed_with_single double_quotes allowed flow folded h = h
 
--- What a scalar's value allows under settings
+-- The styles that a scalar's value allows under settings
 
--- literal takes it where blanks are literal, and where they aren't, block styles do
+-- literal takes it if blanks are literal, and if they aren't, block styles do
 pub record AllowsLiteral (s : Effective) (value : Text) : Type 0 where
   pub literal : allows_literal (charset_of s) value ≡ true
   pub block : s.literal_blanks ≡ false → allows_block (charset_of s) value ≡ true
 
--- what a style needs of a value
+-- the condition of a style on a value
 abbrev pub AllowsUnder : Effective → (flow : Bool) → Text → ScalarStyle → Type 0
 AllowsUnder s flow value literal = AllowsLiteral s value
 AllowsUnder s flow value style = Allows (allowances (charset_of s) value) flow style
 
--- what block styles take
+-- the condition of block styles
 under_of : (s : Effective) (flow : Bool) (value : Text) (style : ScalarStyle) → Allows (allowances (charset_of s) value) flow style
     → AllowsUnder s flow value style
 under_of s flow value any_style h = h
@@ -86,7 +86,7 @@ under_of s flow value double_quoted h = h
 under_of s flow value literal h = record { literal = literal_of_block (charset_of s) value h; block = λ off. h }
 under_of s flow value folded h = h
 
--- where literal is asked for, it is chosen only where it fits, or else double quotes are
+-- if literal is asked for, it is chosen only if it fits, or else double quotes are
 module _ (s : Effective) (flow : Bool) (value : Text) (allowed : Allowances) (plain_fits : Bool) where
   asks_literal : (must fits : Bool) → (fits ≡ true → AllowsLiteral s value)
       → AllowsUnder s flow value (fitting_style allowed plain_fits fits (requested_style must literal))

@@ -1,4 +1,4 @@
--- What stands raw in the text of an accepted list: no special character, and so what `HoldsRaw` says.
+-- The text of an accepted list holds no special character unescaped, so it meets `HoldsRaw`.
 use Rattle.yaml_emitter.proofs.Common.{ℕ, if◌then◌else◌, ◌==◌, Option, Bool, false, not, true, ◌&&◌, ◌||◌, List, [], ◌∷◌, refl, ◌≡◌, ap, sym, ◌∙◌, arith}
 use Rattle.yaml_emitter.proofs.Common.{and_parts, and_from, or_parts, false≢true, nat_tests, list_all, list_any, all_scalars, list_layout_steps}
 use Rattle.yaml_emitter.proofs.Common.{stream_pushed, Text, line_feed, carriage_return, next_line, space, is_printable, Cursor, ScalarStyle, any_style, plain}
@@ -17,14 +17,14 @@ use Rattle.yaml_emitter.proofs.layouts.{SparingSteps.lacks_steps}
 use Rattle.yaml_scalar.proofs.Sparing.{lacks_plain, lacks_single, lacks_double}
 use Rattle.yaml_scalar.proofs.SparingBlocks.{lacks_literal, lacks_folded, plain_unspecial, single_unspecial, block_unspecial, literal_unspecial}
 
--- No printable character of ASCII is special, nor LF, nor one that stands raw in double quotes.
+-- No printable character of ASCII is special, nor LF, nor one that is unescaped in double quotes.
 
 -- printable ASCII is printable, of ASCII, and no separator
 graph_parts : (c : ℕ) → is_graph c ≡ true
     → (is_printable c ≡ true) × (is_ascii c ≡ true) × ((c == line_separator) ≡ false) × ((c == paragraph_separator) ≡ false)
 graph_parts c h = (grind (arith, nat_tests), grind (arith, nat_tests), grind (arith, nat_tests), grind (arith, nat_tests))
 
--- what is so isn't special
+-- such a character isn't special
 special_from : (charset : Charset) (c : ℕ) → is_printable c ≡ true → is_ascii c ≡ true → (c == line_separator) ≡ false → (c == paragraph_separator) ≡ false
     → is_special charset c ≡ false
 special_from charset c p a l s = by charset.unicode charset.breaks12
@@ -44,7 +44,7 @@ special_spares charset = record {
   feed = special_from charset line_feed refl refl refl refl;
 }
 
--- what the test for an escape says of a character that needs none
+-- the parts of the test for an escape, of a character that needs none
 raw_parts : (p u b1 b2 b3 s1 s2 q k : Bool) → (not p || u || (b1 || b2 || b3 || s1 || s2) || q || k) ≡ false
     → (p ≡ true) × (u ≡ false) × (s1 ≡ false) × (s2 ≡ false)
 raw_parts p u b1 b2 b3 s1 s2 q k h =
@@ -67,11 +67,11 @@ special_raw breaks12 unicode c h =
     by true p = simp (p.0, p.1, p.2, p.3)
     by false p = simp (p.0, p.1)
 
--- a special character, but for tabs where there may be some
+-- true for a special character, but for tabs if `tabs` allows them
 abbrev pub is_special_raw : (tabs : Bool) → Charset → ℕ → Bool
 is_special_raw tabs charset c = not (tabs && c == tab) && is_special charset c
 
--- what isn't special isn't so either
+-- a character that isn't special isn't special with tabs allowed either
 raw_fewer : (tabs : Bool) (charset : Charset) (c : ℕ) → is_special charset c ≡ false → is_special_raw tabs charset c ≡ false
 raw_fewer tabs charset c h = and_right (not (tabs && c == tab)) (is_special charset c) h
 
@@ -115,7 +115,7 @@ module _ (s : Effective) (is : IsIndent s.indent) (place : Place) (limit : Optio
       lacks_folded (is_special (charset_of s)) (special_spares (charset_of s)) limit (deeper s.indent place.column) s.indent value cursor is.high
       (block_unspecial (charset_of s) value h)
 
-  -- A literal body holds none but tabs, and these where blanks are literal.
+  -- A literal body holds none but tabs, and these only if blanks are literal.
   literal_bodies : (tabs : Bool) → s.literal_blanks ≡ tabs → AllowsLiteral s value → list_any (is_special_raw tabs (charset_of s)) (body literal) ≡ false
   literal_bodies tabs e h =
       lacks_literal (is_special_raw tabs (charset_of s)) (raw_spares tabs (charset_of s)) (deeper s.indent place.column) s.indent value cursor is.high
@@ -161,9 +161,9 @@ raw_list s canonical events is accepted =
     (list_layout_steps events accepted.stream s pushes)
     ∙ lacks_steps s (is_special_raw s.literal_blanks (charset_of s)) (raw_spared s is) canonical events false at_stream first_standing tt accepted.sound
 
--- From special characters to what stands raw.
+-- From special characters to unescaped ones.
 
--- where no character fails a test, all meet it
+-- if no character fails a test, all meet it
 pub all_meet : (test : ℕ → Bool) (text : Text) → list_any (λ c. not (test c)) text ≡ false → list_all test text ≡ true
 all_meet test [] h = refl
 all_meet test (c ∷ rest) h =
@@ -202,7 +202,7 @@ printable_scalar c h = grind (arith, nat_tests)
 pub special_printable : (charset : Charset) (c : ℕ) → is_special charset c ≡ false → is_printable c ≡ true
 special_printable charset c h = not-false _ (or_parts _ _ (or_parts _ _ h).0).0
 
--- what fails where its condition holds
+-- a false conjunction whose first part is true
 then_false : (a b : Bool) → a ≡ true → (a && b) ≡ false → b ≡ false
 then_false true b is h = h
 then_false false b is h = absurd (false≢true is)
@@ -212,11 +212,11 @@ special_ascii : (charset : Charset) (c : ℕ) → charset.unicode ≡ false → 
 special_ascii charset c off h =
     not-false _ (then_false (not charset.unicode) (not (is_ascii c)) (ap not off) (or_parts (not (is_printable c)) _ (or_parts _ _ h).0).1)
 
--- where separators are special it is none
+-- with separators special it is none
 special_separator : (charset : Charset) (c : ℕ) → charset.breaks12 ≡ true → is_special charset c ≡ false → is_separator c ≡ false
 special_separator charset c on h = then_false charset.breaks12 (is_separator c) on (or_parts _ (charset.breaks12 && is_separator c) h).1
 
--- a character that isn't special, or a tab where there may be some
+-- a character that isn't special, or a tab if `tabs` allows it
 raw_cases : (tabs : Bool) (charset : Charset) (c : ℕ) → is_special_raw tabs charset c ≡ false
     → ((tabs && c == tab) ≡ true) ⊎ (is_special charset c ≡ false)
 raw_cases tabs charset c h = by (tabs && c == tab) refl h
@@ -225,7 +225,7 @@ raw_cases tabs charset c h = by (tabs && c == tab) refl h
     by true e h = inl e
     by false e h = inr h
 
--- what holds of a tab and of what isn't special
+-- a fact about tabs and about all characters that aren't special
 raw_test : (test : ℕ → Bool) (tabs : Bool) (charset : Charset) → test tab ≡ true → ((c : ℕ) → is_special charset c ≡ false → test c ≡ true)
     → (c : ℕ) → is_special_raw tabs charset c ≡ false → test c ≡ true
 raw_test test tabs charset of_tab others c h = by (raw_cases tabs charset c h)
@@ -234,7 +234,7 @@ raw_test test tabs charset of_tab others c h = by (raw_cases tabs charset c h)
     by (inl e) = ap test (eqb-true c tab (and_parts tabs (c == tab) e).1) ∙ of_tab
     by (inr e) = others c e
 
--- may stand raw
+-- such a character may be unescaped
 raw_stands : (tabs : Bool) (charset : Charset) (c : ℕ) → is_special_raw tabs charset c ≡ false → is_written_raw tabs c ≡ true
 raw_stands tabs charset c h = by (raw_cases tabs charset c h)
   where
@@ -274,7 +274,7 @@ raw_held s text h =
           (raw_test (λ d. not (is_separator d)) tabs charset refl (λ d k. ap not (special_separator charset d on k)) c e)) text h);
     }
 
--- What stands raw in the text of every accepted list.
+-- The unescaped characters in the text of every accepted list.
 pub texts_hold_raw : TextsHoldRaw
 texts_hold_raw given encoding events accepted =
     let s = effective given encoding in

@@ -1,5 +1,5 @@
--- What stands before a node, and on lines outside nodes, holds no character that meets a test which spares printable ASCII and
--- LF: indicators, spaces, breaks, names, and tags in percent forms.
+-- The text before a node, and that of lines outside nodes, holds no character that meets a test which spares printable ASCII and LF:
+-- indicators, spaces, breaks, names, and tags in percent forms.
 use Rattle.yaml_emitter.proofs.Common.{ℕ, if◌then◌else◌, ◌==◌, Option, None, Some, codes, Bool, false, not, true, ◌&&◌, ◌||◌, List, [], ◌++◌, ◌∷◌, refl, ◌≡◌}
 use Rattle.yaml_emitter.proofs.Common.{ap, ◌∙◌, arith, and_parts, and_from, nat_tests, list_all, list_any, IsHandle, handle_form, AreFound, spelling_is, Text}
 use Rattle.yaml_emitter.proofs.Common.{space, is_alpha, Cursor, Rendered, render_nothing, render_then, new_line, space_if, indicator, is_past_width}
@@ -17,7 +17,7 @@ use Rattle.yaml_emitter.proofs.canonical.CanonicalNames.{is_written, all_written
 use Rattle.yaml_emitter.proofs.canonical.CanonicalPlaces.{AnchorOk}
 use Rattle.yaml_scalar.proofs.{LineTexts.any_cond, Sparing.lacks_graph}
 
--- what stands in a tag is printable ASCII
+-- the characters of a tag are printable ASCII
 written_graph : (c : ℕ) → is_written c ≡ true → is_graph c ≡ true
 written_graph c h = grind (arith, nat_tests)
 
@@ -50,7 +50,7 @@ module _ (test : ℕ → Bool) (spares : Spares test) where
   lacks_either true x y h k = h
   lacks_either false x y h k = k
 
-  -- a space, where one is needed
+  -- a space, if one is needed
   pub lacks_space : (need : Bool) (cursor : Cursor) → list_any test (space_if need cursor) ≡ false
   lacks_space need cursor = any_cond test (need && not cursor.whitespace) (space ∷ []) [] (any_one test space [] spares.blank refl) refl
 
@@ -105,7 +105,7 @@ module _ (test : ℕ → Bool) (spares : Spares test) where
       lacks_then (new_line (line_column column) cursor) (indicator (codes ":") true false true) (lacks_line test spares (line_column column) cursor)
       (λ after. lacks_indicator (codes ":") true false true after refl)
 
-  -- what a place puts before its node
+  -- the text of a place before its node
   pub lacks_place : (s : Effective) (place : Place) (simple : Bool) (cursor : Cursor) → Lacks (render_place s place simple cursor)
   lacks_place s place simple cursor =
       lacks_either place.in_flow (render_flow_place s place.role simple place.column cursor) (render_block_place place.role simple place.column cursor)
@@ -121,7 +121,7 @@ module _ (test : ℕ → Bool) (spares : Spares test) where
   lacks_percent : (text : Text) → list_any test (percent_escaped text) ≡ false
   lacks_percent text = lacks_graph test spares (percent_escaped text) (graph_written (percent_escaped text) (escaped-written text))
 
-  -- what follows a tag's handle
+  -- the text after a tag's handle
   lacks_suffix : (portable : Bool) (text : Text) → list_any test (suffix_escaped portable text) ≡ false
   lacks_suffix portable text =
       lacks_graph test spares (suffix_escaped portable text) (graph_written (suffix_escaped portable text) (suffix-written portable text))
@@ -219,7 +219,7 @@ module _ (test : ℕ → Bool) (spares : Spares test) where
   lacks_ended : (rendered : Rendered) → Lacks rendered → Lacks (then_line_end rendered)
   lacks_ended rendered h = lacks_then rendered (new_line 0) h (lacks_line test spares 0)
 
-  -- a text that is rendered only where a test holds
+  -- a text that is rendered only if a test holds
   pub lacks_if : (b : Bool) (next : Cursor → Rendered) (cursor : Cursor) → Lacks (next cursor) → Lacks (render_if b next cursor)
   lacks_if true next cursor h = h
   lacks_if false next cursor h = refl

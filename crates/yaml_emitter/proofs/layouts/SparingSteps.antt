@@ -1,5 +1,5 @@
--- The pieces of a stream's events hold no character that meets a test which spares printable ASCII and LF, where no body that a
--- value allows does.
+-- The pieces of a stream's events hold no character that meets a test which spares printable ASCII and LF, if no body that a value
+-- allows does.
 use Rattle.yaml_emitter.proofs.Common.{ℕ, if◌then◌else◌, ◌==◌, option_and_then, Option, None, Bool, false, not, true, ◌&&◌, List, [], ◌++◌, ◌∷◌, refl, ◌≡◌}
 use Rattle.yaml_emitter.proofs.Common.{and_parts, list_all, list_any, neither, AreFound, in_force_found, Text, is_alpha, Cursor, Rendered, render_then, Scalar}
 use Rattle.yaml_emitter.proofs.Common.{new_line, ScalarStyle, TagDirective, Collection, Event, stream_start, stream_end, document_start, document_end, alias}
@@ -80,7 +80,7 @@ prefix_found own (directive ∷ prefix) rest found = (found.0, found.1, prefix_f
 own_found : (own : List TagDirective) → directives_fault own ≡ None → AreFound own own
 own_found own h = prefix_found own own _ (in_force_found own h)
 
--- what a test has to meet: it spares printable ASCII and LF, and no body that a value allows holds a character of it
+-- the conditions on a test: it spares printable ASCII and LF, and no body that a value allows holds a character of it
 pub record Spared (s : Effective) (test : ℕ → Bool) : Type 0 where
   pub spares : Spares test
   pub bodies : (place : Place) (style : ScalarStyle) (limit : Option ℕ) (value : Text) (cursor : Cursor)

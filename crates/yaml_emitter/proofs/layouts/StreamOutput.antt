@@ -1,4 +1,4 @@
--- The output of an accepted list in any mode, where no limit cuts it, reads as documents that agree with it.
+-- The output of an accepted list in any mode, if no limit cuts it, reads as documents that agree with it.
 use Rattle.yaml_emitter.proofs.Common.{ℕ, Option, None, Some, Bool, true, List, ◌≡◌, take_all, ap, ◌∙◌, false≢true, Event, encoding_asked, settings_for}
 use Rattle.yaml_emitter.proofs.Common.{bytes_written, output_of, list_layout, Settings, agrees, stream_trees}
 use Rattle.yaml_base.proofs.Common.{DocumentTree}
@@ -20,7 +20,7 @@ output_reads_by_either given breaks12 events portable readable =
     ap (λ (output : List ℕ). agrees given.canonical events (stream_trees breaks12 output)) (take_all given.limit bytes readable.uncut)
     ∙ portable_reads_back given breaks12 (encoding_asked events) events portable readable.accepted readable.scalars
 
--- what agrees with both is what was read of either
+-- the documents that were read of either agree with both
 same_content : (canonical : Bool) (first second : List Event) (read : Option (List DocumentTree)) → agrees canonical first read ≡ true
     → agrees canonical second read ≡ true → HaveSameContent canonical first second
 same_content canonical first second None one other = absurd (false≢true one)

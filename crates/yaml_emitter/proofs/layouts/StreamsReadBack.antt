@@ -25,7 +25,7 @@ layouts_are_read given encoding events accepted =
     let s = effective given encoding in
     characters_back s.encoding (text_written s (list_layout s events)) (texts_hold_raw given encoding events accepted).scalars
 
--- every stream stands
+-- every stream meets the reader's conditions
 stand : StreamsStand
 stand = streams_stand bodies_are_tidy meaning_is_kept values_of_texts layouts_are_shown layouts_are_read
 
@@ -41,7 +41,7 @@ portable_reads_back given breaks12 encoding events portable accepted texts =
     (sym (breaks_agree given breaks12 encoding events portable))
     ∙ stream_reads_back other encoding events accepted texts (ap (λ on. reads_alike on given.canonical events) portable)
 
--- what is read are its documents' trees
+-- the reader finds its documents' trees
 pub stream_found : (given : Settings) (encoding : Option Encoding) (events : List Event) (accepted : IsAccepted given.canonical events)
     → list_all has_scalar_texts events ≡ true → reads_alike given.portable given.canonical events ≡ true
     → stream_trees given.breaks12 (bytes_written (effective given encoding) (list_layout (effective given encoding) events))

@@ -18,7 +18,7 @@ module _ (s : Effective) (is : IsIndent s.indent) (place : Place) where
   enough : depth_of place.column ≤ deeper s.indent place.column
   enough = omega (arith, is.low)
 
-  -- where no character is special, all meet a test that such ones meet
+  -- if no character is special, all meet a test that such characters meet
   all_shown : (test : ℕ → Bool) → ((c : ℕ) → is_printable c ≡ true → test c ≡ true) → (text : Text) → list_any (is_special (charset_of s)) text ≡ false
       → list_all test text ≡ true
   all_shown test printable text h =
@@ -48,7 +48,7 @@ module _ (s : Effective) (is : IsIndent s.indent) (place : Place) where
       (λ c e. ap not (raw_shown s.literal_blanks (charset_of s) c e)) text
       (raw_bodies s is place limit value cursor literal allowed))
 
-  -- what else a tidy body keeps to
+  -- the other conditions of a tidy body
   record KeepsTo (style : ScalarStyle) (text : Text) : Type 0 where
     pub deep : has_deep_lines s.breaks12 (depth_of place.column) text ≡ true
     pub tidy : is_tidy_style style s.breaks12 text ≡ true

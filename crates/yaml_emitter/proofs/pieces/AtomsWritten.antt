@@ -1,4 +1,4 @@
--- Atoms that are written are what the definitions render.
+-- Writing atoms gives the text that the definitions render.
 use Rattle.yaml_emitter.proofs.Common.{ℕ, if◌then◌else◌, is_some, option_map, Option, None, Some, Result, Bool, false, true, List, ◌++◌, refl, ◌≡◌}
 use Rattle.yaml_emitter.proofs.Common.{append-nil, ap, sym, ◌∙◌, Text, Cursor, Rendered, render_nothing, render_then, TagDirective, render_anchor, render_tag}
 use Rattle.yaml_emitter.proofs.Common.{render_properties, Brackets, render_end, end_piece, Role, as_root, as_item, as_key, as_value, Place, line_column}
@@ -32,7 +32,7 @@ pub tag_count-spelled : (directives : List TagDirective) (tag : Option Text) →
 tag_count-spelled directives None = refl
 tag_count-spelled directives (Some tag) = refl
 
--- a tag is written where its spelling is
+-- a tag is written exactly if its spelling is
 pub written_is_some : (directives : List TagDirective) (text : Option Text) (tag : Option SpelledTag) → seen_tag tag ≡ option_map (spelling directives) text
     → is_some tag ≡ is_some text
 written_is_some directives None None is = refl
@@ -46,7 +46,7 @@ tag-spelled portable directives (Some tag) bare cursor = refl
 tag-spelled portable directives None true cursor = refl
 tag-spelled portable directives None false cursor = refl
 
--- what stands before a node, with its tag as it is spelled
+-- the text before a node, with its tag as it is spelled
 pub lead-spelled : (s : Effective) (directives : List TagDirective) (place : Place) (simple : Bool) (anchor tag : Option Text) (spelled : Option Spelling)
     (bare : Bool) (cursor : Cursor)
     → spelled ≡ option_map (spelling directives) tag
@@ -59,7 +59,7 @@ lead-spelled s directives place simple anchor tag spelled bare cursor is =
     ∙ ap (λ (last : Rendered). let l : Rendered = record { text = here.text ++ (named.text ++ last.text); cursor = last.cursor } in l)
     (tag-spelled s.portable directives tag bare named.cursor)
 
--- where nothing comes after it, what is rendered is all
+-- a text that nothing follows is the whole text
 pub rendered_alone : (render next : Cursor → Rendered) (cursor : Cursor) → ((after : Cursor) → next after ≡ render_nothing after)
     → render cursor ≡ render_then (render cursor) next
 rendered_alone render next cursor none =

@@ -1,14 +1,14 @@
--- What a value allows where single quotes are left out, or not, and where blanks are literal, or not.
+-- The styles that a value allows, with or without single quotes, and with or without literal blanks.
 use Rattle.yaml_emitter.proofs.Common.{if◌then◌else◌, Bool, false, not, ◌&&◌, ◌||◌, ◌≡◌, subst, sym, ap, ◌∙◌, Scalar, allowed_by_quotes, allowed_by_blanks}
 use Rattle.yaml_emitter.proofs.Common.{allowed_under, allowances, Allowances, Charset, charset_of, Effective, chosen}
 use Rattle.yaml_base.proofs.Common.{allows_literal, is_literal, or_parts}
 use Rattle.yaml_scalar.specs.ScalarData.{ChooseAlike}
 
--- the settings change nothing of what a scalar's value allows
+-- the settings change nothing in the styles that a scalar's value allows
 abbrev pub KeepsStyles : Effective → Scalar → Type 0
 KeepsStyles s content = (s.double_quotes || (is_literal content.style && s.literal_blanks)) ≡ false
 
--- where none are left out and blanks aren't literal, all stays
+-- with single quotes and without literal blanks all stays
 pub alike_under : (s : Effective) (found : Allowances) (content : Scalar) → KeepsStyles s content
     → ChooseAlike found (allowances (charset_of s) content.value) → ChooseAlike found (allowed_under s content)
 alike_under s found content keeps alike =
@@ -17,16 +17,16 @@ alike_under s found content keeps alike =
     (allowed_by_blanks (is_literal content.style && s.literal_blanks) (charset_of s) content.value))) (sym off.0)
     (subst (λ (blanks : Bool). ChooseAlike found (allowed_by_quotes false (allowed_by_blanks blanks (charset_of s) content.value))) (sym off.1) alike)
 
--- what is the same leads to the same choices
+-- equal allowances lead to the same choices
 pub alike_same : (found other : Allowances) → found ≡ other → ChooseAlike found other
 alike_same found other same asked empty tag_written plain_implicit quoted_implicit flow simple_key canonical =
     ap (λ (a : Allowances). chosen a asked empty tag_written plain_implicit quoted_implicit flow simple_key canonical) same
 
--- what was found, with other single quotes and block styles
+-- the allowances that were found, with other single quotes and block styles
 abbrev pub found_with : (single_quoted block : Bool) → Allowances → Allowances
 found_with single_quoted block found = record found { single_quoted = single_quoted; block = block }
 
--- is exactly what a scalar's value allows
+-- they are exactly those of a scalar's value
 pub exact_under : (s : Effective) (found : Allowances) (content : Scalar) (single_quoted block : Bool) → found ≡ allowances (charset_of s) content.value
     → single_quoted ≡ (not s.double_quotes && found.single_quoted)
     → block ≡ (if is_literal content.style && s.literal_blanks then allows_literal (charset_of s) content.value else found.block)

@@ -1,4 +1,4 @@
--- A scalar that stands plain as it is: plain is chosen for it, and nothing but its place stands before it.
+-- A scalar that is plain as it is: plain is chosen for it, and only its place precedes it.
 use Rattle.yaml_emitter.proofs.Common.{ℕ, ◌+◌, if◌then◌else◌, is_some, option_map, Option, None, Some, Result, Bool, false, not, true, ◌&&◌, ◌||◌, List, [], ap}
 use Rattle.yaml_emitter.proofs.Common.{◌∷◌, refl, ◌≡◌, subst, sym, ◌∙◌, and_parts, false≢true, Text, Cursor, Rendered, render_then, ScalarStyle, any_style}
 use Rattle.yaml_emitter.proofs.Common.{plain, single_quoted, double_quoted, literal, folded, TagDirective, scalar_tag, render_anchor, charset_of, choice_of}
@@ -47,7 +47,7 @@ no_tag {canonical} {content} is =
     ap (λ (b : Bool). if b || (not seen.plain_implicit && not seen.quoted_implicit) then seen.tag else None) is.readable
     ∙ ap (λ (b : Bool). if not b && not seen.quoted_implicit then seen.tag else None) is.implicit
 
--- where every style may hold a value and plain is asked for, plain is chosen
+-- if every style may hold a value and plain is asked for, plain is chosen
 asked_still : (simple : Bool) (asked : ScalarStyle) → requested_style false asked ≡ plain → requested_style (false || (simple && false)) asked ≡ plain
 asked_still true asked h = h
 asked_still false asked h = h
@@ -60,7 +60,7 @@ not_bare : (quoted_implicit : Bool) → (not false && not quoted_implicit && not
 not_bare true = refl
 not_bare false = refl
 
--- whichever quotes would stand in its place
+-- whichever quotes replace the others
 abbrev allowed_but : (double_quotes : Bool) → Allowances
 allowed_but double_quotes = allowed_by_quotes double_quotes all_allowed
 
@@ -125,7 +125,7 @@ simple_ascii_choice s place simple {content} is =
     ∙ ap (λ (b : Bool). by others false false true b) is.readable
     ∙ chosen_plain s.double_quotes seen.style seen.quoted_implicit place.in_flow simple is.asked
 
--- what is written of a value that stands plain, at its place behind an anchor, where there is one
+-- the text of a value that is plain as it is, at its place, after an anchor if there is one
 abbrev pub render_plain_at : Effective → Place → (simple : Bool) → (anchor : Option Text) → (value : List ℕ) → Cursor → Rendered
 render_plain_at s place simple anchor value cursor =
     render_then
@@ -158,7 +158,7 @@ not_lacking {canonical} {content} other is =
     let tag = is_some (scalar_tag other (seen_scalar content)) in
     ap (λ (b : Bool). lacks_tag_and_flags tag b content.quoted_implicit) is.implicit ∙ flagged tag content.quoted_implicit
 
--- as a key it is simple where it is short
+-- as a key it is simple if it is short
 pub simple_ascii_key : {canonical : Bool} {content : ScalarContent} (key : Bool) (directives : List TagDirective) → key ≡ true → StandsPlain canonical content
     → is_short (byte_count (chars content.value.now) + 0 + 0) ≡ (key && (not canonical && is_simple_scalar canonical directives (seen_scalar content)))
 simple_ascii_key {canonical} {content} key directives is_key is =

@@ -32,7 +32,7 @@ sound_name if_empty if_other (c ∷ rest) none = letters_no_break (c ∷ rest) (
 pub sound_alias : (name : Text) → alias_fault name ≡ None → list_any is_break name ≡ false
 sound_alias name none = sound_name AliasEmpty AliasAlphabet name none
 
--- an anchor, where there is one
+-- an anchor, if there is one
 pub sound_anchor : (anchor : Option Text) → option_and_then anchor_fault anchor ≡ None → name_breaks anchor ≡ false
 sound_anchor None none = refl
 sound_anchor (Some name) none = sound_name AnchorEmpty AnchorAlphabet name none

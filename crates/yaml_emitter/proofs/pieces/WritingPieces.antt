@@ -7,12 +7,12 @@ use Rattle.yaml_base.proofs.stream_documents.StreamDocumentReads.{no_directives}
 use Rattle.yaml_base.specs.{Indicators.document_end, Layout.piece_without_body, declared.errors.yaml_error_t.yaml_error_t}
 use Rattle.yaml_emitter.specs.WrittenPieces.{rendered_of, render_document_head}
 
--- a lead by itself is what is rendered
+-- a lead by itself is the whole text
 pub lead-rendered : (open_ended : ℕ) (rendered : Rendered) → rendered ≡ rendered_of (piece_without_body open_ended rendered)
 lead-rendered open_ended rendered = ap (λ (text : Text). let l : Rendered = record { text = text; cursor = rendered.cursor } in l)
     (sym (append-nil rendered.text))
 
--- what was rendered is written as a piece
+-- a rendered text is written as a piece
 pub wrote_lead : (render : Cursor → Rendered) (open_ended : ℕ) {before after : Page} {answer : Result (Unit {0}) yaml_error_t}
     → Wrote render before after answer → Wrote (λ cursor. rendered_of (piece_without_body open_ended (render cursor))) before after answer
 wrote_lead render open_ended {before} wrote = wrote_as (λ cursor. rendered_of (piece_without_body open_ended (render cursor)))
@@ -35,7 +35,7 @@ pub wrote_document_end : (implicit : Bool) (open_ended : ℕ) {before after : Pa
 wrote_document_end implicit open_ended {before} wrote =
     wrote_as (piece_at (document_end_piece implicit) open_ended) (document_end-rendered implicit open_ended before.cursor) wrote
 
--- a document's start: its head, with `...` and `---` where they are due
+-- a document's start: its head, with `...` and `---` if they are due
 pub wrote_document_start : (s : Effective) (first : Bool) (start : DocumentStart) (open_ended : ℕ) {closes explicit : Bool}
     {before after : Page} {answer : Result (Unit {0}) yaml_error_t}
     → closes ≡ (has_directives start && not (open_ended == 0)) → explicit ≡ is_explicit (s.canonical || s.portable) first start
@@ -48,14 +48,14 @@ wrote_document_start s first start open_ended {closes} {explicit} {before} closi
     ∙ lead-rendered 0 (render_document_start s first start (record { cursor = before.cursor; open_ended = open_ended })))
     wrote
 
--- without directives nothing stands before `---`
+-- without directives no text precedes `---`
 no_lines : (s : Effective) (start : DocumentStart) (explicit : Bool) (cursor : Cursor) → has_directives start ≡ false
     → render_if explicit (render_document_marker s.canonical) cursor ≡ render_document_head s false start.version start.directives explicit cursor
 no_lines s start explicit cursor bare =
     let none = no_directives start bare in
     rw (none.0, none.1) refl
 
--- a document's start without directives: `---` where it is due
+-- a document's start without directives: `---` if it is due
 pub wrote_bare_start : (s : Effective) (first : Bool) (start : DocumentStart) (open_ended : ℕ) {explicit : Bool}
     {before after : Page} {answer : Result (Unit {0}) yaml_error_t}
     → has_directives start ≡ false → explicit ≡ is_explicit (s.canonical || s.portable) first start

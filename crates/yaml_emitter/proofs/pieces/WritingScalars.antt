@@ -1,5 +1,4 @@
--- Scalars: what the writers of the styles write is the text that the layout puts there, and with what stands before it
--- the scalar's piece.
+-- Scalars: the writers of the styles write the text that the layout has there, and with the text before it the scalar's piece.
 use Rattle.yaml_emitter.proofs.Common.{ℕ, if◌then◌else◌, ◌==◌, option_map, Option, None, Result, Err, Ok, negsuc, pos, ℤ, length, Bool, false, not, true, ◌&&◌}
 use Rattle.yaml_emitter.proofs.Common.{List, refl, ◌≡◌, append_assoc, inl, inr, ap, subst, sym, ◌∙◌, arith, and_parts, ints, chars, Text, Cursor, Rendered}
 use Rattle.yaml_emitter.proofs.Common.{render_then, ScalarStyle, any_style, plain, single_quoted, double_quoted, literal, folded, TagDirective, Scalar, Place}
@@ -166,7 +165,7 @@ both a b c d is holds =
     let outer = and_parts (a && b) c is in
     ap (λ x. x && c) (holds (and_parts a b outer.0).0) ∙ outer.1
 
--- what literal takes isn't empty
+-- a value that literal takes isn't empty
 literal_some : (charset : Charset) (value : Text) → allows_literal charset value ≡ true → not (is_empty value) ≡ true
 literal_some charset [] allowed = absurd (false≢true allowed)
 literal_some charset (c ∷ rest) allowed = refl
@@ -181,7 +180,7 @@ chosen_fits s place simple content =
     (λ block. literal_some (charset_of s) content.value (literal_allowed s content block)))
 
 module _ (s : Effective) (directives : List TagDirective) (place : Place) (simple : Bool) (content : Scalar) where
-  -- what stands before a scalar's text, its tag as it is spelled, and the text
+  -- the text before a scalar's text, its tag as it is spelled, and the text
   abbrev pub render_scalar : ChosenStyle → Option Spelling → Cursor → Rendered
   render_scalar choice tag cursor =
       render_then
@@ -212,7 +211,7 @@ module _ (s : Effective) (directives : List TagDirective) (place : Place) (simpl
       (ap (λ (c : ChosenStyle). render_scalar c tag before.cursor) is ∙ whole_rendered open_ended tag before.cursor tag_is)
       wrote
 
--- what holds of an answer by its kind holds where it is Ok
+-- a fact about an answer by its kind, if the answer is Ok
 pub if_ok_from : {T E : Type 0} (P P' : T → Type 0) (Q : E → Type 0) (r : Result T E) → ((x : T) → P x → P' x) → MatchResult r P Q → IfOk r P'
 if_ok_from P P' Q (Ok x) holds h = holds x h
 if_ok_from P P' Q (Err e) holds h = tt

@@ -1,4 +1,4 @@
--- How tags are spelled: an empty one, and the handles that stand in spellings. And which counts are short.
+-- The spelling of tags: of an empty one, and the handles in spellings. And which counts are short.
 use Rattle.yaml_emitter.proofs.Common.{ℕ, ◌+◌, option_map, Option, None, Some, Bool, false, not, true, ◌&&◌, List, [], ◌∷◌, refl, ◌≡◌, ap, sym, ◌∙◌, zero-add}
 use Rattle.yaml_emitter.proofs.Common.{or_parts, list_any, Text, is_break, TagDirective, is_short, tag_fault, Spelling, verbatim, spelling, some_handle_breaks}
 use Rattle.yaml_base.specs.{Tags.behind, Tags.spelling_by, declared.errors.yaml_error_t.yaml_error_t}

@@ -1,5 +1,5 @@
--- Worked rows: two documents, and what follows them. An output that keeps what was flushed begins with all bytes of the two, whatever
--- comes in the third: an event that is refused, a want of memory, a limit that is passed. So it isn't empty.
+-- Worked rows: two documents, and events after them. An output that keeps its flushed bytes begins with all bytes of the two, whatever
+-- comes in the third: an event that is refused, a failure of memory, a limit that is passed. So it isn't empty.
 use Rattle.yaml_emitter.proofs.Common.{ℕ, ◌≤◌, None, Some, codes, length, false, true, List, [], ◌++◌, ◌∷◌, refl, ◌≡◌, subst, arith, Text, any_style, Event}
 use Rattle.yaml_emitter.proofs.Common.{DocumentStart, document_start, mapping_end, scalar_node, Document, Documents, no_documents, documents_and, settings_for}
 use Rattle.yaml_emitter.proofs.Common.{bytes_written, pieces, IsPrefix, refusal, nothing_given, BeginsOutput, State, StaysFlushed, whole_documents, Option}
@@ -57,7 +57,7 @@ kept events later output is keeps =
     let kept = subst (λ events. KeepsDocuments nothing_given events output) is keeps in
     subst (λ bytes. IsPrefix bytes output) (two_bytes later) (kept None first (letter (codes "b")) later refl)
 
--- and in every output that keeps what the first events flushed, where the two are among them
+-- and in every output that keeps the flushed bytes of the first events, if the two are among them
 flushed : (later : List Event) (count : ℕ) (output : List ℕ) → length two ≤ count → StaysFlushed nothing_given (two ++ later) count output
     → IsPrefix both output
 flushed later count output within stays = subst (λ bytes. IsPrefix bytes output) (two_bytes later) (stays (length two) within refl)
@@ -93,7 +93,7 @@ two_begin =
           };
     }
 
--- where the end of a mapping is refused right behind them, the end of the second, which writes nothing, isn't what was refused: its
+-- if the end of a mapping is refused right after them, the end of the second, which writes nothing, isn't the event refused: its
 -- bytes are in the output
 end_refused : refusal false two mapping_end ≡ Some ExpectedDocumentStart
 end_refused = refl

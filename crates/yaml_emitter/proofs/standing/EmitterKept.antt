@@ -1,4 +1,4 @@
--- What an emitter keeps true.
+-- The invariants of an emitter.
 use Rattle.yaml_emitter.proofs.Common.{ℕ, ◌<◌, ◌≤◌, vec_len, vec_capacity, length, false, true, List, [], map, ◌++◌, ◌∷◌, refl, ◌≡◌, ap, sym, ◌∙◌, arith, Event}
 use Rattle.yaml_emitter.proofs.Common.{length-map, map-append, Scalar, scalar, seen_event, seen_events, Settings, state_of, IsEmitter, is_head_ready, State}
 use Rattle.yaml_emitter.proofs.Common.{MachineState, Option, None, Some, Bool, false≢true, is_ready, ◌==◌, ◌&&◌, ◌||◌, nat_lt, list_any, is_balanced, and_parts}
@@ -8,7 +8,7 @@ use Rattle.yaml_base.specs.Event.{any_style}
 use Rattle.yaml_emitter.proofs.standing.StandingPromises.{held_few, most_few}
 use Rattle.yaml_emitter.specs.{EmitsEvent.StillWait, Queue.StandsLast, declared.emitter.yaml_emitter_t.TheInside.Inside}
 
--- Where the first event that waits isn't ready, at most three wait.
+-- If the first waiting event isn't ready, at most three wait.
 pub waiting_few : {E : Type 0} (seen : E → Event) (xs : List E) → is_head_ready (map seen xs) ≡ false → length xs ≤ 3
 waiting_few seen xs waits = omega (arith, held_few (map seen xs) waits, most_few (map seen xs), length-map xs seen)
 
@@ -20,19 +20,19 @@ room_left e kept =
     let ok = e.queue.ok in
     omega (arith, few, room, ok)
 
--- What waits with an event that is put behind.
+-- The view of a queue to which an event is appended.
 pub seen_more : {E : Type 0} (seen : E → Event) (items pushed slice : List E) (x : E) → slice ≡ pushed → pushed ≡ items ++ x ∷ []
     → map seen slice ≡ map seen items ++ seen x ∷ []
 seen_more seen items pushed slice x is grown = ap (map seen) (is ∙ grown) ∙ map-append seen items (x ∷ [])
 
--- An event may stand behind those that wait.
+-- Some event may follow the waiting ones.
 pub some_last : (next : Option Event) → (last : Event) × StandsLast next last
 some_last (Some event) = (event, refl)
 some_last None =
     let content : Scalar = record { anchor = None; tag = None; value = []; plain_implicit = true; quoted_implicit = true; style = any_style } in
     (scalar content, (content, refl))
 
--- Those that wait on with one more behind them wait without it.
+-- Events that wait on with one more after them wait without it.
 pub waits_without : (waiting : List Event) (last : Event) → StillWait waiting last → is_head_ready waiting ≡ false
 waits_without [] last still = refl
 waits_without (event ∷ rest) last still = by (is_ready event rest) refl
@@ -47,13 +47,13 @@ single_waits (sequence_start start) more = refl
 single_waits (mapping_start start) more = refl
 single_waits event more = cc
 
--- An event that can't be written is put behind those that wait, and the first of them goes on waiting.
+-- An event that can't be written is appended to the queue, and the first waiting event goes on waiting.
 pub waits_behind : (waiting : List Event) (event : Event) → StillWait waiting event → (waiting ≡ [] → (awaited event == 0) ≡ false)
     → is_head_ready (waiting ++ event ∷ []) ≡ false
 waits_behind [] event still more = single_waits event (more refl)
 waits_behind (first ∷ rest) event still more = still
 
--- Where it may not pass the queue, and none waits, it awaits others.
+-- If it may not pass the queue, and none waits, it awaits others.
 pub awaits_more : {E : Type 0} (seen : E → Event) (queue : List E) (awaits : Bool)
     → (length queue == 0 && awaits) ≡ false → map seen queue ≡ [] → awaits ≡ false
 awaits_more seen [] awaits apart empty = apart
@@ -63,7 +63,7 @@ no_pass : {E : Type 0} (seen : E → Event) (first : E) (rest : List E) (awaits 
 no_pass seen first rest awaits both =
     let parts = and_parts (length (first ∷ rest) == 0) awaits both in omega (arith, eqb-true (length (first ∷ rest)) 0 parts.0)
 
--- Where it may, it awaits none, and none waits.
+-- If it may, it awaits none, and none waits.
 pub passes : {E : Type 0} (seen : E → Event) (queue : List E) (event : Event) → (length queue == 0 && awaited event == 0) ≡ true
     → (map seen queue ≡ []) × (is_head_ready (event ∷ []) ≡ true)
 passes seen [] event both =
@@ -92,7 +92,7 @@ pub kept_limited : {A : Type 0} (e : Inside A) (after : MachineState) → IsEmit
 kept_limited e after kept =
     record { untouched = λ none. cc; begun = λ begun. refl; opened = λ opened. refl; room = kept.room; waits = kept.waits }
 
--- a setter changes what is given
+-- a setter changes the settings as given
 pub given_set : {A : Type 0} {opened e : Inside A} (set : Settings → Settings) {seen : State} → opened ≡ e → state_of e ≡ seen
     → record (state_of opened) { given = set (state_of opened).given } ≡ record seen { given = set seen.given }
 given_set set opened_is view_is =

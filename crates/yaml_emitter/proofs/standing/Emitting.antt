@@ -14,7 +14,7 @@ took_ready : (waiting : List Event) (before after : MachineState) (answer : Resu
     → is_head_ready waiting ≡ true → is_ready h.event h.rest ≡ true
 took_ready waiting before after answer h ready = subst (λ r. is_head_ready r ≡ true) h.waits ready
 
--- What processed an event keeps the machine's error.
+-- Processing an event keeps the machine's error.
 pub processed_error : (event : Event) (empty : Bool) (before after : MachineState) (answer : Result (Unit {0}) yaml_error_t)
     → Processed event empty before after answer → after.error ≡ before.error
 processed_error event empty before after (Ok _) done = ap (λ (m : MachineState). m.error) done.kept
@@ -40,14 +40,14 @@ took_failed waiting before after error h ready given all prefix reached =
     let at : HasReached given all prefix (h.event ∷ h.rest) before = subst (λ r. HasReached given all prefix r before) h.waits reached in
     reached_failed given all prefix h.rest h.event before after error at (took_ready waiting before after (Err error) h ready) h.done
 
--- Where a machine has come in two parts, it has come.
+-- Two ways of a machine, one after the other, are one way.
 pub reached_on : (first second third : List Event) (before between after : MachineState) → ReachedOn first before second between
     → ReachedOn second between third after → ReachedOn first before third after
 reached_on first second third before between after h h' given all prefix reached =
     let at = h given all prefix reached in
     h' given all at.0 at.1
 
--- The events behind the first ones.
+-- The events after the first ones.
 pub seen_behind : {E : Type 0} (seen : E → Event) (xs : List E) (n : ℕ) → map seen (take (length xs - n) (drop n xs)) ≡ drop n (map seen xs)
 seen_behind seen xs n = ap (map seen) (take_rest xs n) ∙ sym (drop-map seen n xs)
 
@@ -66,7 +66,7 @@ took_within seen xs n before after answer took =
     let long : length (drop n (map seen xs)) ≡ suc (length took.rest) = ap length took.waits in
     omega (arith, long, length-drop n (map seen xs), length-map xs seen)
 
--- An event that was taken stands behind those that wait.
+-- An event that was taken follows the waiting ones.
 pub reached_taken : (given : Settings) (all : List Event) (event : Event) (state : State) → StateStands given all state → state.error ≡ None
     → HasReached given (all ++ event ∷ []) (take (written all) all) (state.held ++ event ∷ []) (machine_of state)
 reached_taken given all event state h none = reached_first given all event state.held (machine_of state) (stands_well given all state h none)
@@ -79,7 +79,7 @@ head_unready : (rest : List Event) → written rest ≡ 0 → is_head_ready rest
 head_unready [] h = refl
 head_unready (first ∷ rest) h = unready (is_ready first rest) (written rest) h
 
--- Where no event became ready, the first that waits isn't ready.
+-- If no event became ready, the first waiting event isn't ready.
 pub none_became_ready : (given : Settings) (all : List Event) (event : Event) (before : State) → StateStands given all before → before.error ≡ None
     → written (all ++ event ∷ []) ≡ written all → is_head_ready (before.held ++ event ∷ []) ≡ false
 none_became_ready given all event before h none same =
@@ -88,13 +88,13 @@ none_became_ready given all event before h none same =
     subst (λ held. is_head_ready (held ++ event ∷ []) ≡ false) (sym well.held)
     (head_unready (held_back all ++ event ∷ []) (omega (arith, count, same)))
 
--- Nothing follows an event that stands alone.
+-- Nothing follows a single event.
 pub closes_none : (event : Event) → closes_at_once event [] ≡ false
 closes_none (sequence_start _) = refl
 closes_none (mapping_start _) = refl
 closes_none event = refl
 
--- What processes an event where none waits takes the first of a queue that holds it alone.
+-- Processing an event while none waits takes the first of a queue that holds it alone.
 pub took_alone : (event : Event) (before after : MachineState) (answer : Result (Unit {0}) yaml_error_t)
     → Processed event false before after answer → ProcessedFirst (event ∷ []) before after answer
 took_alone event before after answer done =
@@ -105,7 +105,7 @@ took_alone event before after answer done =
       done = subst (λ (b : Bool). Processed event b before after answer) (sym (closes_none event)) done;
     }
 
--- Where no more is ready, the machine stands.
+-- If no more is ready, the machine's state is the one after all events.
 pub stands_on_end : (given : Settings) (all prefix rest : List Event) (machine : MachineState) → HasReached given all prefix rest machine → machine.error ≡ None
     → is_head_ready rest ≡ false → MachineStands given all machine.error rest machine
 stands_on_end given all prefix rest machine at none unready =

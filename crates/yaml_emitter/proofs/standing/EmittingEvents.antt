@@ -13,7 +13,7 @@ use Rattle.yaml_emitter.proofs.standing.{Promising.promised, StandingMore.failed
 use Rattle.yaml_emitter.proofs.standing.Emitting.{none_became_ready, processed_error, reached_taken, stands_on_end, took_alone, took_failed, took_next}
 use Rattle.yaml_emitter.specs.EmitsEvent.{EmitsEvent, Settled, SettlingFailed, Settles, StillWait, WroteAlone, WroteWaiting, kept_error}
 
--- A machine where none waits processed an event, and its error is kept.
+-- A machine processed an event while none waits, and its error is kept.
 wrote_keeping : (event : Event) (before between after : MachineState) (answer : Result (Unit {0}) yaml_error_t) → before.error ≡ None
     → is_head_ready (event ∷ []) ≡ true → Processed event false before between answer → after ≡ kept_error answer between
     → WroteAlone before event answer after
@@ -83,7 +83,7 @@ some_error (Some error) none some = cc
 abbrev pub starting : State → State
 starting before = record before { started = true }
 
--- The way of the events that wait, once one stands behind them.
+-- The way of the waiting events once one follows them.
 settled_reached : (event : Event) (before settled : State) → before.error ≡ None → (h : Settled (starting before) event settled)
     → (given : Settings) (all : List Event) → StateStands given all before
     → (prefix : List Event) × HasReached given (all ++ event ∷ []) prefix (settled.held ++ event ∷ []) (machine_of settled)
@@ -91,7 +91,7 @@ settled_reached event before settled none h given all stands =
     let at = h.wrote.reached given (all ++ event ∷ []) (take (written all) all) (reached_taken given all event before stands none) in
     (at.0, subst (λ (l : List Event). HasReached given (all ++ event ∷ []) at.0 (l ++ event ∷ []) (machine_of settled)) (sym h.held) at.1)
 
--- Where nothing became ready, what waits is as it was.
+-- If nothing became ready, the same events wait.
 settled_same : (event : Event) (before settled : State) → Settled (starting before) event settled → is_head_ready (before.held ++ event ∷ []) ≡ false
     → settled.held ≡ before.held
 settled_same event before settled h unready = h.held ∙ ap (λ (n : ℕ). drop n before.held) (h.unready unready)
@@ -118,7 +118,7 @@ emits_alone event before settled machine answer text none h alone ready wrote =
     (keeps_set_then (starting before) settled (with_machine settled settled.held machine) h.set (keeps_with_machine settled settled.held machine wrote.set))
     wrote.answered
 
--- An event was put behind those that wait still, and the first of them goes on waiting.
+-- An event was appended to those that wait still, and the first of them goes on waiting.
 pub emits_waiting : (event : Event) (before settled : State) (held : List Event) → has_scalar_texts event ≡ true → before.error ≡ None
     → Settled (starting before) event settled → held ≡ settled.held ++ event ∷ [] → is_head_ready held ≡ false
     → EmitsEvent before event (Ok tt) (record settled { held = held })

@@ -1,4 +1,4 @@
--- What was flushed stays flushed, as events come and the output grows.
+-- Flushed bytes stay flushed, as events come and the output grows.
 use Rattle.yaml_emitter.proofs.Common.{suc, zero, ℕ, ◌≤◌, Option, length, take, true, List, [], ◌++◌, ◌∷◌, ◌⊎◌, refl, ◌≡◌, length-append, take_at, append_assoc}
 use Rattle.yaml_emitter.proofs.Common.{inl, inr, ap, subst, sym, ◌∙◌, arith, prefix_same, prefix_then, Event, stream_start, settings_for, bytes_written, pieces}
 use Rattle.yaml_emitter.proofs.Common.{flushes, last_flushes, completion, list_layout, IsPrefix, Encoding, Settings, Effective, StaysFlushed}

@@ -4,7 +4,7 @@ use Rattle.yaml_emitter.proofs.Common.{WritesPage, CutPage, unwritten, partly_wr
 use Rattle.yaml_base.specs.declared.errors.{yaml_error_t.yaml_error_t, yaml_error_t.TheVariants.Memory, yaml_error_t.TheVariants.WriteError}
 use Rattle.yaml_pen.proofs.Composing.{wrote_grows}
 
--- a page grows by nothing where text and output are equal
+-- a page grows by nothing if text and output are equal
 pub grows_same : (before after : Page) → after.text ≡ before.text → after.output ≡ before.output → Grows before after
 grows_same before after text output = record {
   text = prefix_same before.text after.text (sym text);

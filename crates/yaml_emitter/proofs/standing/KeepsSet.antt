@@ -1,4 +1,4 @@
--- Calls that write keep what the caller set.
+-- Calls that write keep all that the caller set.
 use Rattle.yaml_emitter.proofs.Common.{Result, Err, Ok, Bool, List, refl, ◌≡◌, ap, ◌∙◌, Event, stream_start, Keeps, WritesPage, CutPage, unwritten}
 use Rattle.yaml_emitter.proofs.Common.{partly_written, Processed, ProcessedFirst, State, MachineState, machine_of, KeepsGiven, KeepsSet, Page}
 use Rattle.yaml_base.specs.declared.errors.{yaml_error_t.yaml_error_t, yaml_error_t.TheVariants.Memory, yaml_error_t.TheVariants.WriteError}
@@ -10,7 +10,7 @@ pub keeps_given_then : (before middle after : MachineState) → KeepsGiven befor
 keeps_given_then before middle after first second =
     record { given = second.given ∙ first.given; taken = second.taken ∙ first.taken }
 
--- what is written keeps what was taken
+-- writing keeps the number of taken bytes
 written_keeps_taken : (event : Event) (empty : Bool) (before after : MachineState) → WritesPage event empty before after
     → after.page.taken ≡ before.page.taken
 written_keeps_taken (stream_start encoding) empty before after writes = ap (λ (p : Page). p.taken) writes.1
@@ -48,7 +48,7 @@ keeps_set_then before middle after first second =
       taken = second.taken ∙ first.taken;
     }
 
--- an emitter with what a machine holds, where these events wait
+-- an emitter with the fields of a machine, if these events wait
 abbrev pub with_machine : State → (held : List Event) → MachineState → State
 with_machine before held machine =
     record before {
@@ -61,7 +61,7 @@ with_machine before held machine =
       error = machine.error;
     }
 
--- it keeps what the machine keeps, and its own
+-- it keeps all that the machine keeps, and its own fields
 pub keeps_with_machine : (before : State) (held : List Event) (machine : MachineState) → KeepsGiven (machine_of before) machine
     → KeepsSet before (with_machine before held machine)
 keeps_with_machine before held machine kept =

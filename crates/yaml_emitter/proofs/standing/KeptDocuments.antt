@@ -17,7 +17,7 @@ documents_written : (encoding : Option Encoding) (documents : Documents) (last :
 documents_written encoding documents last later =
     let inside = documents_whole (documents_and documents last) later in omega (arith, inside.count)
 
--- and their end flushes what was written
+-- and their end flushes the text before it
 documents_hand_out : (encoding : Option Encoding) (documents : Documents) (last : Document) → last_flushes (whole_documents encoding documents last) ≡ true
 documents_hand_out encoding documents last =
     let before = stream_start encoding ∷ documents_events documents in
@@ -25,7 +25,7 @@ documents_hand_out encoding documents last =
     let end = document_end last.end_implicit in
     ap last_flushes (sym (append_assoc before inside (end ∷ []))) ∙ last_flushes-append (before ++ inside) end
 
--- the documents that are complete in what was written are in the output
+-- the documents that are complete in the written events are in the output
 documents_begun : (given : Settings) (all prefix : List Event) (count : ℕ) (state : State) → BeginsOutput given all prefix count state
     → KeepsFirstDocuments given all count state.page.output
 documents_begun given all prefix count state begun encoding documents last later parts within =
@@ -69,7 +69,7 @@ accepted_before given all whole later error state h parts begins =
       | inr within ↦ within
     ]
 
--- where nothing failed
+-- without an error
 all_kept : (given : Settings) (all : List Event) (state : State) → BeginsOutput given all (take (written all) all) (written all) state
     → KeepsDocuments given all state.page.output
 all_kept given all state begun encoding documents last later parts =
@@ -83,7 +83,7 @@ accepted_kept given all error state h encoding documents last later parts begins
     documents_begun given all h.prefix (length h.prefix) state h.output encoding documents last later parts
     (accepted_before given all (whole_documents encoding documents last) later error state h parts begins)
 
--- where memory or the limit gave out
+-- after a failure of memory or the limit
 first_kept : (given : Settings) (all prefix : List Event) (state : State) → StopsWriting given all prefix state
     → KeepsFirstDocuments given all (length prefix) state.page.output
 first_kept given all prefix state (stops_before begun) = documents_begun given all prefix (length prefix) state begun
@@ -100,7 +100,7 @@ stays_by (Some error) given all state stops refused = accepted_kept given all er
 pub documents_kept : (given : Settings) (all : List Event) (state : State) → Promised given all state → DocumentsStay state.error given all state
 documents_kept given all state promised = stays_by state.error given all state promised.output promised.refused
 
--- where nothing failed, all that are complete
+-- without an error, all that are complete
 pub documents_without_error : (given : Settings) (all : List Event) (state : State) → Promised given all state → state.error ≡ None
     → KeepsDocuments given all state.page.output
 documents_without_error given all state promised none =

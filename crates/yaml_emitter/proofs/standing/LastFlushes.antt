@@ -8,7 +8,7 @@ nothing_more : (rendered : Rendered) → render_then rendered render_nothing ≡
 nothing_more rendered =
     ap (λ (text : Text). let l : Rendered = record { text = text; cursor = rendered.cursor } in l) (append-nil rendered.text)
 
--- what was written before a flush is written after it
+-- an event that was written before a flush is written after it
 pub wrote_flushed : {render : Cursor → Rendered} {before between after : Page} {answer : Result (Unit {0}) yaml_error_t}
     → Wrote render before between (Ok tt) → Flushed between after answer → Wrote render before after answer
 wrote_flushed {render} {before} {between} {after} {answer} wrote flushed =

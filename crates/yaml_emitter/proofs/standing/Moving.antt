@@ -1,4 +1,4 @@
--- What follows of a move.
+-- The consequences of a move.
 use Rattle.yaml_emitter.proofs.Common.{append_assoc, append-nil, ap, subst, sym, ◌∙◌, refl, Result, List}
 use Rattle.yaml_emitter.proofs.Common.{[], ◌++◌, ◌∷◌, ◌≡◌, Event, State, Bool, StandsAfter, None, Ok}
 use Rattle.std.specs.Prelude.{IfErr}
@@ -33,7 +33,7 @@ moves_then {before} {between} {after} {first} {next} {one} {two} moves then_move
       answered = then_moves.answered;
     }
 
--- no event, where there was no error
+-- no event, without an error before
 pub moves_nothing : (state : State) → state.error ≡ None → Moves state [] (Ok tt) state
 moves_nothing state none =
     record {
@@ -86,7 +86,7 @@ pub moved_promised : {before after : State} {events : List Event} {answer : Resu
     → (given : Settings) (all : List Event) → StandsAfter given all before → Promised given (all ++ events) after
 moved_promised {before} {after} {events} moves given all stands = promised given (all ++ events) after (moves.stands given all stands)
 
--- which error there can be, where an accepted list fits the limit
+-- the errors that there can be if an accepted list fits the limit
 pub moved_fits : {before after : State} {events : List Event} {answer : Result (Unit {0}) yaml_error_t} → Moves before events answer after
     → (given : Settings) (all : List Event) → StandsAfter given all before → FitsLimit given (all ++ events) → IfErr answer (λ error. error ≡ Memory)
 moved_fits {before} {after} {events} {answer} moves given all stands fits =

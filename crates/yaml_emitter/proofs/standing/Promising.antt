@@ -1,4 +1,4 @@
--- All that an emitter promises where it stands.
+-- All that an emitter promises.
 use Rattle.yaml_emitter.proofs.Common.{suc, zero, ℕ, ◌≤◌, IsSome, Option, None, Some, length, take, Bool, true, List, [], ◌++◌, ◌∷◌}
 use Rattle.yaml_emitter.proofs.Common.{refl, ◌≡◌, length-take-le, ap, subst, sym, ◌∙◌, list_all, written_within, Text, encode, Event, stream_start}
 use Rattle.yaml_emitter.proofs.Common.{stream_end, documents_events, Piece, has_scalar_texts, encoding_asked, settings_for, text_written, last_flushes}
@@ -65,7 +65,7 @@ accepted_hands : (canonical : Bool) (all : List Event) → IsAccepted canonical 
 accepted_hands canonical all accepted = ap last_flushes (sym accepted.is_stream)
     ∙ last_hands (stream_start accepted.stream.encoding ∷ documents_events accepted.stream.documents)
 
--- All bytes are the encoded text, where an event was written.
+-- All bytes are the encoded text, once an event was written.
 all_bytes : (prefix rest : List Event) (event : Event) (s : Effective) (rendered : List Piece) (text : Text) (page : Page) → prefix ≡ event ∷ rest
     → HoldsPieces s prefix rendered page → page.text ≡ text → page.output ≡ encoded page → page.output ≡ encode (Some s.encoding) text
 all_bytes [] rest event s rendered text page is h same all = cc
@@ -132,7 +132,7 @@ pub stands_with : {A : Type 0} (given : Settings) (all : List Event) (event : ya
     → StandsAfter given (all ++ seen_event event ∷ []) after
 stands_with given all event after so texts = record { texts = texts_more all (seen_event event) texts (seen_scalars event); so = so }
 
--- Where all bytes of the pieces are flushed, so are all of the text, and the page has no error.
+-- If all bytes of the pieces are flushed, so are all of the text, and the page has no error.
 page_encoded : (prefix : List Event) (n : ℕ) (s : Effective) (rendered : List Piece) (text : Text) (page : Page) → length prefix ≡ n
     → HoldsPieces s prefix rendered page
     → page.text ≡ text → page.output ≡ bytes_of_some n (encode (Some s.encoding) text) → page.output ≡ encoded page

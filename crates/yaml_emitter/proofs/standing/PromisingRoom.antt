@@ -1,4 +1,4 @@
--- Where an accepted list fits the limit, an emitter that stands failed only for want of memory.
+-- If an accepted list fits the limit, an emitter has no error but that of memory.
 use Rattle.yaml_emitter.proofs.Common.{Option, None, Some, Result, List, [], ◌++◌, ◌∷◌, refl, ◌≡◌, append_assoc, ap, subst, sym, ◌∙◌, Event, IsAccepted}
 use Rattle.yaml_emitter.proofs.Common.{Settings, RefusedAt, StateStands, State, result_of_error}
 use Rattle.std.specs.Prelude.{IfErr}

@@ -1,4 +1,4 @@
--- A machine stands after its events: as one more comes, as each that is ready is written, and when no more is ready.
+-- The state of a machine after its events: as one more comes, as each that is ready is written, and when no more is ready.
 use Rattle.yaml_emitter.proofs.Common.{◌+◌, option_and_then, Option, None, Some, Result, Ok, length, take, Bool, false, true, ◌&&◌, List, [], ◌++◌, ◌∷◌, refl}
 use Rattle.yaml_emitter.proofs.Common.{◌≡◌, length-append, take-append-drop, length-take-le, append-nil, append_assoc, inl, ap, subst, sym, ◌∙◌, arith, Cursor}
 use Rattle.yaml_emitter.proofs.Common.{flat_map-append, stands_from_begins, refused_exactly, steps-append, steps_same, written-append, written_within, Rendered}
@@ -31,7 +31,7 @@ settings_grown given event prefix rest all more parts =
     settings_prefix given event prefix (rest ++ more) (all ++ more) (sym (append_assoc (event ∷ prefix) rest more) ∙ ap (λ events. events ++ more) parts)
     ∙ sym (settings_prefix given event prefix rest all parts)
 
--- What is written of a prefix stays as the list grows.
+-- The text written of a prefix stays as the list grows.
 pub taken_grown : (prefix rest all more : List Event) (given : Settings) (follows : Bool) (state : MachineState) → prefix ++ rest ≡ all
     → HasProgress given all prefix (steps (settings_for given all) follows prefix at_stream first_standing) state
     → HasProgress given (all ++ more) prefix (steps (settings_for given (all ++ more)) follows prefix at_stream first_standing) state
@@ -73,7 +73,7 @@ open_last [] rest h = refl
 open_last (event ∷ []) rest h = open_one event rest h
 open_last (event ∷ next ∷ more) rest h = open_last (next ∷ more) rest h
 
--- What is written hangs on what is set, on the page and on what comes next.
+-- The written text depends on the settings, on the page and on the next stage.
 pub settled_same : (s : Effective) (prefix : List Event) (before after : MachineState) → after.settings ≡ before.settings → IsSettled s prefix before
     → IsSettled s prefix after
 settled_same s [] before after same h = tt
@@ -121,7 +121,7 @@ reached_first given all event held machine h =
 
 -- An event that is written after a prefix.
 
--- events that stand before all others, and those that don't
+-- the events that come before all others, and those that don't
 abbrev IsStreamStart : Event → Type 0
 IsStreamStart (stream_start encoding) = Unit {0}
 IsStreamStart _ = ⊥
@@ -172,7 +172,7 @@ own_end [] next rest p q h begins = cc
 own_end (event ∷ []) next rest p q h begins = own_end_one event next rest p q h begins
 own_end (event ∷ other ∷ more) next rest p q h begins = own_end_later (other ∷ more) next rest (own_end (other ∷ more) next rest) (push p event) q h begins
 
--- So the steps of a prefix are those with this event behind it.
+-- So the steps of a prefix are those with this event after it.
 pub end_next : (prefix rest : List Event) (event : Event) (q : Partial) (s : Effective) (last : Bool) → last_begins_collection prefix ≡ last
     → partial_of (prefix ++ event ∷ []) ≡ Some q
     → steps s (ends_collection event) prefix at_stream first_standing ≡ steps s (closes_last prefix (event ∷ rest)) prefix at_stream first_standing
@@ -193,7 +193,7 @@ next_steps prefix rest event q s empty h =
     ∙ ap (λ (before : Steps). one_more before (step s before.stage event empty before.standing))
     (end_next prefix rest event q s (last_begins_collection prefix) refl h)
 
--- The refusal where an emitter stands is that after the prefix.
+-- The refusal by an emitter's state is that after the prefix.
 pub refusal_same : (given : Settings) (all prefix : List Event) (event : Event) (follows : Bool) (s : Effective) (state : MachineState)
     → HasProgress given all prefix (steps s follows prefix at_stream first_standing) state → refusal_now state event ≡ refusal given.canonical prefix event
 refusal_same given all prefix event follows s state h =

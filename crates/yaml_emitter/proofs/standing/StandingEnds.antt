@@ -1,4 +1,4 @@
--- What an emitter that stands promises at the stream's end, and of a list that is written whole.
+-- The promises of an emitter at the stream's end, and about a list that is written whole.
 use Rattle.yaml_emitter.proofs.Common.{suc, zero, ℕ, ◌≤◌, option_and_then, Option, None, Some, drop, length, take, Bool, false, List, [], ◌++◌, ◌∷◌, refl, ◌≡◌}
 use Rattle.yaml_emitter.proofs.Common.{take-append-drop, append-nil, append_assoc, ap, subst, sym, ◌∙◌, arith, stands_from_begins, pushed-append, stream_pushed}
 use Rattle.yaml_emitter.proofs.Common.{prefix_is_partial, list_layout_steps, encode, cut, Event, stream_end, Stream, stream_events, at_item, at_key, at_value}
@@ -94,7 +94,7 @@ whole_output (x ∷ prefix) s follows page some h all =
     let within : length bytes ≤ s.limit = omega (arith, h.0.sound_output.within, h.0.limit, ap length is) in
     is ∙ sym (take-whole s.limit bytes within)
 
--- a list that is written whole: its text, and its output where all is flushed
+-- a list that is written whole: its text, and its output if all is flushed
 pub record WrittenText (given : Settings) (all : List Event) (state : State) : Type 0 where
   pub text : state.page.text ≡ text_written (settings_for given all) (list_layout (settings_for given all) all)
   pub output : state.page.output ≡ encoded state.page → state.page.output ≡ output_of given all

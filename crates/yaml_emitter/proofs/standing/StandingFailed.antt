@@ -1,4 +1,4 @@
--- An emitter that failed stands after the events that it was given, and after those that come later.
+-- The state of an emitter that failed, after the events that it was given and after later ones.
 use Rattle.yaml_emitter.proofs.Common.{suc, if◌then◌else◌, IsSome, option_and_then, Option, None, Some, Result, Err, length, Bool, false, true, List, []}
 use Rattle.yaml_emitter.proofs.Common.{◌++◌, ◌∷◌, refl, ◌≡◌, append_assoc, ap, subst, sym, ◌∙◌, arith, false≢true, stands_from_begins, Event, sequence_start}
 use Rattle.yaml_emitter.proofs.Common.{sequence_end, mapping_start, mapping_end, no_nodes, no_pairs, at_item, at_key, Partial, before_stream, within_document}
@@ -17,7 +17,7 @@ failed_at given all prefix rest event before h is =
     let count : written (event ∷ rest) ≡ suc (written rest) = ap (λ b. if b then suc (written rest) else 0) is in
     record { parts = h.parts; became_ready = omega (arith, h.ready, count) }
 
--- A collection's own end isn't refused behind its start.
+-- A collection's own end isn't refused after its start.
 abbrev pub OwnAccepted : List Event → Event → List Event → Type 0
 OwnAccepted prefix next rest = (canonical : Bool) (p q : Partial) → pushed p prefix ≡ Some q → closes_last prefix (next ∷ rest) ≡ true
     → refusal_at canonical q next ≡ None

@@ -1,4 +1,4 @@
--- Where an emitter stands isn't changed by noting that its stream was opened or closed as a whole.
+-- Noting that a stream was opened or closed as a whole doesn't change which events an emitter's state comes after.
 use Rattle.yaml_emitter.proofs.Common.{Bool, List, Event, Settings, StandsAfter, State}
 
 pub stands_flagged : (given : Settings) (all : List Event) (state : State) (opened closed : Bool) → StandsAfter given all state

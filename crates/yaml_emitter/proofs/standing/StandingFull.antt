@@ -1,4 +1,4 @@
--- What an emitter that stands promises where the output's limit was passed.
+-- The promises of an emitter whose output passed its limit.
 use Rattle.yaml_emitter.proofs.Common.{ℕ, ◌<◌, ◌≤◌, Some, drop, length, take, Bool, false, true, List, [], ◌++◌, ◌∷◌, refl, ◌≡◌, take-append-drop}
 use Rattle.yaml_emitter.proofs.Common.{append_assoc, ap, subst, sym, ◌∙◌, arith, prefix_is_partial, steps_same, list_layout_steps, prefix_layout, prefix_same}
 use Rattle.yaml_emitter.proofs.Common.{open_at_written, stream_pushed, cut, Event, sequence_start, mapping_start, Partial, before_stream, after_stream}

@@ -1,4 +1,4 @@
--- An emitter that failed stands after all events that are still given; a new one and one that was flushed stand too.
+-- The state of an emitter that failed after all events that are still given; of a new one; and of one that was flushed.
 use Rattle.yaml_emitter.proofs.Common.{suc, zero, ℕ, ◌<◌, ◌≤◌, if◌then◌else◌, Option, None, Some, Result, Err, Ok, drop, length, take, Bool, false, true}
 use Rattle.yaml_emitter.proofs.Common.{List, [], ◌++◌, ◌∷◌, ◌⊎◌, refl, ◌≡◌, length-append, take-append-drop, length-take-le, append-nil, append_assoc, inl}
 use Rattle.yaml_emitter.proofs.Common.{inr, ap, subst, sym, ◌∙◌, arith, written_within, encode, Event, sequence_start, sequence_end, mapping_start}
@@ -70,7 +70,7 @@ refused_grown given all more error machine h =
       refusal = h.refusal;
     }
 
--- What was flushed before it stays.
+-- The bytes flushed before it stay.
 flushed_prefix : (prefix : List Event) (given : Settings) (all rest more : List Event) (count : ℕ) (output : List ℕ) → prefix ++ rest ≡ all
     → length prefix ≡ count → StaysFlushed given all count output → StaysFlushed given (all ++ more) count output
 flushed_prefix [] given all rest more count output parts is h =
@@ -208,7 +208,7 @@ new_emitter_stands {m} {held} made none =
     new_stands nothing_given (around m held) (ap (λ (m : MachineState). m.given) made) (ap (λ (m : MachineState). m.page) made)
     (ap (λ (m : MachineState). m.stage) made) (ap (λ (m : MachineState). m.open_ended) made) none (ap (λ (m : MachineState). m.error) made)
 
--- A flush sends on what is written.
+-- A flush moves the written bytes to the output.
 take-nil : (n : ℕ) → take {A = ℕ} n [] ≡ []
 take-nil zero = refl
 take-nil (suc n) = refl

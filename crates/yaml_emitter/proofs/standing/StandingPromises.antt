@@ -1,4 +1,4 @@
--- What an emitter that stands promises its caller.
+-- The promises of an emitter to its caller.
 use Rattle.yaml_emitter.proofs.Common.{◌≤◌, option_and_then, Option, None, Some, drop, length, take, Bool, false, true, ◌&&◌, List, [], ◌++◌, ◌∷◌, refl, ◌≡◌}
 use Rattle.yaml_emitter.proofs.Common.{take-append-drop, length-take-le, append_assoc, ap, subst, sym, ◌∙◌, arith, false≢true, stands_from_begins}
 use Rattle.yaml_emitter.proofs.Common.{refused_exactly, steps-append, prefix_same, prefix_then, written_within, cut, Event, document_start, sequence_start}
@@ -140,7 +140,7 @@ steps_begin prefix rest s follows =
       parts = sym (ap (λ (all : Steps). all.pieces) (steps-append prefix rest s follows at_stream first_standing));
     }
 
--- What closes a collection is its end.
+-- The event that closes a collection is its end.
 ends_one : (event next : Event) (later : List Event) → closes_at_once event (next ∷ later) ≡ true → ends_collection next ≡ true
 ends_one (sequence_start c) sequence_end later h = refl
 ends_one (mapping_start c) mapping_end later h = refl

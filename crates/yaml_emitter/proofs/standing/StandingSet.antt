@@ -1,4 +1,4 @@
--- An emitter that was given no event stands as its caller sets it.
+-- The state of an emitter that was given no event, by its caller's settings.
 use Rattle.yaml_emitter.proofs.Common.{ℕ, Option, None, Some, take, true, List, [], ◌++◌, ◌∷◌, refl, ◌≡◌, ap, subst, sym, ◌∙◌, arith, Event, Standing}
 use Rattle.yaml_emitter.proofs.Common.{settings_for, written, Settings, Effective, progress, HoldsPiecesWith, StandsWithoutError, FailedAt, StandsUnflushed}
 use Rattle.yaml_emitter.proofs.Common.{StandsStopped, at_event, between_events, StandsFailed, MachineStands, StandsAfter, State, MachineState, machine_of}
@@ -6,7 +6,7 @@ use Rattle.yaml_emitter.proofs.Common.{Page, encoded, IsFlushedOutput, new_page}
 use Rattle.yaml_base.specs.declared.errors.{yaml_error_t.yaml_error_t, yaml_error_t.TheVariants.Memory, yaml_error_t.TheVariants.WriteError}
 use Rattle.yaml_emitter.proofs.standing.{Flushing.flushed_none, StandingMore.nothing_begins}
 
--- what is set: what was given, what it comes to, and the page's limit
+-- the settings: as given, in effect, and the page's limit
 abbrev pub IsSet : MachineState → MachineState → Type 0
 IsSet before after =
     after
@@ -141,7 +141,7 @@ stands_set before after set held h =
           (set_by before.error before.held (machine_of before) (machine_of after) set h.so));
     }
 
--- What is set without a limit.
+-- Settings without a limit.
 pub stands_given : (before after : State) (given : Settings) (settings : Effective) → after ≡ record before { given = given; settings = settings }
     → given.limit ≡ before.given.limit
     → StandsAfter before.given [] before → StandsAfter after.given [] after

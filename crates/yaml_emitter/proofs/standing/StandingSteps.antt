@@ -1,4 +1,4 @@
--- An emitter stands as each event that is ready is written, and when no more is.
+-- The state of an emitter as each event that is ready is written, and when no more is.
 use Rattle.yaml_emitter.proofs.Common.{suc, ◌+◌, ◌≤◌, if◌then◌else◌, option_and_then, Some, Ok, drop, length, take, Bool, false, true, ◌&&◌, List, [], ◌++◌}
 use Rattle.yaml_emitter.proofs.Common.{◌∷◌, refl, ◌≡◌, length-append, take_at, append_assoc, ap, subst, sym, ◌∙◌, arith, stands_from_begins, pushed-append}
 use Rattle.yaml_emitter.proofs.Common.{encode, Event, stream_end, document_start, document_end, sequence_start, mapping_start, Partial, before_stream, pushed}
@@ -29,7 +29,7 @@ stepped_steps given all x prefix rest event q before h pushes =
     ∙ ap (λ standing. step s progress.stage event empty standing) h.standing in
     next_steps (x ∷ prefix) rest event q s empty pushes ∙ ap (one_more progress) (sym same)
 
--- What is flushed isn't closed at once.
+-- An event that flushes isn't closed at once.
 hands_open : (event : Event) (rest : List Event) → flushes event ≡ true → closes_at_once event rest ≡ false
 hands_open (document_end implicit) rest hands = refl
 hands_open stream_end rest hands = refl

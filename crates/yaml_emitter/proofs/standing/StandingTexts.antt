@@ -1,4 +1,4 @@
--- The text and the output of an emitter that stands, beside the layouts of lists that go on from its events.
+-- The text and the output of an emitter, compared with the layouts of lists that go on from its events.
 use Rattle.yaml_emitter.proofs.Common.{suc, zero, ℕ, ◌≤◌, option_and_then, Option, None, Some, drop, length, take, Bool, false, true, ◌&&◌, List, [], ◌++◌}
 use Rattle.yaml_emitter.proofs.Common.{◌∷◌, refl, ◌≡◌, take-append-drop, length-take-le, take_at, append_assoc, ap, subst, sym, ◌∙◌, arith}
 use Rattle.yaml_emitter.proofs.Common.{stands_from_begins, refused_exactly, prefix_layout, prefix_same, stream_pushed, Text, text_bytes, encode, cut, Event}
@@ -42,7 +42,7 @@ prefix_longer s text prefix whole h begins =
           ∙ ap (text_written s) begins.parts;
     }
 
--- An accepted list that goes on from events as they stand, with their pieces.
+-- An accepted list that goes on from these events, with their pieces.
 pub record ContinuesScript (canonical : Bool) (s : Effective) (prefix : List Event) (begun : List Piece) : Type 0 where
   pub more : List Event
   pub accepted : IsAccepted canonical (prefix ++ more)

@@ -1,4 +1,4 @@
--- An emitter all of whose output is taken: what it holds, and where it stands.
+-- An emitter all of whose output is taken: its fields, and the events that its state comes after.
 use Rattle.yaml_emitter.proofs.Common.{List, ap, subst, sym, ◌∙◌, ◌≡◌, Event, Settings, state_of, IsEmitter, IsMachine, StandsAfter, State, MachineState, Page}
 use Rattle.yaml_emitter.proofs.Common.{all_taken, machine_state, with_all_taken}
 use Rattle.yaml_emitter.proofs.standing.Taking.{kept_taken, stands_taken, untouched_taken}

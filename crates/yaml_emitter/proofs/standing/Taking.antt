@@ -1,4 +1,4 @@
--- An emitter stands where it stood, whatever its caller takes of the output.
+-- Taking output doesn't change which events an emitter's state comes after.
 use Rattle.yaml_emitter.proofs.Common.{Option, None, Some, take, false, List, [], ◌++◌, ◌∷◌, refl, ap, Event, first_standing, Piece, settings_for, written}
 use Rattle.yaml_emitter.proofs.Common.{Settings, Effective, Stage, at_stream, at_document, at_node, at_document_end, at_nothing, Steps, steps, progress}
 use Rattle.yaml_emitter.proofs.Common.{IsMachine, closes_at_once, seen_stage, IsPage, HoldsPiecesWith, HasProgress, closes_last, StandsRefused, HoldsCut}
@@ -99,7 +99,7 @@ stands_by (Some error) given all held machine h = (h.0, failed_taken error given
 pub stands_taken : (given : Settings) (all : List Event) (state : State) → StandsAfter given all state → StandsAfter given all (with_all_taken state)
 stands_taken given all state stands = record { texts = stands.texts; so = stands_by state.error given all state.held (machine_of state) stands.so }
 
--- what an emitter holds stays sound
+-- the invariants of an emitter stay
 pub untouched_taken : (page : Page) → IsUntouched page → IsUntouched (all_taken page)
 untouched_taken page is = record { no_bytes = is.no_bytes; no_error = is.no_error }
 

@@ -12,7 +12,7 @@ pub or_middle : (a b c : Bool) → b ≡ true → a || b || c ≡ true
 or_middle true b c h = refl
 or_middle false b c h = ap (λ (x : Bool). x || c) h
 
--- The first event is ready, where all are with one more.
+-- The first event is ready, if one more makes all ready.
 pub head_becomes_ready : (waiting : List Event) (next : Scalar) → are_ready_by_one_more waiting ≡ true → is_head_ready (waiting ++ scalar next ∷ []) ≡ true
 head_becomes_ready [] next h = refl
 head_becomes_ready (event ∷ rest) next h =
@@ -22,14 +22,14 @@ head_becomes_ready (event ∷ rest) next h =
     (ap (nat_lt (awaited event)) long
     ∙ (and_parts (nat_lt (awaited event) (length (event ∷ rest) + 1)) (are_ready_by_one_more rest) h).0)
 
--- Those behind the first ones are ready with one more, too.
+-- The events after the first ones are ready with one more, too.
 ready_behind : (n : ℕ) (waiting : List Event) → are_ready_by_one_more waiting ≡ true → are_ready_by_one_more (drop n waiting) ≡ true
 ready_behind zero waiting h = h
 ready_behind (suc n) [] h = refl
 ready_behind (suc n) (event ∷ rest) h =
     ready_behind n rest (and_parts (nat_lt (awaited event) (length (event ∷ rest) + 1)) (are_ready_by_one_more rest) h).1
 
--- Where all are ready with a scalar behind them, none waits on.
+-- If a scalar after them makes all ready, none waits on.
 pub none_waits_on : (n : ℕ) (waiting : List Event) (next : Scalar) → are_ready_by_one_more waiting ≡ true → StillWait (drop n waiting) (scalar next)
     → drop n waiting ≡ []
 none_waits_on n waiting next h still = by (drop n waiting) (ready_behind n waiting h) still

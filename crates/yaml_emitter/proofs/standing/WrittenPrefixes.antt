@@ -4,7 +4,7 @@ use Rattle.yaml_emitter.proofs.Common.{List, map, ◌∷◌, ◌++◌, refl, ◌
 use Rattle.yaml_emitter.proofs.Common.{document_start, sequence_start, mapping_start, awaited, is_balanced, nonempty_prefixes, Some, if◌then◌else◌, option_map}
 use Rattle.std.proofs.{Common.eq-eqb, Common.add-zero, Common.add_assoc, lemmas.List.Sums.sum_by-cons}
 use Rattle.std.specs.Prelude.{◌≤◌, unwrap_or}
-use Rattle.yaml_emitter.specs.Queue.{one_less, open_behind}
+use Rattle.yaml_emitter.specs.Queue.{checked_pred, open_behind}
 use Rattle.yaml_base.specs.Ready.{is_start, is_end}
 
 abbrev count_of : Bool → ℕ
@@ -81,7 +81,7 @@ apart : (event : Event) → (is_start event && is_end event) ≡ false
 apart stream_end = refl
 apart event = refl
 
--- some event ends what was started before, within which so many are open
+-- true if some event ends the part that was started before, within which `depth` are open
 abbrev pub closed_by : (depth : ℕ) → List Event → Bool
 closed_by depth [] = false
 closed_by depth (event ∷ rest) = unwrap_or (option_map (λ more. closed_by more rest) (open_behind depth event)) true
@@ -90,7 +90,7 @@ closed_step : (rest : List Event) (depth starts ends : ℕ) → starts ≡ suc (
     → ((depth starts ends : ℕ) → starts ≡ suc (depth + ends) → closes_after starts ends rest ≡ closed_by depth rest)
     → (s t : Bool) → (s && t) ≡ false
     → (((starts + count_of s) == (ends + count_of t)) || closes_after (starts + count_of s) (ends + count_of t) rest)
-    ≡ unwrap_or (option_map (λ more. closed_by more rest) (if s then Some (depth + 1) else (if t then one_less depth else Some depth))) true
+    ≡ unwrap_or (option_map (λ more. closed_by more rest) (if s then Some (depth + 1) else (if t then checked_pred depth else Some depth))) true
 closed_step rest depth starts ends e later true true h = cc
 closed_step rest depth starts ends e later true false h =
     ap (λ b. b || closes_after (starts + 1) (ends + 0) rest) (ne_eqb (starts + 1) (ends + 0) (λ same. omega (arith, e, same)))
@@ -109,7 +109,7 @@ closed_is [] depth starts ends e = refl
 closed_is (event ∷ rest) depth starts ends e =
     closed_step rest depth starts ends e (closed_is rest) (is_start event) (is_end event) (apart event)
 
--- what a start begins is ended where the events behind it end it
+-- the part that a start begins is ended if the events after it end it
 pub closed_start : (first : Event) (events : List Event) → is_start first ≡ true
     → list_any is_balanced (nonempty_prefixes (first ∷ events)) ≡ closed_by 0 events
 closed_start first events starts =
@@ -129,7 +129,7 @@ pub closed_last : (depth : ℕ) (event : Event) → closed_by depth (event ∷ [
 closed_last depth event = by depth (is_start event) (is_end event) (apart event)
   where
     by : (depth : ℕ) (s t : Bool) → (s && t) ≡ false
-        → unwrap_or (option_map (λ more. closed_by more []) (if s then Some (depth + 1) else (if t then one_less depth else Some depth))) true
+        → unwrap_or (option_map (λ more. closed_by more []) (if s then Some (depth + 1) else (if t then checked_pred depth else Some depth))) true
         ≡ (t && depth == 0)
     by depth true true h = cc
     by depth true false h = refl
@@ -141,13 +141,13 @@ closed_last depth event = by depth (is_start event) (is_end event) (apart event)
 pub behind_few : (depth : ℕ) (event : Event) (more : ℕ) → open_behind depth event ≡ Some more → more ≤ depth + 1
 behind_few depth event more is = by depth (is_start event) (is_end event) is
   where
-    by : (depth : ℕ) (s t : Bool) → (if s then Some (depth + 1) else (if t then one_less depth else Some depth)) ≡ Some more → more ≤ depth + 1
+    by : (depth : ℕ) (s t : Bool) → (if s then Some (depth + 1) else (if t then checked_pred depth else Some depth)) ≡ Some more → more ≤ depth + 1
     by depth true t is = let same : depth + 1 ≡ more = cc in omega (arith, same)
     by zero false true is = cc
     by (suc depth) false true is = let same : depth ≡ more = cc in omega (arith, same)
     by depth false false is = let same : depth ≡ more = cc in omega (arith, same)
 
--- what awaits others is a start
+-- an event that awaits others is a start
 pub awaiting_starts : (event : Event) → (awaited event == 0) ≡ false → is_start event ≡ true
 awaiting_starts (document_start start) waits = refl
 awaiting_starts (sequence_start start) waits = refl

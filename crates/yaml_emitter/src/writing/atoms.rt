@@ -1,4 +1,4 @@
-//! Atoms: what stands before and around the texts of nodes, and in the lines of documents.
+//! Atoms: the small pieces before and around the texts of nodes, and in the lines of documents.
 
 ghost use Rattle.std.specs.Prelude.{◌≡◌, ◌≤◌, false};
 ghost use Rattle.yaml_base.specs.Cursor.{new_line};
@@ -28,18 +28,18 @@ pub(crate) enum Atom<'a> {
     Fixed(IndicatorKind),
     /// A new line at the place's column.
     Line,
-    /// A new line at the place's column where the line is past the width, and always in canonical mode.
+    /// A new line at the place's column if the line is past the width, or in canonical mode.
     FlowLine,
     Space,
-    /// Of an anchor or an alias.
+    /// The name of an anchor or an alias.
     Name(&'a str),
-    /// Of a tag, a space before it where one is needed.
+    /// The handle of a tag, after a space if one is needed.
     Handle(&'a str),
-    /// Of a verbatim tag.
+    /// The text of a verbatim tag.
     TagText(&'a str),
-    /// The text that stands after a tag's handle.
+    /// The text after a tag's handle.
     Suffix(&'a str),
-    /// Of a `%TAG` directive, a space before it where one is needed.
+    /// The prefix of a `%TAG` directive, after a space if one is needed.
     Prefix(&'a str),
 }
 

@@ -18,11 +18,11 @@ pub struct ScalarContent<'a> {
     pub tag: Option<&'a str>,
     /// Its text.
     pub value: &'a str,
-    /// The tag may be left out where the scalar is plain.
+    /// The tag may be left out if the scalar is plain.
     pub plain_implicit: bool,
     /// The tag may be left out in any other style.
     pub quoted_implicit: bool,
-    /// The style in which it is to be written.
+    /// The style asked for.
     pub style: yaml_scalar_style_t,
 }
 
@@ -34,7 +34,7 @@ pub(crate) struct CollectionContent<'a> {
     pub implicit: bool,
 }
 
-/// Returns whether a scalar's tag is written: in canonical mode, and where no flag lets it be left out.
+/// Returns whether a scalar's tag is written: in canonical mode, or if no flag lets it be left out.
 pub(crate) fn writes_scalar_tag(
     canonical: bool,
     plain_implicit: bool,
@@ -45,14 +45,14 @@ pub(crate) fn writes_scalar_tag(
     canonical || (!plain_implicit && !quoted_implicit)
 }
 
-/// Returns whether a collection's tag is written: in canonical mode, and where its flag doesn't let it be left out.
+/// Returns whether a collection's tag is written: in canonical mode, or if its flag doesn't let it be left out.
 pub(crate) fn writes_collection_tag(canonical: bool, implicit: bool) -> bool
     ensures { result ≡ (canonical || not implicit) }
 {
     canonical || !implicit
 }
 
-/// Returns the tag that a scalar is written with, where there is one.
+/// Returns the tag that a scalar is written with, if there is one.
 pub(crate) fn written_scalar_tag<'a>(
     content: &ScalarContent<'a>,
     canonical: bool,
@@ -66,7 +66,7 @@ pub(crate) fn written_scalar_tag<'a>(
     }
 }
 
-/// Returns the tag that a collection is written with, where there is one.
+/// Returns the tag that a collection is written with, if there is one.
 pub(crate) fn written_collection_tag<'a>(
     content: &CollectionContent<'a>,
     canonical: bool,
@@ -80,7 +80,7 @@ pub(crate) fn written_collection_tag<'a>(
     }
 }
 
-/// Borrows a text, where there is one.
+/// Borrows a text, if there is one.
 pub fn borrowed_text<A: Allocator>(text: &Option<String<A>>) -> Option<&str>
     ensures { seen_name result ≡ option_map seen_text text.now }
 {

@@ -63,16 +63,16 @@ pub(crate) fn write_document_start<A: Allocator>(
     write_document_head(pen, settings, open_ended.is_open(), start, explicit)
 }
 
-/// Returns whether `---` is written: where the event asks for it, after another document, in canonical and in portable
-/// mode, and after directives.
+/// Returns whether `---` is written: if the event asks for it, after another document, in canonical or portable mode, or
+/// after directives.
 fn is_explicit(settings: &EffectiveSettings, first: bool, implicit: bool, directed: bool) -> bool
     ensures { result ≡ (not implicit || not first || (settings.now.canonical || settings.now.portable) || directed) }
 {
     !implicit || !first || settings.canonical || settings.portable || directed
 }
 
-/// Writes what a document begins with. Where `closes`, `...` comes first. It keeps directives apart from a document
-/// that is still open.
+/// Writes the head of a document. If `closes`, `...` comes first: it ends a document that is still open, so that directives
+/// may follow.
 fn write_document_head<A: Allocator>(
     pen: &mut Pen<A>,
     settings: &EffectiveSettings,

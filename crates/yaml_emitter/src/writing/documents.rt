@@ -55,7 +55,7 @@ pub(crate) fn document_end_atoms(implicit: bool) -> Atoms<'static>
     }
 }
 
-/// Writes `...` on a line of its own, where it is asked for.
+/// Writes `...` on a line of its own, if it is asked for.
 pub(crate) fn write_closing_marker<A: Allocator>(
     pen: &mut Pen<A>,
     settings: &EffectiveSettings,
@@ -73,7 +73,7 @@ pub(crate) fn write_closing_marker<A: Allocator>(
     }
 }
 
-/// Writes `---` on a line of its own where a document starts, if it is asked for.
+/// Writes `---` on a line of its own at a document's start, if it is asked for.
 pub(crate) fn write_document_marker<A: Allocator>(
     pen: &mut Pen<A>,
     settings: &EffectiveSettings,

@@ -1,4 +1,4 @@
-//! Indicators: punctuation and words of lines of their own (YAML 1.1, section 5.3).
+//! Indicators: punctuation, and words on lines of their own (YAML 1.1, section 5.3).
 
 ghost use Rattle.std.specs.Prelude.{◌≡◌, false};
 ghost use Rattle.std.specs.List.{list_any};

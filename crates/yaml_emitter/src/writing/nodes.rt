@@ -49,8 +49,8 @@ pub(crate) fn write_alias<A: Allocator>(
     write_atoms(pen, site, alias_atoms(name, site.simple))
 }
 
-/// Writes what stands before a node, its anchor and its tag. What is rarely called is given a copy of the site, so that
-/// the site itself needn't lie in memory.
+/// Writes a node's lead: the text of its place, its anchor and its tag. Functions that are rarely called get a copy of the
+/// site, so that the site itself needn't be in memory.
 #[inline(always)]
 pub(crate) fn write_lead<A: Allocator>(
     pen: &mut Pen<A>,
@@ -76,7 +76,7 @@ pub(crate) fn write_lead<A: Allocator>(
     write_properties(pen, &apart, anchor, tag, bare)
 }
 
-/// Writes a collection's start at its place, its tag spelled so; its brackets come with the next event.
+/// Writes a collection's start at its place, with its tag as spelled; its brackets come with the next event.
 pub(crate) fn write_collection_start<A: Allocator>(
     pen: &mut Pen<A>,
     site: &Site,
@@ -98,7 +98,7 @@ pub(crate) fn write_collection_start<A: Allocator>(
     write_lead(pen, site, content.anchor, tag, bare)
 }
 
-/// Returns whether a collection is written in flow: within flow, in canonical mode, by its style, or where it is empty.
+/// Returns whether a collection is written in flow: within flow, in canonical mode, by its style, or if it is empty.
 pub(crate) fn is_written_in_flow(site: &Site, flow_asked: bool, empty: bool) -> bool
     ensures { (start : Collection)
         → asks_flow start.style ≡ flow_asked
@@ -107,7 +107,7 @@ pub(crate) fn is_written_in_flow(site: &Site, flow_asked: bool, empty: bool) -> 
     site.place.in_flow || site.settings.canonical || flow_asked || empty
 }
 
-/// Returns where the entries of a collection stand whose start has been written.
+/// Returns the column of the entries of a collection whose start has been written.
 pub(crate) fn entries_column<A: Allocator>(
     pen: &Pen<A>,
     settings: &EffectiveSettings,
@@ -125,7 +125,7 @@ pub(crate) fn entries_column<A: Allocator>(
     }
 }
 
-/// Writes a collection's end, at the place of the collection around it; that of one in a block is nothing.
+/// Writes a collection's end, at the place of the collection around it; the end of a block collection has no text.
 pub(crate) fn write_collection_end<A: Allocator>(
     pen: &mut Pen<A>,
     outer: &Site,

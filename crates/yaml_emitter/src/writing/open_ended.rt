@@ -1,4 +1,4 @@
-//! Whether a document's end is still open behind what is written.
+//! Whether the last document that was written is still open.
 
 ghost use Rattle.std.specs.Prelude.{◌≡◌, ◌==◌, pos, not, if◌then◌else◌};
 ghost use Rattle.yaml_base.specs.scalars.BlockHeader.{Ending, ending_open_ended};
@@ -22,7 +22,7 @@ impl OpenEnded {
         !matches!(self, OpenEnded::Closed)
     }
 
-    /// Returns whether a block scalar that keeps its final breaks is the last that was written.
+    /// Returns whether the last text is a block scalar that keeps its final breaks.
     pub(crate) fn keeps_breaks(self) -> bool
         ensures { result ≡ (seen_open_ended self == 2) }
     {

@@ -1,4 +1,4 @@
-//! The text that a place puts before its node, and that of a collection's end.
+//! The text of a place before its node, and that of a collection's end.
 
 ghost use Rattle.std.specs.Prelude.{◌≡◌, ◌≤◌, true, false};
 ghost use Rattle.yaml_base.specs.Cursor.{Cursor, new_line, render_then};
@@ -23,8 +23,8 @@ use std::alloc::Allocator;
 use yaml_base::{CollectionKind, yaml_error_t};
 use yaml_pen::Pen;
 
-/// Writes what stands before a node at its place. What isn't inlined is given a copy, so that the place itself needn't
-/// lie in memory.
+/// Writes the text of a place before its node. Functions that aren't inlined get a copy, so that the place itself needn't be
+/// in memory.
 #[inline(always)]
 pub(crate) fn write_place<A: Allocator>(pen: &mut Pen<A>, site: &Site) -> Result<(), yaml_error_t>
     requires { IsReady pen.old }
@@ -47,7 +47,7 @@ pub(crate) fn write_place<A: Allocator>(pen: &mut Pen<A>, site: &Site) -> Result
     }
 }
 
-/// Writes what a place in flow puts before its node (YAML 1.1, sections 10.1.1 and 10.2.1).
+/// Writes the text of a place in flow before its node (YAML 1.1, sections 10.1.1 and 10.2.1).
 fn write_flow_place<A: Allocator>(
     pen: &mut Pen<A>,
     settings: &EffectiveSettings,
@@ -76,7 +76,7 @@ fn write_flow_place<A: Allocator>(
     }
 }
 
-/// Writes the atom before an entry in flow, and a new line where one is due.
+/// Writes the atom before an entry in flow, and a new line if one is due.
 #[inline(always)]
 fn write_entry<A: Allocator>(
     pen: &mut Pen<A>,
@@ -92,7 +92,7 @@ fn write_entry<A: Allocator>(
     write_flow_line(pen, settings, place)
 }
 
-/// Writes what precedes any other key in flow: a bracket or a comma, a new line where one is due, and `?`.
+/// Writes the text before any other key in flow: a bracket or a comma, a new line if one is due, and `?`.
 fn write_long_key<A: Allocator>(
     pen: &mut Pen<A>,
     settings: &EffectiveSettings,
@@ -108,7 +108,7 @@ fn write_long_key<A: Allocator>(
     write_indicator(pen, IndicatorKind::FlowKey)
 }
 
-/// Writes the atom of the value of another key in flow, on a new line where one is due.
+/// Writes the atom of the value of another key in flow, on a new line if one is due.
 fn write_long_value<A: Allocator>(
     pen: &mut Pen<A>,
     settings: &EffectiveSettings,
@@ -136,8 +136,8 @@ fn write_line_and_indicator<A: Allocator>(
     write_indicator(pen, atom)
 }
 
-/// Returns the atoms of the end of a collection in flow: where nothing stands between the brackets, the opening one
-/// comes first; in canonical mode a comma and a new line.
+/// Returns the atoms of the end of a collection in flow. If it is empty, the opening bracket comes first; otherwise, in
+/// canonical mode, a comma and a new line do.
 pub(crate) fn flow_end_atoms(kind: CollectionKind, empty: bool, canonical: bool) -> Atoms<'static>
     ensures whole { some_atom_breaks result ≡ false }
     ensures rendered { (s : Effective) (place : layout.Place) (cursor : Cursor) → s.canonical ≡ canonical

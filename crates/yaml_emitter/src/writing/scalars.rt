@@ -1,4 +1,4 @@
-//! Scalars: their style, what stands before them, and their text (YAML 1.1, chapter 9).
+//! Scalars: their style, the text before them, and their own text (YAML 1.1, chapter 9).
 
 ghost use Rattle.std.specs.Prelude.{◌≡◌, ◌&&◌, false, IfOk, IsOk, chars, is_some, if◌then◌else◌};
 ghost use Rattle.yaml_base.specs.scalars.Analysis as analysis;
@@ -34,7 +34,7 @@ use yaml_scalar::{
     select_scalar_style,
 };
 
-/// Writes a scalar at its place, its tag spelled so, and notes the open-ended state that it leaves.
+/// Writes a scalar at its place, with its tag as spelled, and notes the open-ended state that it leaves.
 #[inline(always)]
 pub(crate) fn write_scalar<A: Allocator>(
     pen: &mut Pen<A>,
@@ -53,7 +53,7 @@ pub(crate) fn write_scalar<A: Allocator>(
     write_text(pen, open_ended, site, style, content.value)
 }
 
-/// Returns the style that a scalar is written in, and whether the bare tag stands before it.
+/// Returns the style that a scalar is written in, and whether the bare tag precedes it.
 #[inline(always)]
 fn choose(
     site: &Site,
@@ -87,12 +87,12 @@ fn choose(
     )
 }
 
-/// Returns the styles that a value allows, as far as the choice goes by them.
+/// Returns the styles that a value allows, as far as the choice depends on them.
 #[inline(always)]
 fn allowed_styles(settings: &EffectiveSettings, content: &ScalarContent) -> scalar_data_t
     ensures { ChooseAlike (seen_data result) (allowed_under (seen_effective settings.now) (seen_scalar content.now)) }
 {
-    // The settings change what an analysis finds: double quotes stand in place of single ones, or blanks are literal.
+    // The settings change the result of an analysis: double quotes replace single ones, or blanks are literal.
     if settings.double_quotes || are_blanks_literal(settings, content.style) {
         return exactly_allowed(settings, content);
     }
@@ -103,8 +103,8 @@ fn allowed_styles(settings: &EffectiveSettings, content: &ScalarContent) -> scal
     )
 }
 
-/// Returns exactly the styles that a value allows: no single quotes where double ones are asked for in their place, and where
-/// blanks are literal, block styles where literal takes the value.
+/// Returns exactly the styles that a value allows: no single quotes if double ones replace them; and if blanks are literal,
+/// block styles if literal takes the value.
 fn exactly_allowed(settings: &EffectiveSettings, content: &ScalarContent) -> scalar_data_t
     ensures { seen_data result ≡ allowed_under (seen_effective settings.now) (seen_scalar content.now) }
 {
@@ -122,7 +122,7 @@ fn exactly_allowed(settings: &EffectiveSettings, content: &ScalarContent) -> sca
     }
 }
 
-/// Returns whether a block style takes a value, by what was found of it or, where blanks are literal, by what literal takes then.
+/// Returns whether a block style takes a value: by its analysis or, if blanks are literal, by the rule of literal.
 fn takes_block(settings: &EffectiveSettings, content: &ScalarContent, found: &scalar_data_t) -> bool
     ensures { result ≡ (
         if is_literal (seen_scalar_style content.now.style) && settings.now.literal_blanks
@@ -146,8 +146,8 @@ fn are_blanks_literal(settings: &EffectiveSettings, style: yaml_scalar_style_t) 
     matches!(style, YAML_LITERAL_SCALAR_STYLE) && settings.literal_blanks
 }
 
-/// Returns the style that is asked for: in portable mode a root asks for double quotes in place of a block style whose
-/// header would have a digit, since readers of YAML 1.2 count that digit in two ways.
+/// Returns the style that is asked for. In portable mode a root asks for double quotes in place of a block style whose header
+/// would have a digit, since readers of YAML 1.2 count that digit in two ways.
 fn style_asked(site: &Site, content: &ScalarContent) -> yaml_scalar_style_t
     ensures { seen_scalar_style result
         ≡ style_asked_at (seen_effective site.now.settings.now) (seen_place site.now.place) (seen_scalar content.now) }

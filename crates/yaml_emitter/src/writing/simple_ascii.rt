@@ -1,4 +1,4 @@
-//! Scalars that stand plain as they are, known by their values without an analysis (YAML 1.1, section 9.1.3).
+//! Scalars that are plain as they are, known by their values without an analysis (YAML 1.1, section 9.1.3).
 
 ghost use Rattle.std.specs.Prelude.{◌≡◌, true};
 ghost use Rattle.yaml_emitter.specs.SimpleAsciiScalars.{StandsPlain};

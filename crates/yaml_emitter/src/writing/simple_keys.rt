@@ -1,4 +1,4 @@
-//! Simple keys: nodes without a break, whose names, tag and value are short.
+//! Simple keys: nodes without a break whose names, tag and value are short.
 
 ghost use Rattle.std.specs.Prelude.{◌≡◌, ℕ, Bool, List, ◌+◌, ◌&&◌, not, min, chars, option_map};
 ghost use Rattle.std.specs.List.{list_any};
@@ -30,7 +30,7 @@ pub(crate) fn is_simple_alias_key(settings: &EffectiveSettings, place: &Place, n
     place.role.is_key() && (!settings.canonical && byte_count(name) <= MOST_BYTES)
 }
 
-/// Returns whether a scalar at a place is a simple key, its tag spelled so.
+/// Returns whether a scalar at a place is a simple key, with its tag as spelled.
 pub(crate) fn is_simple_scalar_key(
     settings: &EffectiveSettings,
     place: &Place,
@@ -47,7 +47,7 @@ pub(crate) fn is_simple_scalar_key(
     place.role.is_key() && (!settings.canonical && is_simple_scalar(content, tag))
 }
 
-/// Returns whether a scalar that stands plain as it is is a simple key at a place, by its value.
+/// Returns whether a simple ASCII scalar that is plain as it is is a simple key at a place.
 pub(crate) fn is_simple_ascii_key(place: &Place, value: &str) -> bool
     ensures { (canonical : Bool) (directives : List TagDirective) (content : ScalarContent)
         → StandsPlain canonical content
@@ -62,7 +62,7 @@ pub(crate) fn is_simple_ascii_key(place: &Place, value: &str) -> bool
     }
 }
 
-/// Returns whether a collection at a place, which may be empty, is a simple key, its tag spelled so.
+/// Returns whether a collection at a place, which may be empty, is a simple key, with its tag as spelled.
 pub(crate) fn is_simple_collection_key(
     settings: &EffectiveSettings,
     place: &Place,

@@ -9,14 +9,14 @@ ghost use Rattle.yaml_emitter.specs.WrittenAtoms.{seen_tag};
 use std::alloc::Allocator;
 use yaml_mark::{Directives, analyze_tag, tag_t};
 
-/// A tag as a handle and what stands after the handle's prefix, or as it is.
+/// A tag as a handle and the text after the handle's prefix, or verbatim.
 #[derive(Clone, Copy)]
 pub(crate) enum SpelledTag<'a> {
     Shorthand { handle: &'a str, suffix: &'a str },
     Verbatim { tag: &'a str },
 }
 
-/// Spells a tag that is written by the first directive whose prefix it begins with and goes on from.
+/// Spells a tag by the first directive whose prefix it begins with, if the tag is longer; else verbatim. `None` stays.
 #[inline(always)]
 pub(crate) fn spell<'a, A: Allocator>(
     tag: Option<&'a str>,

@@ -53,7 +53,7 @@ pub(crate) fn write_text<A: Allocator>(
     }
 }
 
-/// Writes a text in a style that stands in flow, too.
+/// Writes a text in a style that flow allows, too.
 fn write_flow_text<A: Allocator>(
     pen: &mut Pen<A>,
     site: &Site,
@@ -81,7 +81,7 @@ fn write_flow_text<A: Allocator>(
     }
 }
 
-/// Writes a text in literal style, behind its header.
+/// Writes a literal scalar: its header and its text.
 fn write_literal_text<A: Allocator>(
     pen: &mut Pen<A>,
     open_ended: &mut OpenEnded,
@@ -106,7 +106,7 @@ fn write_literal_text<A: Allocator>(
     }
 }
 
-/// Writes a text in folded style, behind its header.
+/// Writes a folded scalar: its header and its text.
 fn write_folded_text<A: Allocator>(
     pen: &mut Pen<A>,
     open_ended: &mut OpenEnded,
@@ -131,7 +131,7 @@ fn write_folded_text<A: Allocator>(
     }
 }
 
-/// Returns where a scalar's further lines begin, in columns.
+/// Returns the column at which a scalar's further lines begin.
 pub(crate) fn line_indent(settings: &EffectiveSettings, place: &Place) -> i32
     ensures value { result ≡ pos (deeper settings.now.indent place.now.column) }
     ensures low { pos 2 ≤ℤ result }

@@ -36,7 +36,7 @@ returns-in-None g c = λ first last starts stands.
     ∙ ap (λ (o : Option ℕ). unwrap_or (option_map (λ more. closed_by more (seen_events (drop (i + 1) rest) ++ tail)) o) true)
     (sym c.open_behind.ensures ∙ c.in-None.is))
 
--- behind all of them, the last event tells
+-- after all of them the last event decides
 closed_behind : {E : Type 0} (seen : E → Event) (rest : List E) (depth i : ℕ) (first last : Event) → is_start first ≡ true → length rest ≤ i
     → closed_by depth (map seen (drop i rest) ++ last ∷ []) ≡ closed_by 0 (map seen rest ++ last ∷ [])
     → list_any is_balanced (nonempty_prefixes (first ∷ (map seen rest ++ last ∷ []))) ≡ (is_end last && depth == 0)

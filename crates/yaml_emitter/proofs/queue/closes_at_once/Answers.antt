@@ -4,7 +4,7 @@ use Rattle.std.specs.Prelude.{◌++◌, slice_get}
 use Rattle.yaml_emitter.specs.Processing.{ends_sequence, ends_mapping}
 use Rattle.yaml_emitter.proofs.queue.closes_at_once.Goals as goal
 
--- only the first of the events behind counts
+-- only the first of the events that follow counts
 by_first-sequence : (next : Event) (rest : List Event) → ends_sequence (next ∷ []) ≡ ends_sequence (next ∷ rest)
 by_first-sequence sequence_end rest = refl
 by_first-sequence next rest = refl

@@ -6,11 +6,11 @@ use Rattle.yaml_emitter.proofs.standing.{WritingAll.or_middle, WrittenPrefixes.a
 use Rattle.std.proofs.lemmas.Bool.{lt-ltb, le-leb}
 use Rattle.yaml_emitter.proofs.queue.is_ready.Goals as goal
 
--- how many stand from the first on
+-- the number of events from the first on
 long : {E : Type 0} (seen : E → Event) (first : Event) (rest : List E) (last : Event) → length (first ∷ (map seen rest ++ last ∷ [])) ≡ length rest + 2
 long seen first rest last = omega (arith, length-append (map seen rest) (last ∷ []), length-map rest seen)
 
--- where they are too few, what they close tells
+-- if they are too few, the events that they close decide
 by_closing : {E : Type 0} (seen : E → Event) (first : Event) (rest : List E) (last : Event) (closes : Bool) → length rest < awaited first - 1
     → (is_start first ≡ true → closes ≡ list_any is_balanced (nonempty_prefixes (first ∷ (map seen rest ++ last ∷ []))))
     → closes ≡ is_head_ready (first ∷ (map seen rest ++ last ∷ []))
@@ -22,7 +22,7 @@ by_closing seen first rest last closes few closed =
     (ap (λ b. b || nat_lt (awaited first) (length all) || list_any is_balanced (nonempty_prefixes all)) some
     ∙ ap (λ b. b || list_any is_balanced (nonempty_prefixes all)) (le-ltb (awaited first) (length all) (omega (arith, few, long seen first rest last))))
 
--- where they are enough, it is ready
+-- if they are enough, it is ready
 by_many : {E : Type 0} (seen : E → Event) (first : Event) (rest : List E) (last : Event) → awaited first - 1 ≤ length rest
     → true ≡ is_head_ready (first ∷ (map seen rest ++ last ∷ []))
 by_many seen first rest last many =

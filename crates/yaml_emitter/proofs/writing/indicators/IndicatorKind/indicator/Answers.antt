@@ -5,7 +5,7 @@ use Rattle.yaml_emitter.specs.declared.writing.indicators.IndicatorKind.TheVaria
 use Rattle.yaml_emitter.proofs.pieces.Atoms.{symbol-chars, symbol-no_break}
 use Rattle.yaml_emitter.proofs.writing.indicators.IndicatorKind.indicator.Goals as goal
 
--- an indicator is of characters that stand for themselves
+-- an indicator is of visible characters of ASCII
 visible : (kind : IndicatorKind) → is_visible_ascii (seen_indicator kind).text ≡ true
 visible DocumentStart = refl
 visible kind = refl
@@ -13,7 +13,7 @@ visible kind = refl
 visible_text : (kind : IndicatorKind) {bytes : List ℕ} → bytes ≡ (seen_indicator kind).text → is_visible_ascii bytes ≡ true
 visible_text kind is = ap is_visible_ascii is ∙ visible kind
 
--- bytes that stand for themselves are the text of what is made of them
+-- visible bytes of ASCII are the text of the indicator that they make
 made_of : (form : List ℕ → Indicator) {made : Indicator} (bytes : List ℕ) → made ≡ form (chars bytes) → is_visible_ascii bytes ≡ true → made ≡ form bytes
 made_of form bytes is symbol = is ∙ ap form (symbol-chars bytes symbol)
 
