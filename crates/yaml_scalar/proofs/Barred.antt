@@ -92,7 +92,7 @@ quiet_last_by charset c rest quiet true e = ap (λ k. barred_by charset k rest) 
 quiet_last_by charset c rest quiet false e =
     quiet_bars charset c rest quiet (and_left _ (is_empty rest) e) (and_left _ (begins_with (λ d. d == 35) rest) e) (and_left _ (begins_with is_break rest) e)
 
--- so a run of them bars what its last space does
+-- so a run of them bars the styles that its last space bars
 pub quiet_run : (charset : Charset) (prefix rest : Text) → list_all (is_quiet charset) prefix ≡ true
     → barred_in charset (prefix ++ rest) ≡ either (barred_by_space charset (last_from 0 prefix) rest) (barred_in charset rest)
 quiet_run charset [] rest h = refl

@@ -1,4 +1,4 @@
--- Texts of ASCII without control characters: what vectors tell of them, and that they hold no break.
+-- Texts of ASCII without control characters: how vectors recognise them, and that they hold no break.
 use Rattle.yaml_scalar.proofs.Common.{ℕ, suc, ◌+◌, ◌-◌, ◌%◌, ◌<◌, ◌≤◌, IsUtf8, length, take, false, true, ◌||◌, List, [], ◌∷◌, refl, ◌≡◌, take_all}
 use Rattle.yaml_scalar.proofs.Common.{true≢false, inl, inr, ap, sym, ◌∙◌, arith, and_from, agree_below_at, nat_tests, list_all, list_any, is_break, is_free}
 use Rattle.yaml_scalar.proofs.Common.{IsFreeRun, stays_in_line}

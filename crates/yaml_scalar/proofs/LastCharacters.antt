@@ -1,4 +1,4 @@
--- The last characters of a text say how it ends.
+-- The ending of a text, by its last characters.
 use Rattle.yaml_scalar.proofs.Common.{arith, ℕ, if◌then◌else◌, length, take, false, true, List, [], ◌++◌, ◌∷◌, refl, ◌≡◌, append-nil, append_assoc, ap, subst}
 use Rattle.yaml_scalar.proofs.Common.{sym, ◌∙◌, scalar, IsUtf8-encode, IsUtf8-take, Text, is_break, without_break, one_break, more_breaks, ending, last_from}
 use Rattle.yaml_base.proofs.Common.{encode_utf8, chars-encodes, chars}

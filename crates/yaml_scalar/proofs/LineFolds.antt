@@ -212,7 +212,7 @@ folds_where :
     Folds before rest
 folds_where folds before rest e = grind (arith, or_parts, not-true, and_parts, begins_space)
 
--- a space or a fold before what reads as the rest
+-- a space or a fold before a text that reads as the rest
 spaced :
     (breaks12 folds : Bool) (indent : ℕ) (before : Kind) (rest text : Text) →
     begins_with is_break rest ≡ false →
@@ -225,7 +225,7 @@ spaced breaks12 folds indent before rest text clear after true e = grind (arith,
 spaced breaks12 folds indent before rest text clear after false e =
     space_step before rest (fold_state_at breaks12 text) after clear
 
--- one character's text before what reads as the rest
+-- one character's text before a text that reads as the rest
 step_reads :
     (charset : Charset) (folds : Bool) (indent : ℕ) (before kind : Kind) (c : ℕ) (rest text : Text) →
     kind_of c ≡ kind →
@@ -265,7 +265,7 @@ lines_read charset written limit indent before (c ∷ rest) cursor clean =
     (clear_after charset c rest (kind_of c) refl parts.0)
     (lines_read charset written limit indent (kind_of c) rest _ parts.1)
 
--- a value that single quotes may hold is what folding reads of its lines
+-- folding reads the lines of a value that single quotes may hold as that value
 pub folding_reads :
     (charset : Charset) (written : Text → Text) (limit : Option ℕ) (indent : ℕ) (value : Text) (cursor : Cursor) →
     somewhere (bars_single_quoted charset) value ≡ false →

@@ -1,4 +1,4 @@
--- A double-quoted scalar is written quote, inside, quote; and what that means.
+-- A double-quoted scalar is written as a quote, the text inside, and a quote; and its reading.
 use Rattle.yaml_scalar.proofs.Common.{ℕ, ◌≤◌, IfOk, Option, None, Result, Err, Ok, Bool, false, true, [], ◌∷◌, refl, ◌≡◌, all_scalars, Text, Cursor, Rendered}
 use Rattle.yaml_scalar.proofs.Common.{render_then, indicator, read_double, quote, double_inside, render_quote, double_quoted_body, render_double_quoted, Page}
 use Rattle.yaml_scalar.proofs.Common.{Wrote, ReadsBack}

@@ -33,6 +33,8 @@ enum Ending {
 /// `-` if the value doesn't end in a break, nothing if it ends in exactly one break after another character, and `+` otherwise.
 /// Returns the open-ended state: 2 after `+`, else 0.
 ///
+/// The pen must have begun a page, and `best_indent` is 2 to 9.
+///
 /// # Errors
 ///
 /// `WriteError` if the output passes its limit, `Memory` if it can't grow, or else the pen's first error.

@@ -37,7 +37,9 @@ struct Quoting {
 ///
 /// Unprintable characters, breaks, the quote and the backslash are escaped, and with `unicode` off all characters beyond ASCII.
 /// If `allow_breaks` is on and the column is past `width` (in characters, `i32::MAX` for no limit), the first space of a run
-/// becomes a line break and `indent` spaces, unless it is the value's first or last character. `indent` is at least 2.
+/// becomes a line break and `indent` spaces, unless it is the value's first or last character.
+///
+/// The pen must have begun a page, and `indent` is at least 2.
 ///
 /// # Errors
 ///

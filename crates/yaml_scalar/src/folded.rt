@@ -22,6 +22,8 @@ use yaml_pen::Pen;
 /// space of a run; `i32::MAX` means no width. `best_indent` is the header's digit. Returns the open-ended state: 2 if the header
 /// keeps all final breaks, else 0.
 ///
+/// The pen must have begun a page, the value isn't empty, `best_indent` is 2 to 9, and `indent` is at least `best_indent`.
+///
 /// # Errors
 ///
 /// `WriteError` if the output passes its limit, `Memory` if it can't grow, or else the pen's first error.

@@ -20,6 +20,8 @@ use yaml_pen::Pen;
 /// collection. If breaks are allowed, a lone space past the width, a column in characters, becomes a break and the indentation;
 /// `i32::MAX` means no width.
 ///
+/// The pen must have begun a page, and `indent` is at least 2.
+///
 /// # Errors
 ///
 /// `WriteError` if the output passes its limit, `Memory` if it can't grow, or else the pen's first error.

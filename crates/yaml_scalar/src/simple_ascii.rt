@@ -38,7 +38,9 @@ pub fn is_simple_ascii(text: &str) -> bool
 }
 
 /// Writes a simple ASCII text as a plain scalar, as `write_plain_scalar` does in flow or not, but without looking at its
-/// characters again if it fits the line. The text must be simple ASCII.
+/// characters again if it fits the line.
+///
+/// The pen must have begun a page, the text is simple ASCII, and `indent` is at least 2.
 ///
 /// # Errors
 ///

@@ -19,6 +19,8 @@ use yaml_pen::{Indicator, Pen};
 /// width, a column in characters, becomes a break and the indentation, unless it is the value's first or last character;
 /// `i32::MAX` means no width.
 ///
+/// The pen must have begun a page, and `indent` is at least 2.
+///
 /// # Errors
 ///
 /// `WriteError` if the output passes its limit, `Memory` if it can't grow, or else the pen's first error.

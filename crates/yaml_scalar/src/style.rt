@@ -79,7 +79,7 @@ fn fits_plain(
     fits && !(empty && (context.flow || context.simple_key)) && (tag_written || plain_implicit)
 }
 
-/// Returns what is asked for.
+/// Returns the style that is asked for.
 fn requested_style(must_be_double: bool, style: yaml_scalar_style_t) -> yaml_scalar_style_t
     ensures { seen_scalar_style result ≡ spec.requested_style must_be_double (seen_scalar_style style) }
 {

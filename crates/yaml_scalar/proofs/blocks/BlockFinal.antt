@@ -86,7 +86,7 @@ ends-two c d true false = (refl, refl)
 ends-two c d false true = (refl, (d, refl))
 ends-two c d false false = (refl, refl)
 
--- the last two characters of a value say how its parts end
+-- the ending of a value's parts, by its last two characters
 pub ends-parts : (c : ℕ) (value : Text) → Ends (ending (c ∷ value)) (bare (parts (c ∷ value)))
 ends-parts c [] = ends-one c (is_break c)
 ends-parts c (d ∷ []) = ends-two c d (is_break c) (is_break d)

@@ -140,7 +140,7 @@ read-header breaks12 false false without_break n column lines low high = refl
 read-header breaks12 false false one_break n column lines low high = refl
 read-header breaks12 false false more_breaks n column lines low high = refl
 
--- the read_indentation that a digit tells, or that the first line shows, is the lines' own
+-- the indentation that a digit gives, or that the first line shows, is the lines' own
 unindented-lines : (blank : Bool) (indent best_indent : ℕ) (column : Option ℕ) (ps : List Part) → Encloses indent best_indent column
     → (blank ≡ false → BeginsFlush ps)
     → all_unindented (read_indentation (digit_of blank best_indent) column (shifted indent ps)) (shifted indent ps) ≡ Some (bare ps)
@@ -149,7 +149,7 @@ unindented-lines true indent best_indent (Some column) ps e f = rw (sym e) (unin
 unindented-lines false indent best_indent None ps e f = detected_indentation-shifted indent ps (f refl)
 unindented-lines false indent best_indent (Some column) ps e f = detected_indentation-shifted indent ps (f refl)
 
--- a value's first character says whether its first line shows the read_indentation
+-- a value's first character decides whether its first line shows the indentation
 flush-parts : (c : ℕ) (rest : Text) → begins_blank (c ∷ rest) ≡ false → BeginsFlush (parts (c ∷ rest))
 flush-parts c rest h = grind (arith, or_parts, false≢true)
 
