@@ -57,7 +57,8 @@ fn open_behind<A: Allocator>(before: usize, event: &yaml_event_t<A>) -> Option<u
     }
 }
 
-/// Returns whether `rest` and then `next` end what the event before them starts; `None` means a scalar.
+/// Returns whether `rest` and then `next` end the collection or document that the event before them starts; `None` means a
+/// scalar.
 fn closes<A: Allocator>(rest: &[yaml_event_t<A>], next: Option<&yaml_event_t<A>>) -> bool
     ensures { (first last : Event) → is_start first ≡ true → StandsLast (seen_next next.entry) last
         → result ≡ list_any is_balanced (nonempty_prefixes (first ∷ (seen_events rest.now ++ last ∷ []))) }

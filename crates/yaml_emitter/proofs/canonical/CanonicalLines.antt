@@ -39,7 +39,7 @@ module _ (breaks12 : Bool) where
       says_after (says_after (line_says breaks12 0 cursor) (indicator_says true false false line.cursor (says_begins breaks12)))
       (line_says breaks12 0 symbol.cursor)
 
--- a new line after what leaves indention off breaks the line
+-- a new line breaks the line after a text that leaves indention off
 pub line_breaks : (at : ℕ) (cursor : Cursor) → cursor.indention ≡ false → (new_line at cursor).text ≡ line_feed ∷ replicate at space
 line_breaks at cursor e = rw e refl
 

@@ -26,7 +26,7 @@ EventOk (sequence_start start) = AnchorOk start.anchor
 EventOk (mapping_start start) = AnchorOk start.anchor
 EventOk _ = Unit {0}
 
--- pieces that were rendered after a text say these tokens with it, leave indention off and keep the open-ended state
+-- pieces that were rendered after a text have these tokens with it, leave indention off and keep the open-ended state
 pub record After (breaks12 : Bool) (text : Text) (tokens : List Token) (before : Standing) (rendered : RenderedPieces) : Type 0 where
   pub says : Says breaks12 name_ends (text ++ text_of rendered.pieces) tokens
   pub off : rendered.standing.cursor.indention ≡ false

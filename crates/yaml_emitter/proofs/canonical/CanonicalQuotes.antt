@@ -150,7 +150,7 @@ module _ (unicode : Bool) (limit : Option ℕ) (indent : ℕ) where
       scalars-append (double_inside unicode limit indent None value (render_quote cursor).cursor).text (quote ∷ [])
       (inside-scalars value None (render_quote cursor).cursor h) refl
 
-  -- A body says its value.
+  -- A body's token is its value.
   pub body_says : (breaks12 : Bool) (value : Text) (cursor : Cursor) → 2 ≤ indent → all_scalars value ≡ true
       → Says breaks12 anything (double_quoted_body unicode limit indent value cursor).text (scalar_token value ∷ [])
   body_says breaks12 value cursor wide h = record {

@@ -144,7 +144,7 @@ module _ (breaks12 : Bool) (s : Effective) (wide : 2 ≤ s.indent) where
         open_ended = more.open_ended;
       }
 
-  -- The text of a stream says its documents.
+  -- The tokens of a stream's text are those of its documents.
   pub stream_says : (stream : Stream) → DocumentsOk stream.documents
       → Says breaks12 anything (text_of (layout (in_canonical s) stream)) (documents_tokens s.portable stream.documents)
   stream_says stream ok =

@@ -70,7 +70,7 @@ says_less d says = record { scalars = says.scalars; rendered = says.rendered; re
 pub says_nothing : (breaks12 : Bool) → Says breaks12 anything [] []
 says_nothing breaks12 = record { scalars = refl; rendered = refl; reads = λ rest meets. refl }
 
--- Spaces and line feeds say nothing.
+-- Spaces and line feeds have no token.
 abbrev pub is_white : Text → Bool
 is_white text = list_all (λ c. c == space || c == line_feed) text
 

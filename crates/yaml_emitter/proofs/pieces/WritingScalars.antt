@@ -21,7 +21,7 @@ use Rattle.yaml_emitter.specs.{Given.seen_width, declared.effective.EffectiveSet
 use Rattle.yaml_mark.proofs.HandleLemmas.{no_characters, characters_begin}
 use Rattle.yaml_pen.specs.Page.{natural}
 
--- a width that isn't negative limits lines as the settings say
+-- a width that isn't negative limits lines as in the settings
 width_limit : (width : ℤ) → pos 0 ≤ℤ width → limit_of width ≡ seen_width width
 width_limit (pos n) low = refl
 width_limit (negsuc n) low = absurd (omega (arith, ints, low))

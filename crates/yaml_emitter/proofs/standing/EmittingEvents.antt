@@ -1,4 +1,4 @@
--- A call that gives an event, from what its steps did.
+-- The effect of a call that gives an event, by the effects of its steps.
 use Rattle.yaml_emitter.proofs.Common.{IsSome, ℕ, Bool, Option, None, Some, Result, Err, Ok, take, drop, false, true, List, [], ◌++◌, ◌∷◌, refl, ◌≡◌, ap, subst}
 use Rattle.yaml_emitter.proofs.Common.{sym, ◌∙◌, arith, KeepsGiven, failed_by, false≢true, Event, has_scalar_texts, written, Settings, is_head_ready, Processed}
 use Rattle.yaml_emitter.proofs.Common.{MachineStands, HasReached, StateStands, StandsAfter, State, MachineState, machine_of, KeepsSet, result_of_error, Grows}

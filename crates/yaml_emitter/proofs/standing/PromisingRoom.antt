@@ -34,7 +34,7 @@ by_error (Some error) given all state h is fits = by_memory error given all stat
 pub promises_fits : (given : Settings) (all : List Event) (state : State) → StateStands given all state → FitsLimit given all → FailsOnlyByMemory state.error
 promises_fits given all state h = by_error state.error given all state h refl
 
--- so a call that tells its error tells that
+-- so a call that returns the emitter's error returns that
 pub memory_only : (error : Option yaml_error_t) (given : Settings) (all : List Event) → (FitsLimit given all → FailsOnlyByMemory error)
     → FitsLimit given all → (answer : Result (Unit {0}) yaml_error_t) → answer ≡ result_of_error error → IfErr answer (λ e. e ≡ Memory)
 memory_only None given all only fits answer is = subst (λ (r : Result (Unit {0}) yaml_error_t). IfErr r (λ e. e ≡ Memory)) (sym is) tt

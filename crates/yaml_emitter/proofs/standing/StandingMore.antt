@@ -26,7 +26,7 @@ pub settings_failed : (prefix : List Event) (given : Settings) (all : List Event
 settings_failed [] given all event later more parts = settings_grown given event [] later all more parts
 settings_failed (x ∷ prefix) given all event later more parts = settings_grown given x prefix (event ∷ later) all more parts
 
--- An event that became ready was ready by what followed it.
+-- An event that became ready was ready by the events after it.
 ready_if : (b : Bool) (n m : ℕ) → n < (if b then suc m else 0) → b ≡ true
 ready_if true n m h = refl
 ready_if false n m h = absurd (omega (arith, h))

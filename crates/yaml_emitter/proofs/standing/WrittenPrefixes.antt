@@ -10,7 +10,7 @@ use Rattle.yaml_base.specs.Ready.{is_start, is_end}
 abbrev count_of : Bool → ℕ
 count_of b = cond b 1 0
 
--- some prefix of the list, with so many starts and ends before it, has as many starts as ends
+-- true if some prefix of the list, after these numbers of starts and ends, has as many starts as ends
 abbrev closes_after : ℕ → ℕ → List Event → Bool
 closes_after starts ends [] = false
 closes_after starts ends (event ∷ rest) =
@@ -124,7 +124,7 @@ pub closed_from : {E : Type 0} (seen : E → Event) (xs : List E) (i : ℕ) (x :
     ≡ unwrap_or (option_map (λ more. closed_by more (map seen (drop (i + 1) xs) ++ tail)) (open_behind depth (seen x))) true
 closed_from seen xs i x within at depth tail = ap (λ l. closed_by depth (l ++ tail)) (seen_from seen xs i x within at)
 
--- the last event closes what nothing else within is open
+-- the last event ends the part before it if nothing within that is open
 pub closed_last : (depth : ℕ) (event : Event) → closed_by depth (event ∷ []) ≡ (is_end event && depth == 0)
 closed_last depth event = by depth (is_start event) (is_end event) (apart event)
   where
