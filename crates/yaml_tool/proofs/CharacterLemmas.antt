@@ -1,4 +1,4 @@
--- A text goes on from character to character; what was passed over is its prefix.
+-- A text goes on from character to character; the characters passed over are its prefix.
 use Rattle.yaml_tool.proofs.Common.{ℕ, ◌-◌, ◌==◌, drop, length, take, List, [], ◌++◌, ◌∷◌, refl, ◌≡◌, length-append, take-append-drop, append-nil}
 use Rattle.yaml_tool.proofs.Common.{append_assoc, ap, subst, sym, ◌∙◌, arith, nat_tests, list_any-append, chars-nil, encodes-append, IsUtf8-take}
 use Rattle.yaml_tool.proofs.Common.{IsUtf8-past_char, chars_from_encodes, encodes-chars, chars-append, chars_past_char, encode_utf8, list_any, IsUtf8, chars}
@@ -25,7 +25,7 @@ ends_in_itself text = record { within = omega arith; same = ap (λ (n : ℕ). dr
 pub prefix_of_itself : (text : List ℕ) → prefix_of text text ≡ []
 prefix_of_itself text = ap (λ (n : ℕ). take n text) (sub_self (length text))
 
--- a prefix and an end tell where the text is cut
+-- a prefix and an end determine the place at which the text is divided
 pub take_seam : (text prefix end : List ℕ) → text ≡ prefix ++ end → prefix_of text end ≡ prefix
 take_seam text prefix end is =
     let before : length text - length end ≡ length prefix = omega (arith, ap length is, length-append prefix end) in
@@ -130,7 +130,7 @@ run_prefix text end further passed ends =
     ap chars (prefix_further text end (prefix_of end further) further passed.ends (prefix_and_end end further ends))
     ∙ chars-append (prefix_of text end) (prefix_of end further) (is_prefix text end passed.ends passed.is_text passed.is_end)
 
--- where nothing is left the prefix is all
+-- if nothing is left, the prefix is the whole text
 pub all_passed : (text end : List ℕ) → PassedEvents text end → chars end ≡ [] → chars text ≡ chars (prefix_of text end)
 all_passed text end passed is = passed.all ∙ ap (λ (rest : List ℕ). chars (prefix_of text end) ++ rest) is ∙ append-nil (chars (prefix_of text end))
 

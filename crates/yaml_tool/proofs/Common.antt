@@ -16,6 +16,6 @@ pub use Rattle.yaml_base.specs.scripts.Script.{field_read, field_and, fields_rea
 pub use Rattle.yaml_emitter.specs.Given.{seen_settings}
 pub use Rattle.yaml_tool.specs.{Numbers.number_after, Settings.seen_setting}
 pub use Rattle.yaml_tool.specs.Cuts.{IsFree, IsCut, cut_at, prefix_of, SkipsTo}
-pub use Rattle.yaml_tool.specs.Fields.{seen_field_state, prepend_to_first_piece, SkipsRunTo, later_fields, prepend_field, HasField}
+pub use Rattle.yaml_tool.specs.Fields.{seen_field_state, prepend_to_first_piece, SkipsRunTo, later_fields, prepend_field, FieldOrUnparsed}
 pub use Rattle.yaml_tool.specs.Runs.{events_in, RefusesAt, ReadsAll, IsFault, LastLine}
 pub use Rattle.yaml_tool.specs.Scripts.{seen_numbered, seen_progress, IsFaultOf, script_after_lines}

@@ -4,10 +4,10 @@ use Rattle.yaml_base.proofs.Common.{map-append, Text, ScalarStyle, TagDirective,
 use Rattle.yaml_base.specs.{Event.CollectionStyle, Seen.seen_directive, declared.directives.yaml_tag_directive_t.yaml_tag_directive_t}
 use Rattle.yaml_base.specs.scripts.Script.{Field, bare, quoted, flags, text_or_none, scalar_styles, directives_of, collection_styles, scalar_with, scalar_of}
 use Rattle.yaml_base.specs.scripts.Script.{collection_with, collection_of}
-use Rattle.yaml_tool.specs.{Events.scalar_from, Events.start_of, Fields.prepend_field, Fields.HasField, Fields.field_of}
+use Rattle.yaml_tool.specs.{Events.scalar_from, Events.start_of, Fields.prepend_field, Fields.FieldOrUnparsed, Fields.field_of}
 use Rattle.yaml_base.specs.declared.kinds.CollectionKind.{CollectionKind}
 
--- the field that stands for a choice is read as it
+-- the field of a choice is read as that choice
 choice_read : (choice : Option Text) → text_or_none (field_of choice) ≡ Some choice
 choice_read None = refl
 choice_read (Some text) = refl
@@ -20,7 +20,7 @@ scalar_parts style plain quoted' value anchor tag =
     ap (λ choice. scalar_with style plain quoted' choice (text_or_none (field_of tag)) value) (choice_read anchor)
     ∙ ap (λ choice. scalar_with style plain quoted' (Some anchor) choice value) (choice_read tag)
 
--- the fields behind a scalar's words, each read by itself
+-- the fields after a scalar's words, each read by itself
 pub record TextsRead (value : Text) (anchor tag : Option Text) (f0 f1 f2 f3 : Option (List Field)) : Type 0 where
   pub anchor_read : f0 ≡ prepend_field (field_of anchor) f1
   pub tag_read : f1 ≡ prepend_field (field_of tag) f2
@@ -42,13 +42,13 @@ scalar_joined style plain quoted' {value} {anchor} {tag} result read end gives =
     ∙ sym (ap (option_and_then (scalar_from style plain quoted'))
     (texts_joined read ∙ ap (λ fields. prepend_field (field_of anchor) (prepend_field (field_of tag) (prepend_field (quoted value) fields))) end))
 
--- and where a further field follows, there is no scalar
+-- and if a further field follows, there is no scalar
 pub no_scalar : (style : Option ScalarStyle) (plain quoted' : Option Bool) {value : Text} {anchor tag : Option Text} {f0 f1 f2 f3 : Option (List Field)}
-    → TextsRead value anchor tag f0 f1 f2 f3 → HasField f3 → None ≡ option_and_then (scalar_from style plain quoted') f0
+    → TextsRead value anchor tag f0 f1 f2 f3 → FieldOrUnparsed f3 → None ≡ option_and_then (scalar_from style plain quoted') f0
 no_scalar style plain quoted' {value} {anchor} {tag} {f3 = f3} read has =
     none f3 has ∙ sym (ap (option_and_then (scalar_from style plain quoted')) (texts_joined read))
   where
-    none : (fields : Option (List Field)) → HasField fields
+    none : (fields : Option (List Field)) → FieldOrUnparsed fields
         → None ≡ option_and_then (scalar_from style plain quoted')
         (prepend_field (field_of anchor) (prepend_field (field_of tag) (prepend_field (quoted value) fields)))
     none None has = refl
@@ -66,7 +66,7 @@ words_parts style plain quoted' (Some (anchor ∷ tag ∷ bare word ∷ rest)) =
 words_parts style plain quoted' (Some (anchor ∷ tag ∷ quoted value ∷ [])) = refl
 words_parts style plain quoted' (Some (anchor ∷ tag ∷ quoted value ∷ field ∷ rest)) = refl
 
--- a scalar's words, each read by itself, and the fields behind them are its fields
+-- a scalar's words, each read by itself, and the fields after them are its fields
 pub words_joined : (style plain quoted' : Text) (a : Option ScalarStyle) (b c : Option Bool) {f0 f1 f2 : Option (List Field)}
     (f3 : Option (List Field))
     → f0 ≡ prepend_field (bare style) f1 → f1 ≡ prepend_field (bare plain) f2 → f2 ≡ prepend_field (bare quoted') f3
@@ -108,14 +108,14 @@ collection_joined kind style implicit anchor tag f0 f1 f2 f3 f4 result a b e0 e1
 -- a further field is one too many
 pub no_collection : (kind : CollectionKind) (style implicit : Text) (anchor tag : Option Text) (f0 f1 f2 f3 f4 : Option (List Field))
     → f0 ≡ prepend_field (bare style) f1 → f1 ≡ prepend_field (bare implicit) f2 → f2 ≡ prepend_field (field_of anchor) f3
-    → f3 ≡ prepend_field (field_of tag) f4 → HasField f4
+    → f3 ≡ prepend_field (field_of tag) f4 → FieldOrUnparsed f4
     → None ≡ option_map (start_of kind) (option_and_then collection_of f0)
 no_collection kind style implicit anchor tag f0 f1 f2 f3 f4 e0 e1 e2 e3 has =
     none f4 has
     ∙ sym (ap (λ fields. option_map (start_of kind) (option_and_then collection_of fields))
     (e0 ∙ ap (prepend_field (bare style)) (e1 ∙ ap (prepend_field (bare implicit)) (e2 ∙ ap (prepend_field (field_of anchor)) e3))))
   where
-    none : (fields : Option (List Field)) → HasField fields
+    none : (fields : Option (List Field)) → FieldOrUnparsed fields
         → None ≡ option_map (start_of kind) (option_and_then collection_of
         (prepend_field (bare style) (prepend_field (bare implicit) (prepend_field (field_of anchor)
         (prepend_field (field_of tag) fields)))))
@@ -125,7 +125,7 @@ no_collection kind style implicit anchor tag f0 f1 f2 f3 f4 e0 e1 e2 e3 has =
 
 -- ---- directives
 
--- the list after one more, before what is still to be read
+-- the list after one more, before the rest that is still to be read
 one_directive : {A : Type 0} (directives grown : List (yaml_tag_directive_t A)) (directive : yaml_tag_directive_t A) (more : Option (List TagDirective))
     → grown ≡ directives ++ directive ∷ []
     → option_map (λ others. map seen_directive directives ++ others) (option_map (λ others. seen_directive directive ∷ others) more)

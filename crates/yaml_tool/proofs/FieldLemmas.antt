@@ -1,7 +1,7 @@
 -- A line is cut at its first separator, character by character, and read field by field.
 use Rattle.yaml_tool.proofs.Common.{ℕ, ◌≤◌, if◌then◌else◌, ◌==◌, Option, None, Some, length, Bool, false, true, List, [], ◌++◌, ◌∷◌, refl, ◌≡◌, ap, subst}
 use Rattle.yaml_tool.proofs.Common.{sym, ◌∙◌, arith, nat_tests, onto_first, IsUtf8, chars, Text, outside, separates, pieces_from, field_read, field_and}
-use Rattle.yaml_tool.proofs.Common.{fields_read, IsFree, prefix_of, SkipsTo, prepend_to_first_piece, SkipsRunTo, later_fields, HasField}
+use Rattle.yaml_tool.proofs.Common.{fields_read, IsFree, prefix_of, SkipsTo, prepend_to_first_piece, SkipsRunTo, later_fields, FieldOrUnparsed}
 use Rattle.std.specs.{Borrow.Bor, Option.is_some}
 use Rattle.yaml_base.specs.scripts.Script.{inside, escaped, state_after, cut_before, read_fields}
 use Rattle.yaml_tool.proofs.CharacterLemmas.{ends_in_itself, PassedEvents, passed_to, empty_prefix, run_passed, run_prefix}
@@ -76,7 +76,7 @@ run_inside (c ∷ prefix) rest no_exclamation no_backslash =
     ∙ ap (λ (b : Bool). onto_first c (pieces_from (if b then escaped else inside) (prefix ++ rest))) backslash.0
     ∙ ap (onto_first c) (run_inside prefix rest quotation.1 backslash.1)
 
--- so what stands before such a character is a run
+-- so the characters before such a character are a run
 pub runs_outside : (text end : List ℕ) → IsUtf8 text → SkipsTo 0x20 0x22 text end → SkipsRunTo outside text end
 runs_outside text end is skipped = record {
   ends = skipped.ends;
@@ -101,7 +101,7 @@ runs_nowhere standing text is = record {
   run = ap (λ (prefix : Text). prepend_to_first_piece prefix (pieces_from standing (chars text))) (sym (empty_prefix text));
 }
 
--- past a run the pieces are those of what follows, behind a longer prefix
+-- after a run the pieces are those of the rest, with a longer prefix
 pub further_on : (standing : notation.FieldState) (line text end : List ℕ) (pieces : List Text) → PassedEvents line text → SkipsRunTo standing text end
     → pieces ≡ prepend_to_first_piece (chars (prefix_of line text)) (pieces_from standing (chars text))
     → pieces ≡ prepend_to_first_piece (chars (prefix_of line end)) (pieces_from standing (chars end))
@@ -115,32 +115,32 @@ further_on standing line text end pieces passed runs is =
 pub skip_run : (standing : notation.FieldState) (line text end : List ℕ) → PassedEvents line text → SkipsRunTo standing text end → PassedEvents line end
 skip_run standing line text end passed runs = run_passed line text end passed runs.ends runs.is_end
 
--- what follows it is no longer
+-- the text after it is no longer
 pub run_within : (standing : notation.FieldState) (text end : List ℕ) → SkipsRunTo standing text end → length end ≤ length text
 run_within standing text end runs = runs.ends.within
 
 -- ---- fields
 
--- where the line ends at its first separator
+-- if the line ends at its first separator
 pub field_before : (line field rest : Text) → pieces_from outside line ≡ field ∷ pieces_from outside rest
     → fields_read line ≡ field_and (field_read field) (fields_read rest)
 field_before line field rest cut = ap read_fields cut
 
--- and where it has none
+-- and if it has none
 pub field_alone : (line field : Text) → pieces_from outside line ≡ field ∷ [] → fields_read line ≡ field_and (field_read field) (Some [])
 field_alone line field cut = ap read_fields cut
 
 -- a line has a field
-line_has_field : (line : Text) → HasField (fields_read line)
+line_has_field : (line : Text) → FieldOrUnparsed (fields_read line)
 line_has_field [] = tt
 line_has_field (c ∷ rest) = go (separates outside c) (pieces_from (state_after outside c) rest)
   where
-    one : (field : Option notation.Field) (others : Option (List notation.Field)) → HasField (field_and field others)
+    one : (field : Option notation.Field) (others : Option (List notation.Field)) → FieldOrUnparsed (field_and field others)
     one None others = tt
     one (Some field) None = tt
     one (Some field) (Some more) = tt
 
-    go : (b : Bool) (pieces : List Text) → HasField (read_fields (cut_before b c pieces))
+    go : (b : Bool) (pieces : List Text) → FieldOrUnparsed (read_fields (cut_before b c pieces))
     go true pieces = tt
     go false [] = one (field_read (c ∷ [])) (Some [])
     go false (piece ∷ pieces) = one (field_read (c ∷ piece)) (read_fields pieces)
@@ -151,6 +151,6 @@ none_left None is = refl
 none_left (Some rest) is = cc
 
 -- before it a field is left
-pub field_left : (rest : Option (Bor (List ℕ))) → is_some rest ≡ true → HasField (later_fields rest)
+pub field_left : (rest : Option (Bor (List ℕ))) → is_some rest ≡ true → FieldOrUnparsed (later_fields rest)
 field_left None is = cc
 field_left (Some rest) is = line_has_field (chars rest.now)

@@ -1,4 +1,4 @@
--- What lines say, by their first field and by their bytes.
+-- The meaning of lines, by their first field and by their bytes.
 use Rattle.yaml_base.proofs.Common.{ℕ, if◌then◌else◌, ◌==◌, option_map, option_and_then, Option, None, Some, Bool, false, true, List, [], ◌∷◌, refl, ◌≡◌, ap}
 use Rattle.yaml_base.proofs.Common.{sym, ◌∙◌, arith, nat_tests, list_any, option_or, chars, Text, carriage_return, Event}
 use Rattle.std.{proofs.lemmas.Str.IsUtf8-from_is_utf8, proofs.lemmas.Str.is_utf8-from_IsUtf8, specs.Str.IsUtf8, specs.Str.is_utf8}
@@ -51,7 +51,7 @@ no_fields name.SequenceEnd = refl
 no_fields name.MappingStart = refl
 no_fields name.MappingEnd = refl
 
--- so a line that begins with it says that event
+-- so a line that begins with it means that event
 line_parsed : (name : EventName) (fields : Option (List Field))
     → option_map gives (event_by name fields) ≡ option_and_then script_line (prepend_field (bare (event_word name)) fields)
 line_parsed name None = ap (option_map gives) (no_fields name)
@@ -64,7 +64,7 @@ pub event_parsed : (name : EventName) (word : Text) (line rest : Option (List Fi
 event_parsed name word line rest event is begins given =
     ap (option_map gives) given ∙ line_parsed name rest ∙ sym (ap (option_and_then script_line) (begins ∙ ap (λ w. prepend_field (bare w) rest) is))
 
--- any other name says what it sets
+-- any other name means a setting
 pub setting_parsed : (word : Text) (line rest : Option (List Field)) (setting : Option Setting) → ((fields : List Field) → event_of word fields ≡ None)
     → line ≡ prepend_field (bare word) rest
     → setting ≡ option_and_then (setting_line word) rest → option_map sets setting ≡ option_and_then script_line line
@@ -80,7 +80,7 @@ setting_parsed word line rest setting no_event begins given = ap (option_map set
     go (Some fields) = alone (setting_line word fields)
         ∙ ap (λ event. option_or (option_map sets (setting_line word fields)) (option_map gives event)) (sym (no_event fields))
 
--- a line in UTF-8 says what its characters say
+-- a line in UTF-8 has the meaning of its characters
 characters_parsed : (bytes : List ℕ) → IsUtf8 bytes → line_understood bytes ≡ line_read (chars bytes)
 characters_parsed bytes is = ap (λ (b : Bool). if b then line_read (chars bytes) else None) (is_utf8-from_IsUtf8 bytes is)
 
@@ -97,12 +97,12 @@ pub bytes_parsed : (bytes text : List ℕ) (parsed : Option ScriptLine) → text
     → parsed ≡ line_understood bytes
 bytes_parsed bytes text parsed same is reads = reads ∙ ap (λ (b : List ℕ). line_read (chars b)) same ∙ sym (characters_parsed bytes is)
 
--- a comment says nothing
+-- a comment has no meaning
 pub comment_parsed : (text comment : Text) → text ≡ number_sign ∷ comment → IsFree carriage_return comment → Some says_nothing ≡ line_read text
 comment_parsed text comment begins free =
     sym (ap line_read begins ∙ ap (λ (b : Bool). let parsed : Option ScriptLine = if b then None else Some says_nothing in parsed) free)
 
--- any other line says what its fields do
+-- any other line has the meaning of its fields
 pub fields_parsed : (text rest : Text) (c : ℕ) → text ≡ c ∷ rest → ¬ (c ≡ number_sign) → option_and_then script_line (fields_read text) ≡ line_read text
 fields_parsed text rest c begins is_not =
     ap (λ (t : Text). option_and_then script_line (fields_read t)) begins ∙ sym (ap line_read begins ∙ ap (λ (b : Bool). if b

@@ -1,4 +1,4 @@
--- A script that is read part by part: what is left with what was read is the whole.
+-- A script that is read part by part: the prefix that was read and the rest are the whole.
 use Rattle.yaml_tool.proofs.Common.{ℕ, IfSome, Option, None, Some, List, [], ◌++◌, ◌≡◌, ap, subst, sym, ◌∙◌, Script, script_of, ReadsAll, IsFault, IsFaultOf}
 use Rattle.std.specs.{Io.KnownBytes.Consumes, Io.KnownBytes.IsAtEnd, Io.KnownBytes.Keeps, Prelude.⊤}
 use Rattle.yaml_tool.specs.Scripts.{script_with, ContinuesScript}
@@ -14,7 +14,7 @@ reads_at_end ReadFailed left end = tt
 reads_at_end WriteFailed left end = end
 reads_at_end NoMemory left end = tt
 
--- what was read and what is left are the script that there was, where it is known
+-- the prefix that was read and the rest are the same script, if the rest is known
 abbrev pub StillSays : {A : Type 0} → Option (List ℕ) → ScriptPrefix A → Option (List ℕ) → Type 0
 StillSays None prefix left = ⊤
 StillSays (Some all) prefix None = ⊥
@@ -57,7 +57,7 @@ bad_prefix None left prefix answer says bad = tt
 bad_prefix (Some all) None prefix answer says bad = absurd says
 bad_prefix (Some all) (Some left) prefix answer says bad = subst (IsFault answer) (sym says) bad
 
--- a part was taken from what is left
+-- a part was taken from the rest
 pub goes_on_behind : {A : Type 0} (old new : ScriptPrefix A) (before after : Option (List ℕ)) (part : List ℕ) → Consumes before after part
     → ((more : List ℕ) → script_with old (part ++ more) ≡ script_with new more) → ContinuesScript old before new after
 goes_on_behind old new None after part consumes taken = tt

@@ -15,7 +15,7 @@ use Rattle.yaml_tool.specs.Runs.{EmitsScript, Emits, AnswersEvents, AnswersScrip
 use Rattle.yaml_tool.specs.declared.{answers.run_answer_t.run_answer_t, scripts.NumberedEvent.NumberedEvent}
 use Rattle.yaml_tool.specs.declared.answers.run_answer_t.TheVariants.{BadLine, Done, NoMemory, ReadFailed, Refused, WriteFailed}
 
--- what an answer says of a script's events it says of the bytes that were left
+-- a fact about an answer for a script's events is one for the bytes that were left
 pub tells_all : (left : Option (List ℕ)) (given : Settings) (all : List Numbered) (answer : run_answer_t) (old new : Option (List ℕ))
     → IfSome left (λ bytes. script_of bytes ≡ understood given all) → AnswersEvents given all answer old new
     → IfSome left (λ bytes. AnswersScript (script_of bytes) answer old new)
@@ -147,7 +147,7 @@ ended_without set all None state is stands kept none ends =
     }
 ended_without set all (Some line) state is stands kept none ends = cc
 
--- what is returned where the output was written, or couldn't be
+-- the answer if the output was written, or couldn't be
 pub returned_answer : (set : Settings) (all : List Numbered) (answer : run_answer_t) (state : State) (old new : Option (List ℕ)) → Emits set all answer state
     → Appends old new state.page.output → AnswersEvents set all answer old new
 returned_answer set all Done state old new emits appends = (state, emits, appends)

@@ -7,7 +7,7 @@ use Rattle.yaml_base.specs.scripts.Script.{bad_line, unset, settings_of, ScriptS
 use Rattle.yaml_tool.{proofs.CutLemmas.cut_free, proofs.CutLemmas.cut_cut, specs.Scripts.after_line, specs.Scripts.IsFaultAt, specs.Scripts.LeavesLastLine}
 use Rattle.yaml_tool.specs.declared.scripts.{ScriptError.ScriptError, ScriptError.TheVariants.BadLine, ScriptError.TheVariants.OutOfMemory}
 
--- what a script's line and those behind it come to
+-- the meaning of a script's line and of those after it
 goes_on : ℕ → List (List ℕ) → Option ScriptState → Script
 goes_on number rest None = bad_line number
 goes_on number rest (Some after) = script_from (suc number) after rest
@@ -33,11 +33,11 @@ unfolding goes_on
 line_is_good number before after line rest good =
     one_line number rest (after_line number before line) ∙ ap (goes_on number rest) good ∙ ap (λ n. script_from n after rest) (sym (add-one number))
 
--- what follows a line is shorter
+-- the text after a line is shorter
 pub shorter : (bytes line rest : List ℕ) → IsCut line_feed bytes line rest → length rest < length bytes
 shorter bytes line rest cut = rw cut.0 (omega (arith, length-append line (line_feed ∷ rest)))
 
--- the first line that ends is that of the bytes, whatever stands behind them
+-- the first line that ends is that of the bytes, whatever follows them
 first_more : (bytes line rest more : List ℕ) → IsCut line_feed bytes line rest → cut_at line_feed (bytes ++ more) ≡ line ∷ cut_at line_feed (rest ++ more)
 first_more bytes line rest more cut =
     cut_cut line_feed (bytes ++ more) line (rest ++ more) (ap (λ (b : List ℕ). b ++ more) cut.0 ∙ append_assoc line (line_feed ∷ rest) more, cut.1)
@@ -56,7 +56,7 @@ pub good_first : (number : ℕ) (before after : ScriptState) (bytes line rest mo
 good_first number before after bytes line rest more cut good =
     ap (script_from number before) (first_more bytes line rest more cut) ∙ line_is_good number before after line (cut_at line_feed (rest ++ more)) good
 
--- the last line, behind which nothing stands
+-- the last line, which nothing follows
 pub fault_last : (error : ScriptError) (number : ℕ) (before : ScriptState) (line : List ℕ) → IsFree line_feed line
     → IsFaultAt error number (after_line number before line) → IsFaultOf error (script_after_lines number before line)
 fault_last (BadLine reported) number before line free fault =
@@ -68,7 +68,7 @@ pub good_last : (number : ℕ) (before after : ScriptState) (line : List ℕ) �
 good_last number before after line free good =
     ap (script_from number before) (cut_free line_feed line free) ∙ line_is_good number before after line [] good
 
--- where nothing follows, the last line is all that is left
+-- if nothing follows, the last line is the whole rest
 pub left_alone : (number : ℕ) (before : ScriptState) (bytes : List ℕ) (next : ℕ) (after : ScriptState) (last : List ℕ)
     → LeavesLastLine number before bytes next after last
     → script_after_lines number before bytes ≡ script_after_lines next after last
@@ -80,7 +80,7 @@ pub fault_alone : (error : ScriptError) (number : ℕ) (before : ScriptState) (b
     → IsFaultOf error (script_after_lines number before bytes)
 fault_alone error number before bytes fault = subst (λ all. IsFaultOf error (script_after_lines number before all)) (append-nil bytes) fault
 
--- what is so of an error is so of the answer by which `?` returns it
+-- a fact about an error is one about the answer by which `?` returns it
 pub exit_with : {T E : Type 0} (P : E → Type 0) (error : E) (answer : Result T E) → IsErr answer × IsErrAnd answer (λ given. given ≡ error) → P error
     → IfErr answer P
 exit_with P error (Ok value) is holds = tt

@@ -1,4 +1,4 @@
--- What a search of bytes tells of the prefix before the byte that it found.
+-- The prefix before the byte that a search found.
 use Rattle.yaml_tool.proofs.Common.{suc, ℕ, ◌+◌, ◌-◌, ◌<◌, ◌≤◌, ◌==◌, drop, length, take, Bool, false, true, ◌||◌, List, [], ◌++◌, ◌∷◌, refl, ◌≡◌, append-nil}
 use Rattle.yaml_tool.proofs.Common.{take-append-drop, ap, subst, sym, ◌∙◌, add-one, arith, nat_tests, list_any-append, IsUtf8-take, encodes-chars, encode_utf8}
 use Rattle.yaml_tool.proofs.Common.{list_any, IsUtf8, chars, encode_utf8_all, Nowhere, NoneBefore, Passes, is_byte2, line_feed, IsFree, IsCut, SkipsTo}
@@ -36,7 +36,7 @@ pub one_line : (bytes : List ℕ) → Nowhere (Passes (is_byte line_feed) bytes)
 one_line bytes none = ap (list_any (is_byte line_feed)) (sym (take_all (length bytes) bytes (le_refl (length bytes))))
     ∙ none_before (is_byte line_feed) bytes (length bytes) (le_refl (length bytes)) none
 
--- an ASCII sign stands among characters only where its byte does
+-- an ASCII sign is among characters only if its byte is
 free_characters : (test : ℕ → Bool) (delimiter : ℕ) (text : List ℕ) → delimiter < 128 → test delimiter ≡ true → list_any test (encode_utf8_all text) ≡ false
     → IsFree delimiter text
 free_characters test delimiter [] ascii passes none = refl
@@ -76,7 +76,7 @@ skips first second text prefix end first_ascii second_ascii all is_prefix is_end
 delimiter_is_ascii : (first second byte : ℕ) → first < 128 → second < 128 → is_byte2 first second byte ≡ true → byte < 128
 delimiter_is_ascii first second byte first_ascii second_ascii passes = grind (arith, nat_tests, passes, first_ascii, second_ascii)
 
--- a text ends in what stands from one of two signs on
+-- a text ends with its part from one of two signs on
 pub delimiter_found : (first second : ℕ) (text end : List ℕ) (place : ℕ) → IsUtf8 text → first < 128 → second < 128
     → NoneBefore (Passes (is_byte2 first second) text) 0 (length text) place × Passes (is_byte2 first second) text place
     → end ≡ drop place text → SkipsTo first second text end

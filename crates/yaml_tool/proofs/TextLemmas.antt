@@ -9,7 +9,7 @@ use Rattle.yaml_base.specs.scripts.Script.{text_step}
 use Rattle.yaml_tool.{proofs.CharacterLemmas.passed_to, proofs.CutLemmas.neither, specs.Texts.ReadsPrefix}
 use Rattle.yaml_base.specs.scripts.Script as notation
 
--- what a turn and the characters behind it are read as
+-- the reading of a turn and the characters after it
 abbrev pub read_turn : notation.QuotedStep → Text → Option Text
 read_turn (goes_on next) rest = text_from next rest
 read_turn (stands_for character) rest = option_map (λ value. character ∷ value) (text_from at_character rest)
@@ -83,7 +83,7 @@ pub nothing_before : {A : Type 0} (text : String A) (read : Option Text) → str
 nothing_before text None empty = refl
 nothing_before text (Some more) empty = ap (λ (prefix : List ℕ). Some (prefix ++ more)) (sym (ap chars empty ∙ chars-nil))
 
--- characters other than a quotation mark and a backslash stand for themselves
+-- characters other than a quotation mark and a backslash mean themselves
 pub reads_prefix : (prefix behind : Text) → IsFree quotation_mark prefix → IsFree backslash prefix → ReadsPrefix (prefix ++ behind) prefix behind
 reads_prefix [] behind no_exclamation no_backslash = go (text_from at_character behind)
   where
@@ -111,7 +111,7 @@ reads_prefix (c ∷ prefix) behind no_exclamation no_backslash =
     go None = refl
     go (Some more) = refl
 
--- so does what stands before the first of them
+-- so do the characters before the first of them
 reads_skipped : (text behind prefix : List ℕ) → IsUtf8 text → SkipsTo quotation_mark backslash text behind → prefix ≡ prefix_of text behind
     → ReadsPrefix (chars text) (chars prefix) (chars behind)
 reads_skipped text behind prefix is skipped begins =
@@ -132,7 +132,7 @@ prefix_taken text grown prefix whole behind is grows reads = ap (option_map (λ 
     go None = refl
     go (Some more) = ap (λ (t : Text). Some t) (sym (append_assoc (chars text) (chars prefix) more) ∙ ap (λ (t : Text). t ++ more) (sym seen))
 
--- a string that has grown by what stands before the first of them
+-- a string that has grown by the characters before the first of them
 pub skipped_taken : {A : Type 0} (text grown : String A) (rest behind prefix : List ℕ) → IsUtf8 rest → SkipsTo quotation_mark backslash rest behind
     → prefix ≡ prefix_of rest behind → string_bytes grown ≡ string_bytes text ++ prefix
     → option_map (λ more. seen_text text ++ more) (text_from at_character (chars rest))

@@ -8,7 +8,7 @@ use Rattle.yaml_tool.specs.declared.answers.Fault.TheVariants as faults
 use Rattle.yaml_tool.specs.declared.answers.run_answer_t.{run_answer_t}
 use Rattle.yaml_tool.specs.declared.answers.run_answer_t.TheVariants.{Done, Refused, BadLine, ReadFailed, WriteFailed, NoMemory}
 
--- 0 for a whole stream, 1 for a refusal, 2 for a bad line, 3 where reading, writing or memory failed
+-- the exit status: 0 for a whole stream, 1 for a refusal, 2 for a bad line, 3 if reading, writing or memory failed
 abbrev pub status_of : run_answer_t → ℕ
 status_of Done = 0
 status_of (Refused line error) = 1
@@ -17,7 +17,7 @@ status_of ReadFailed = 3
 status_of WriteFailed = 3
 status_of NoMemory = 3
 
--- what went wrong; nothing for a whole stream
+-- the error of an answer; none for a whole stream
 abbrev pub answer_fault : run_answer_t → Option Fault
 answer_fault Done = None
 answer_fault (Refused line error) = Some (faults.Refused line error)
@@ -26,7 +26,7 @@ answer_fault ReadFailed = Some faults.ReadFailed
 answer_fault WriteFailed = Some faults.WriteFailed
 answer_fault NoMemory = Some faults.NoMemory
 
--- what went wrong, in words
+-- the message of an error
 abbrev pub fault_text : Fault → Text
 fault_text (faults.Refused line error) = codes "yamlemit: line " ++ decimal line ++ codes ": " ++ display_text error
 fault_text (faults.BadLine line) = codes "yamlemit: line " ++ decimal line ++ codes ": cannot be read"
@@ -34,7 +34,7 @@ fault_text faults.ReadFailed = codes "yamlemit: cannot read"
 fault_text faults.WriteFailed = codes "yamlemit: cannot write"
 fault_text faults.NoMemory = codes "yamlemit: out of memory"
 
--- a line of its words; nothing where nothing went wrong
+-- the line of an error's message; empty without an error
 abbrev pub fault_line : Option Fault → Text
 fault_line None = []
 fault_line (Some fault) = fault_text fault ++ line_feed ∷ []

@@ -1,4 +1,4 @@
--- What contracts see of the fields of events.
+-- The view of the fields of events in contracts.
 use Rattle.std.specs.Prelude.{Bool, Option, None, [], ◌∷◌, option_map, option_and_then, List, codes}
 use Rattle.yaml_base.specs.Characters.{Text}
 use Rattle.yaml_base.specs.Event.{Event, ScalarStyle, Collection, CollectionStyle, any_layout, block, flow, stream_end, sequence_start}
@@ -25,7 +25,7 @@ event_word name.SequenceEnd = codes "-SEQ"
 event_word name.MappingStart = codes "+MAP"
 event_word name.MappingEnd = codes "-MAP"
 
--- the event that a name and its fields give, where these have a reading
+-- the event of a name and its fields, if these have a meaning
 abbrev pub event_by : EventName → Option (List Field) → Option Event
 event_by name.StreamStart fields = option_and_then stream_start_of fields
 event_by name.StreamEnd fields = option_and_then (alone stream_end) fields
@@ -38,7 +38,7 @@ event_by name.SequenceEnd fields = option_and_then (alone sequence_end) fields
 event_by name.MappingStart fields = option_map mapping_start (option_and_then collection_of fields)
 event_by name.MappingEnd fields = option_and_then (alone mapping_end) fields
 
--- the scalar that a style, two flags and the fields behind them give: an anchor, a tag, a value
+-- the scalar of a style, two flags and the fields after them: an anchor, a tag, a value
 abbrev pub scalar_from : Option ScalarStyle → Option Bool → Option Bool → List Field → Option Event
 scalar_from style plain_implicit quoted_implicit (anchor ∷ tag ∷ quoted value ∷ []) =
     scalar_with style plain_implicit quoted_implicit (text_or_none anchor) (text_or_none tag) value

@@ -1,4 +1,4 @@
--- What contracts see of the fields of a line, which are read one after another.
+-- The view of the fields of a line, which are read one after another.
 use Rattle.std.specs.Prelude.{ℕ, suc, ◌≡◌, ⊤, Option, None, Some, List, [], ◌∷◌, length, option_map, codes}
 use Rattle.std.specs.Borrow.{Bor}
 use Rattle.std.specs.List.{onto_first}
@@ -10,71 +10,71 @@ use Rattle.yaml_tool.specs.Cuts.{EndsIn, prefix_of}
 use Rattle.yaml_tool.specs.declared.fields.FieldState.{FieldState}
 use Rattle.yaml_tool.specs.declared.fields.FieldState.TheVariants.{Outside, Inside, Escaped}
 
--- where a character of a line stands
+-- the state at a character of a line
 abbrev pub seen_field_state : FieldState → notation.FieldState
 seen_field_state Outside = outside
 seen_field_state Inside = inside
 seen_field_state Escaped = escaped
 
--- characters before the first piece
+-- the pieces with these characters before the first
 abbrev pub prepend_to_first_piece : Text → List Text → List Text
 prepend_to_first_piece [] pieces = pieces
 prepend_to_first_piece (c ∷ prefix) pieces = onto_first c (prepend_to_first_piece prefix pieces)
 
--- the text ends in a text before which no character separates or changes where the next one stands
+-- the text ends with `end`, and no character before that separates fields or changes the state
 pub record SkipsRunTo (standing : notation.FieldState) (text end : List ℕ) : Type 0 where
   pub ends : EndsIn text end
   pub is_end : IsUtf8 end
   pub run : pieces_from standing (chars text) ≡ prepend_to_first_piece (chars (prefix_of text end)) (pieces_from standing (chars end))
 
--- ---- what is left of a line
+-- ---- the rest of a line
 
 -- the fields after a field: none at the end of the line, or those after the separator
 abbrev pub later_fields : Option (Bor (List ℕ)) → Option (List notation.Field)
 later_fields None = Some []
 later_fields (Some rest) = notation.fields_read (chars rest.now)
 
--- how much is left, the separator with what follows it
+-- the length of the rest, with its separator
 abbrev pub left_length : Option (Bor (List ℕ)) → ℕ
 left_length None = 0
 left_length (Some rest) = suc (length rest.now)
 
--- a field before others, where these have a reading
+-- a field before others, if these have a meaning
 abbrev pub prepend_field : notation.Field → Option (List notation.Field) → Option (List notation.Field)
 prepend_field field fields = option_map (λ others. field ∷ others) fields
 
 -- ---- the next field
 
--- there is a field, or no reading
-abbrev pub HasField : Option (List notation.Field) → Type 0
-HasField (Some []) = ⊥
-HasField _ = ⊤
+-- there is a field, or the line has no meaning
+abbrev pub FieldOrUnparsed : Option (List notation.Field) → Type 0
+FieldOrUnparsed (Some []) = ⊥
+FieldOrUnparsed _ = ⊤
 
--- the first field is no word
+-- there is no first field that is a word
 abbrev pub HasNoWord : Option (List notation.Field) → Type 0
 HasNoWord (Some (bare word ∷ rest)) = ⊥
 HasNoWord _ = ⊤
 
--- the first field is no text
+-- there is no first field that is a text
 abbrev pub HasNoText : Option (List notation.Field) → Type 0
 HasNoText (Some (quoted text ∷ rest)) = ⊥
 HasNoText _ = ⊤
 
--- the field that stands for no text
+-- the field that means no text
 abbrev pub no_text : notation.Field
 no_text = bare (codes "-")
 
--- the field that stands for a text or for none
+-- the field of a text, or of none
 abbrev pub field_of : Option Text → notation.Field
 field_of None = no_text
 field_of (Some text) = quoted text
 
--- the first field stands for no text and for none
+-- there is no first field that is a text or means none
 abbrev pub HasNoChoice : Option (List notation.Field) → Type 0
 HasNoChoice (Some (field ∷ rest)) = notation.text_or_none field ≡ None
 HasNoChoice _ = ⊤
 
--- the only field, where it is a word
+-- the only field, if it is a word
 abbrev pub only_word : List notation.Field → Option Text
 only_word (bare word ∷ []) = Some word
 only_word _ = None

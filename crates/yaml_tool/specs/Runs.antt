@@ -1,4 +1,4 @@
--- The result of a run: what it says of the script that was read and of what was written.
+-- The result of a run, by the script that was read and the bytes that were written.
 use Rattle.std.specs.Prelude.{◌≡◌, ◌⊎◌, ℕ, ⊤, None, Some, Option, Ok, Err, List, [], ◌∷◌, ◌++◌, map}
 use Rattle.std.specs.Io.KnownBytes.{Appends, Keeps, IsAtEnd}
 use Rattle.yaml_base.specs.Settings.{Settings}
@@ -21,15 +21,15 @@ events_in all = map (λ (numbered : Numbered). numbered.event) all
 
 -- ---- the emitter that a script's events were given
 
--- no call answered an error, and all that is written is flushed
+-- no call returned an error, and all written text is flushed
 pub record EmitsScript (given : Settings) (all : List Numbered) (state : State) : Type 0 where
   pub stands : StandsAfter given (events_in all) state
   pub promised : Promised given (events_in all) state
   pub no_error : state.error ≡ None
   pub flushed_whole : HasAllBytes given (events_in all) state
 
--- the call that was given this line's event is the first that answered an error, this one, and no event after it was given;
--- nothing that was written before it is lost, and all bytes of the documents that were complete before it are written
+-- the call with this line's event is the first that returned an error, this one, and no event after it was given;
+-- all bytes that were written before it are kept, and all bytes of the documents that were complete before it are written
 pub record RefusesAt (given : Settings) (all : List Numbered) (line : ℕ) (error : yaml_error_t) (state : State) : Type 0 where
   pub before : List Numbered
   pub event : Event
@@ -42,8 +42,8 @@ pub record RefusesAt (given : Settings) (all : List Numbered) (line : ℕ) (erro
   pub promised : Promised given (events_in before ++ event ∷ []) state
   pub documents : KeepsDocuments given (events_in before) state.page.output
 
--- every event was taken without an error, and the flush after the last, of this line, answered this one; nothing is lost, all
--- bytes of the documents that are complete are written, and where memory was refused the output is as it was
+-- every event was taken without an error, and the flush after the last, of this line, returned this error; nothing is lost, all
+-- bytes of the documents that are complete are written, and if memory failed the output is as it was
 pub record FlushFails (given : Settings) (all : List Numbered) (line : ℕ) (error : yaml_error_t) (state : State) : Type 0 where
   pub before : List Numbered
   pub event : Event
@@ -56,31 +56,31 @@ pub record FlushFails (given : Settings) (all : List Numbered) (line : ℕ) (err
   pub documents : KeepsDocuments given (events_in all) state.page.output
   pub unflushed : error ≡ Memory → state.page.output ≡ earlier.page.output
 
--- what an answer says of the emitter
+-- the emitter after a run with this answer
 abbrev pub Emits : Settings → List Numbered → run_answer_t → State → Type 0
 Emits given all Done state = EmitsScript given all state
 Emits given all (Refused line error) state = RefusesAt given all line error state ⊎ FlushFails given all line error state
 Emits given all answer state = ⊥
 
--- ---- the whole run, by what was read and by the writer's bytes before and after it
+-- ---- the whole run, by the script that was read and by the writer's bytes before and after it
 
 -- the output of an emitter that was given the events was appended
 abbrev pub WritesOutput : Settings → List Numbered → run_answer_t → Option (List ℕ) → Option (List ℕ) → Type 0
 WritesOutput given all answer old new = (state : State) × Emits given all answer state × Appends old new state.page.output
 
--- a beginning of the output of such an emitter was appended
+-- a prefix of the output of such an emitter was appended
 abbrev pub WritesBeginning : Settings → List Numbered → Option (List ℕ) → Option (List ℕ) → Type 0
 WritesBeginning given all old new =
     (answer : run_answer_t) × (state : State) × Emits given all answer state × AppendsFirst old new state.page.output
 
--- what an answer says of a script's first bad line, unless reading or memory failed
+-- the answer for a script's first bad line, unless reading or memory failed
 abbrev pub AnswersBadLine : ℕ → run_answer_t → Type 0
 AnswersBadLine number (BadLine line) = line ≡ number
 AnswersBadLine number ReadFailed = ⊤
 AnswersBadLine number NoMemory = ⊤
 AnswersBadLine number answer = ⊥
 
--- what an answer says of a script's events, unless reading or memory failed
+-- the answer for a script's events, unless reading or memory failed
 abbrev pub AnswersEvents : Settings → List Numbered → run_answer_t → Option (List ℕ) → Option (List ℕ) → Type 0
 AnswersEvents given all (BadLine line) old new = ⊥
 AnswersEvents given all ReadFailed old new = ⊤
@@ -88,12 +88,12 @@ AnswersEvents given all WriteFailed old new = WritesBeginning given all old new
 AnswersEvents given all NoMemory old new = ⊤
 AnswersEvents given all answer old new = WritesOutput given all answer old new
 
--- what an answer says of a script
+-- the answer for a script
 abbrev pub AnswersScript : Script → run_answer_t → Option (List ℕ) → Option (List ℕ) → Type 0
 AnswersScript (bad_line number) answer old new = AnswersBadLine number answer
 AnswersScript (understood given all) answer old new = AnswersEvents given all answer old new
 
--- nothing is written where no event was emitted
+-- nothing is written if no event was emitted
 abbrev pub WritesNothing : run_answer_t → Option (List ℕ) → Option (List ℕ) → Type 0
 WritesNothing (BadLine line) old new = Keeps old new
 WritesNothing ReadFailed old new = Keeps old new
@@ -108,25 +108,25 @@ ReadsAll answer left = IsAtEnd left
 
 -- ---- parts of a run
 
--- why no script was understood
+-- the reason why a script has no meaning
 abbrev pub IsFault : run_answer_t → Script → Type 0
 IsFault (BadLine line) script = script ≡ bad_line line
 IsFault ReadFailed script = ⊤
 IsFault NoMemory script = ⊤
 IsFault answer script = ⊥
 
--- the last of some events stands on this line
+-- the last of some events has this line
 pub record EndsOnLine (all : List Numbered) (line : ℕ) : Type 0 where
   pub before : List Numbered
   pub event : Event
   pub parts : before ++ record { line = line; event = event } ∷ [] ≡ all
 
--- the line of the last event, where there is one; before the first nothing is flushed
+-- the line of the last event, if there is one; before the first nothing is flushed
 abbrev pub LastLine : List Numbered → Option ℕ → State → Type 0
 LastLine all None state = (all ≡ []) × (state.page.output ≡ [])
 LastLine all (Some line) state = EndsOnLine all line
 
--- what the last flush does, given the line of its call
+-- the effect of the last flush, with the line of its call
 abbrev pub FlushesLast : ℕ → State → run_answer_t → State → Type 0
 FlushesLast line before Done after =
     Moves before [] (Ok tt) after × ((given : Settings) (all : List Event) → StandsAfter given all before → HasAllBytes given all after)

@@ -1,4 +1,4 @@
--- What contracts see of a setting's line.
+-- The view of a setting's line in contracts.
 use Rattle.std.specs.Prelude.{Bool}
 use Rattle.yaml_base.specs.scripts.Script as notation
 use Rattle.yaml_base.specs.scripts.Script.{limit_set, encoding_set, canonical_set, unicode_set, indent_set, width_set, break_set, breaks12_set, portable_set}
@@ -22,6 +22,6 @@ seen_setting (Portable on) = portable_set on
 seen_setting (IndentedSequences indented) = sequences_set indented
 seen_setting (LiteralBlanks literal) = blanks_set literal
 
--- two settings have one name
+-- true if two settings have one name
 abbrev pub sets_same : notation.Setting → notation.Setting → Bool
 sets_same setting other = notation.is_word (notation.setting_name setting) (notation.setting_name other)

@@ -1,4 +1,4 @@
--- What a step of the reading of a text says of the reading of the whole.
+-- The meaning of a step in reading a text for the reading of the whole.
 use Rattle.std.specs.Prelude.{List, ◌≡◌, ℕ, ◌<◌, Option, None, Some, [], ◌∷◌, ◌++◌, length, option_map}
 use Rattle.std.specs.Str.{chars, IsUtf8}
 use Rattle.yaml_base.specs.Characters.{Text}
@@ -12,7 +12,7 @@ abbrev pub step_of : Option ℕ → notation.QuotedStep
 step_of None = fails
 step_of (Some character) = stands_for character
 
--- what is read: an end reads as nothing more, a character stands before what the shorter rest reads as, a fault has no reading
+-- the reading of a text by its first step: the end of the text; a character before the shorter rest; or a fault, which has no reading
 abbrev pub StepsTo : TextStep → Option Text → List ℕ → Type 0
 StepsTo Ends read behind = read ≡ Some []
 StepsTo (StandsFor character rest) read behind =
@@ -20,7 +20,7 @@ StepsTo (StandsFor character rest) read behind =
     × IsUtf8 rest.now
 StepsTo Fails read behind = read ≡ None
 
--- a text reads as its prefix, which stands for itself, and then what stands behind it
+-- a text reads as its prefix, which means itself, before the rest
 abbrev pub ReadsPrefix : Text → Text → Text → Type 0
 ReadsPrefix whole prefix behind =
     notation.text_from notation.at_character whole ≡ option_map (λ more. prefix ++ more) (notation.text_from notation.at_character behind)

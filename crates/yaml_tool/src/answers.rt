@@ -13,7 +13,7 @@ use yaml_base::yaml_error_t;
 pub enum run_answer_t {
     /// The whole stream was written.
     Done,
-    /// The call with this line's event returned this error, or the last flush did; then it is the last event's line.
+    /// The call with the event of this line returned this error. If the last flush failed, the line is that of the last event.
     Refused(u64, yaml_error_t),
     /// This line cannot be parsed.
     BadLine(u64),
@@ -47,7 +47,7 @@ enum Fault {
     NoMemory,
 }
 
-/// The program's words. A message in `#[error(..)]` would state no `output`.
+/// The message of each error. A message in `#[error(..)]` would state no `output`.
 impl fmt::Display for Fault {
     ghost output = { λ fault. Some (fault_text fault) };
 
@@ -62,7 +62,7 @@ impl fmt::Display for Fault {
     }
 }
 
-/// Writes the same words: an `Error` has a `Debug`.
+/// Writes the same message, since an `Error` has a `Debug`.
 impl fmt::Debug for Fault {
     fn fmt<W: fmt::Write>(&self, f: &mut fmt::Formatter<W>) -> fmt::Result {
         fmt::Display::fmt(self, f)
@@ -73,7 +73,7 @@ impl fmt::Debug for Fault {
 ///
 /// # Errors
 ///
-/// Returns the writer's error.
+/// The writer's error.
 pub fn write_line<W: Write>(answer: &run_answer_t, writer: &mut W) -> io::Result<()>
     ensures done { answer.now ≡ run_answer_t.Done → IsOk result × (W.contents writer.new ≡ W.contents writer.old) }
     ensures line { OnOk result (Appends (W.contents writer.old) (W.contents writer.new) (answer_line answer.now)) }

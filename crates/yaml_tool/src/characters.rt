@@ -1,4 +1,4 @@
-//! Texts cut at characters.
+//! Divides texts at characters.
 ghost use Rattle.std.specs.Prelude.{◌≡◌, ◌++◌, ◌∷◌, ◌<◌, [], length, IfSome, MatchOption};
 ghost use Rattle.std.specs.Char.{encode_utf8};
 ghost use Rattle.std.specs.Str.{chars, IsUtf8};
@@ -6,7 +6,7 @@ ghost use Rattle.yaml_tool.specs.Cuts.{IsFree, IsCut, EndsIn, SkipsTo, prefix_of
 
 use memchr::memchr2;
 
-/// Returns the first character, and the text after it.
+/// Returns the first character, and the text after it; `None` if the text is empty.
 pub fn first_character(text: &str) -> Option<(char, &str)>
     ensures characters { MatchOption result (chars text.now ≡ []) (λ parts. chars text.now ≡ parts.0 ∷ chars parts.1.now) }
     ensures bytes { IfSome result (λ parts. text.now ≡ encode_utf8 parts.0 ++ parts.1.now) }
@@ -20,7 +20,7 @@ pub fn first_character(text: &str) -> Option<(char, &str)>
     }
 }
 
-/// Returns the part of `text` before `end`, in which it ends.
+/// Returns the part of `text` before `end`. The text ends with `end`.
 pub fn prefix_before<'a>(text: &'a str, end: &str) -> &'a str
     requires { EndsIn text.now end.now }
     ensures { result.now ≡ prefix_of text.now end.now }
@@ -53,7 +53,7 @@ pub fn skip_word(text: &str) -> &str
     ""
 }
 
-/// Returns the texts before and after the first occurrence of a character.
+/// Returns the texts before and after the first occurrence of a character; `None` if there is none.
 pub fn cut_once(delimiter: char, text: &str) -> Option<(&str, &str)>
     ensures cut { MatchOption result (IsFree delimiter (chars text.now)) (λ parts. IsCut delimiter (chars text.now) (chars parts.0.now) (chars parts.1.now)) }
     ensures shorter { IfSome result (λ parts. length parts.1.now < length text.now) }

@@ -27,7 +27,7 @@ fn split_version(word: &str) -> Option<(&str, &str)>
     }
 }
 
-/// Parses a version, `major.minor`, or `-` for none.
+/// Parses a version, `major.minor`, or `-` for none; `None` if the word is neither.
 pub fn version_or_none(word: &str) -> Option<Option<yaml_version_directive_t>>
     ensures { option_map (λ version. option_map seen_version version) result ≡ notation.version_or_none (chars word.now) }
 {
@@ -42,6 +42,10 @@ pub fn version_or_none(word: &str) -> Option<Option<yaml_version_directive_t>>
 }
 
 /// Returns pairs of texts, each a handle and its prefix; `None` if a field is no text, or the last handle has no prefix.
+///
+/// # Errors
+///
+/// `AllocError` if an allocation fails.
 pub fn directives_of<A: Allocator + Copy>(
     alloc: A,
     rest: Option<&str>,

@@ -15,7 +15,7 @@ use std::alloc::{AllocError, Allocator};
 use yaml_base::{yaml_event_t, yaml_mapping_style_t, yaml_scalar_style_t, yaml_sequence_style_t};
 use yaml_emitter::CollectionKind;
 
-/// Parses what follows `+STR`: an encoding.
+/// Parses the fields of `+STR`: an encoding.
 fn stream_start_of<A: Allocator>(rest: Option<&str>) -> Option<yaml_event_t<A>>
     ensures { option_map seen_event result ≡ option_and_then notation.stream_start_of (later_fields rest.entry) }
 {
@@ -23,7 +23,7 @@ fn stream_start_of<A: Allocator>(rest: Option<&str>) -> Option<yaml_event_t<A>>
     Some(yaml_event_t::YAML_STREAM_START_EVENT { encoding })
 }
 
-/// Parses what follows `+DOC`: whether it is implicit, a version, directives.
+/// Parses the fields of `+DOC`: whether it is implicit, a version, directives.
 fn document_start_of<A: Allocator + Copy>(
     alloc: A,
     rest: Option<&str>,
@@ -50,7 +50,7 @@ fn document_start_of<A: Allocator + Copy>(
     }))
 }
 
-/// Parses what follows `-DOC`: whether it is implicit.
+/// Parses the field of `-DOC`: whether it is implicit.
 fn document_end_of<A: Allocator>(rest: Option<&str>) -> Option<yaml_event_t<A>>
     ensures { option_map seen_event result ≡ option_and_then notation.document_end_of (later_fields rest.entry) }
 {
@@ -58,7 +58,7 @@ fn document_end_of<A: Allocator>(rest: Option<&str>) -> Option<yaml_event_t<A>>
     Some(yaml_event_t::YAML_DOCUMENT_END_EVENT { implicit })
 }
 
-/// Parses what follows `=ALI`: a name.
+/// Parses the field of `=ALI`: a name.
 fn alias_of<A: Allocator>(
     alloc: A,
     rest: Option<&str>,
@@ -74,7 +74,7 @@ fn alias_of<A: Allocator>(
     Ok(Some(yaml_event_t::YAML_ALIAS_EVENT { anchor }))
 }
 
-/// The style and the flags of a scalar, each `None` if it was not understood.
+/// The style and the flags of a scalar, each `None` if it has no meaning.
 #[derive(Clone, Copy)]
 struct ScalarWords {
     style: Option<yaml_scalar_style_t>,
@@ -91,7 +91,7 @@ struct ScalarFields<A: Allocator> {
     value: String<A>,
 }
 
-/// Returns a scalar; `None` if its style or a flag was not understood.
+/// Returns a scalar; `None` if its style or a flag has no meaning.
 // A call hands its event over in memory, and most lines give scalars.
 #[inline(always)]
 fn scalar_with<A: Allocator>(fields: ScalarFields<A>) -> Option<yaml_event_t<A>>
@@ -117,7 +117,7 @@ fn scalar_with<A: Allocator>(fields: ScalarFields<A>) -> Option<yaml_event_t<A>>
     })
 }
 
-/// Parses what follows a scalar's words: an anchor, a tag, a value.
+/// Parses the fields after a scalar's words: an anchor, a tag, a value.
 fn scalar_from<A: Allocator + Copy>(
     alloc: A,
     words: ScalarWords,
@@ -146,7 +146,7 @@ fn scalar_from<A: Allocator + Copy>(
     }))
 }
 
-/// Parses what follows `=VAL`: a style, the plain and the quoted flag, an anchor, a tag, a value.
+/// Parses the fields of `=VAL`: a style, the plain and the quoted flag, an anchor, a tag, a value.
 #[inline(never)]
 fn scalar_of<A: Allocator + Copy>(
     alloc: A,
@@ -171,7 +171,7 @@ fn scalar_of<A: Allocator + Copy>(
     scalar_from(alloc, words, rest)
 }
 
-/// The fields of a collection's start; its style and its flag are `None` if they were not understood.
+/// The fields of a collection's start; its style and its flag are `None` if they have no meaning.
 #[derive(Drop)]
 struct CollectionFields<A: Allocator> {
     style: Option<CollectionStyle>,
@@ -180,7 +180,7 @@ struct CollectionFields<A: Allocator> {
     tag: Option<String<A>>,
 }
 
-/// Returns a collection's start; `None` if its style or its flag was not understood.
+/// Returns a collection's start; `None` if its style or its flag has no meaning.
 fn collection_with<A: Allocator>(
     kind: CollectionKind,
     fields: CollectionFields<A>,
@@ -218,7 +218,7 @@ fn collection_with<A: Allocator>(
     })
 }
 
-/// Parses what follows `+SEQ` and `+MAP`: a style, whether it is implicit, an anchor, a tag.
+/// Parses the fields of `+SEQ` and `+MAP`: a style, whether it is implicit, an anchor, a tag.
 fn collection_start_of<A: Allocator + Copy>(
     alloc: A,
     kind: CollectionKind,
@@ -254,6 +254,10 @@ fn collection_start_of<A: Allocator + Copy>(
 }
 
 /// Parses the fields of an event; `None` if they are not its fields.
+///
+/// # Errors
+///
+/// `AllocError` if an allocation fails.
 pub fn event_of<A: Allocator + Copy>(
     alloc: A,
     name: EventName,

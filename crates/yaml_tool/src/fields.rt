@@ -1,12 +1,12 @@
 //! The fields of a script's line, read one after another.
 //!
-//! What is left of a line is an `Option<&str>`: what follows the separator, or `None` at the line's end.
+//! The rest of a line is an `Option<&str>`: the text after the separator, or `None` at the line's end.
 ghost use Rattle.std.specs.Prelude.{◌≡◌, ◌<◌, ◌≤◌, true, false, Some, [], IfOk, IfSome, MatchOption, length, option_map, option_and_then};
 ghost use Rattle.std.specs.Str.{chars, IsUtf8};
 ghost use Rattle.yaml_base.specs.scripts.Script as notation;
 ghost use Rattle.yaml_base.specs.Seen.{seen_text};
 ghost use Rattle.yaml_tool.specs.Fields.{seen_field_state, SkipsRunTo, later_fields, left_length, prepend_field, field_of, only_word};
-ghost use Rattle.yaml_tool.specs.Fields.{HasField, HasNoWord, HasNoText, HasNoChoice};
+ghost use Rattle.yaml_tool.specs.Fields.{FieldOrUnparsed, HasNoWord, HasNoText, HasNoChoice};
 
 use crate::characters::{first_character, from_delimiter, prefix_before, skip_word};
 use crate::texts::text_after_quote;
@@ -25,7 +25,7 @@ enum FieldState {
 }
 
 impl FieldState {
-    /// Skips characters that separate no fields and leave the state as it is.
+    /// Skips characters that separate no fields and keep the state.
     fn skip_run(self, text: &str) -> &str
         ensures { SkipsRunTo (seen_field_state self) text.now result.now }
     {
@@ -36,7 +36,7 @@ impl FieldState {
         }
     }
 
-    /// Returns the state after a character, unless this separates two fields.
+    /// Returns the state after a character, unless the character separates two fields.
     fn after(self, character: char) -> Option<FieldState>
         ensures { MatchOption result (notation.separates (seen_field_state self) character ≡ true)
             (λ next. (notation.separates (seen_field_state self) character ≡ false)
@@ -56,12 +56,12 @@ impl FieldState {
 /// Returns whether no field is left.
 pub fn is_end(rest: Option<&str>) -> bool
     ensures yes { result ≡ true → later_fields rest.entry ≡ Some [] }
-    ensures no { result ≡ false → HasField (later_fields rest.entry) }
+    ensures no { result ≡ false → FieldOrUnparsed (later_fields rest.entry) }
 {
     rest.is_none()
 }
 
-/// Splits a line at its first separator: returns the first field as it is written, and what is left.
+/// Splits a line at its first separator: returns the first field as it is written, and the rest.
 #[inline(always)]
 fn first_field(line: &str) -> (&str, Option<&str>)
     ensures cut { notation.fields_read (chars line.now) ≡ notation.field_and (notation.field_read (chars result.0.now)) (later_fields result.1) }
@@ -80,7 +80,7 @@ fn first_field(line: &str) -> (&str, Option<&str>)
     (line, None)
 }
 
-/// Returns the next field and what is left, if that field is a word.
+/// Returns the next field and the rest, if that field is a word.
 #[inline(always)]
 pub fn word_after(rest: Option<&str>) -> Option<(&str, Option<&str>)>
     ensures { MatchOption result (HasNoWord (later_fields rest.entry))
@@ -101,7 +101,11 @@ pub fn last_word(rest: Option<&str>) -> Option<&str>
     if is_end(rest) { Some(word) } else { None }
 }
 
-/// Returns the value of the next field and what is left, if that field is a text.
+/// Returns the value of the next field and the rest, if that field is a text.
+///
+/// # Errors
+///
+/// `AllocError` if an allocation fails.
 #[inline(always)]
 pub fn text_after<A: Allocator>(
     alloc: A,
@@ -126,7 +130,11 @@ pub fn text_after<A: Allocator>(
     }
 }
 
-/// Returns the value of the next field and what is left, if that field is a text, or `-` for none.
+/// Returns the value of the next field and the rest, if that field is a text, or `-` for none.
+///
+/// # Errors
+///
+/// `AllocError` if an allocation fails.
 #[inline(always)]
 pub fn choice_after<A: Allocator>(
     alloc: A,

@@ -1,4 +1,4 @@
-//! Scripts of YAML events: how they are read and run.
+//! Scripts of YAML events: reads and runs them.
 #![tactic(auto)]
 
 mod answers;

@@ -38,7 +38,7 @@ fn parse_setting(name: &str, rest: Option<&str>) -> Option<Setting>
 ///
 /// # Errors
 ///
-/// Returns `AllocError` if an allocation failed.
+/// `AllocError` if an allocation fails.
 pub fn parse_line<A: Allocator + Copy>(
     alloc: A,
     bytes: &[u8],

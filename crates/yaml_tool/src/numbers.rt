@@ -7,7 +7,7 @@ ghost use Rattle.yaml_tool.specs.Numbers.{number_after};
 
 use crate::characters::first_character;
 
-/// Parses `digits` in this radix: `None` above `most` or at another character, 0 if empty.
+/// Parses `digits` in this radix, which is 2 to 36: `None` above `most` or at another character, 0 if empty.
 pub fn parse_number(radix: u32, most: u32, digits: &str) -> Option<u32>
     requires least { 2 ≤ radix }
     requires greatest { radix ≤ 36 }
@@ -48,7 +48,7 @@ pub fn natural_number(word: &str) -> Option<i32>
     number_up_to(LARGEST_I32, word).map(|number| number as i32)
 }
 
-/// Parses a decimal `i32`: `-` stands before a negative one.
+/// Parses a decimal `i32`: a negative one begins with `-`.
 pub fn signed_number(word: &str) -> Option<i32>
     ensures { result ≡ notation.signed_number (chars word.now) }
 {

@@ -1,4 +1,4 @@
-//! Scripts read part by part: no more than a part and the last line is held.
+//! Scripts read part by part: only a part and the last line are held at once.
 ghost use Rattle.std.specs.Prelude.{◌≡◌, ℕ, false, List, [], ◌++◌, map, IfOk, IfErr, OnOk, IfSome};
 ghost use Rattle.std.specs.Io.KnownBytes.{IsAtEnd};
 ghost use Rattle.yaml_base.specs.scripts.Script as notation;
@@ -12,7 +12,7 @@ use memchr::memchr;
 use std::alloc::Allocator;
 use std::io::{ErrorKind, Read};
 
-/// The number of bytes that are read at once.
+/// The size of a part in bytes.
 const PART_SIZE: usize = 16_384;
 
 /// A script of which a prefix was read.
@@ -38,7 +38,7 @@ impl<A: Allocator + Copy> ScriptPrefix<A> {
         }
     }
 
-    /// Appends what follows, and parses the lines that end in it. A long line is searched at most twice.
+    /// Appends the next part, and parses the lines that end in it. A long line is searched at most twice.
     fn take_part(&mut self, alloc: A, part: &[u8]) -> Result<(), ScriptError>
         ensures taken { OnOk result ((more : List ℕ) → script_with self.old (part.now ++ more) ≡ script_with self.new more) }
         ensures fault { IfErr result (λ error. (more : List ℕ) → IsFaultOf error (script_with self.old (part.now ++ more))) }
@@ -92,7 +92,7 @@ fn after_fault<R: Read>(reader: &mut R, error: ScriptError) -> run_answer_t
         return run_answer_t::NoMemory;
     };
     let mut part = [0; PART_SIZE];
-    // No reader promises to end, so the reads are counted.
+    // A reader may never end, so the reads are counted.
     let mut turns = u64::MAX;
     while turns > 0 {
         turns -= 1;
@@ -135,6 +135,10 @@ fn read_part<A: Allocator + Copy, R: Read>(
 }
 
 /// Parses a script, and reads it to its end even if a line is bad.
+///
+/// # Errors
+///
+/// `BadLine` with the number of the first bad line, `ReadFailed` if the reader fails, `NoMemory` if memory runs out.
 pub fn read_script_from<A: Allocator + Copy, R: Read>(
     alloc: A,
     reader: &mut R,
@@ -147,7 +151,7 @@ pub fn read_script_from<A: Allocator + Copy, R: Read>(
     ensures read { IfErr result (λ answer. ReadsAll answer (R.remaining reader.new)) }
 {
     let mut script = ScriptPrefix::new(alloc);
-    // No reader promises to end, so the reads are counted.
+    // A reader may never end, so the reads are counted.
     let mut turns = u64::MAX;
     'parts: while turns > 0 {
         turns -= 1;

@@ -1,4 +1,4 @@
-//! A whole run: a script is read, its events are emitted, and the output is written.
+//! A whole run: reads a script, emits its events, and writes the output.
 ghost use Rattle.std.specs.Prelude.{◌≡◌, None, true, [], map, IfSome};
 ghost use Rattle.yaml_base.specs.scripts.Script as notation;
 ghost use Rattle.yaml_base.specs.Settings as given;
@@ -16,7 +16,7 @@ use yaml_emitter::{standing_is_promised, yaml_emitter_emit, yaml_emitter_flush, 
 
 /// Reads a script to its end, emits its events, and writes the output, even if an event was refused.
 ///
-/// After a bad line nothing is written. Where the writer fails, it has a beginning of the output, which may be empty.
+/// After a bad line nothing is written. If the writer fails, it has a prefix of the output, which may be empty.
 pub fn run<A: Allocator + Copy, R: Read, W: Write>(
     alloc: A,
     reader: &mut R,
@@ -43,7 +43,7 @@ pub fn run<A: Allocator + Copy, R: Read, W: Write>(
     }
 }
 
-/// Emits events in order up to the first error; after the last one flushes.
+/// Emits events in order up to the first error, and flushes after the last one.
 fn emit_all<A: Allocator + Copy>(
     emitter: &mut yaml_emitter_t<A>,
     events: Vec<NumberedEvent<A>, A>,

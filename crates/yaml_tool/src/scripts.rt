@@ -32,7 +32,7 @@ pub struct Script<A: Allocator> {
     pub events: Vec<NumberedEvent<A>, A>,
 }
 
-/// The reason why a script was not understood.
+/// The reason why a script has no meaning.
 #[derive(Clone, Copy, PartialEq, Eq, Debug)]
 pub enum ScriptError {
     /// Its first bad line, counted from 1.
@@ -65,7 +65,7 @@ impl<A: Allocator + Copy> Progress<A> {
     ///
     /// # Errors
     ///
-    /// Returns `BadLine` with the line's number if it is bad or not allowed there, and `OutOfMemory` if an allocation failed.
+    /// `BadLine` with the line's number if it is bad or not allowed there, and `OutOfMemory` if an allocation fails.
     fn add_line(&mut self, alloc: A, number: u64, bytes: &[u8]) -> Result<(), ScriptError>
         ensures taken { OnOk result (after_line number (seen_progress self.old) bytes.now ≡ Some (seen_progress self.new)) }
         ensures fault { IfErr result (λ error. IsFaultAt error number (after_line number (seen_progress self.old) bytes.now)) }
@@ -76,7 +76,7 @@ impl<A: Allocator + Copy> Progress<A> {
         match line {
             Some(Line::Nothing) => Ok(()),
             Some(Line::Sets(setting)) => {
-                // No event and no setting of its name came before it.
+                // A setting may follow no event, and no setting of the same name.
                 if !self.events.is_empty() || is_set(setting, self.settings.as_slice()) {
                     return Err(ScriptError::BadLine(number));
                 }
@@ -104,7 +104,7 @@ impl<A: Allocator + Copy> Progress<A> {
 ///
 /// # Errors
 ///
-/// Returns `BadLine` with the number of the first bad line, and `OutOfMemory` if an allocation failed.
+/// `BadLine` with the number of the first bad line, and `OutOfMemory` if an allocation fails.
 pub fn read_script<A: Allocator + Copy>(alloc: A, bytes: &[u8]) -> Result<Script<A>, ScriptError>
     ensures understood { IfOk result
         (λ script. notation.script_of bytes.now ≡ notation.understood (seen_settings script.settings) (map seen_numbered script.events.items)) }

@@ -32,9 +32,9 @@ pub enum Setting {
     LineBreak(yaml_break_t),
     /// `breaks12`: the line breaks of YAML 1.2.
     Breaks12(bool),
-    /// `portable`: only what all YAML readers read alike.
+    /// `portable`: only forms that readers of YAML read alike.
     Portable(bool),
-    /// `sequences`: whether those in a mapping are indented.
+    /// `sequences`: whether sequences in a mapping are indented.
     IndentedSequences(bool),
     /// `blanks`: whether literal text may hold tabs, and spaces at the ends of its lines.
     LiteralBlanks(bool),
@@ -60,7 +60,7 @@ impl Setting {
         }
     }
 
-    /// Sets this one.
+    /// Sets this setting.
     fn apply(self, settings: &mut Settings)
         ensures { seen_settings settings.new ≡ notation.with_setting (seen_settings settings.old) (seen_setting self) }
     {

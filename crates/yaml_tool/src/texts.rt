@@ -14,7 +14,7 @@ use std::alloc::{AllocError, Allocator};
 pub enum TextStep<'a> {
     /// The text ends, and nothing follows.
     Ends,
-    /// It stands for this character, and this text follows.
+    /// This character, before the rest.
     StandsFor(char, &'a str),
     /// The text is wrong there.
     Fails,
@@ -31,7 +31,7 @@ fn numbered_character(digits: &str) -> Option<char>
     parse_number(16, 0x10FFFF, digits).and_then(char::from_u32)
 }
 
-/// Parses what follows `\u`.
+/// Parses the rest of an escape after `\u`.
 fn numbered_step(behind: &str) -> TextStep<'_>
     ensures { StepsTo result (notation.text_from notation.at_brace (chars behind.now)) behind.now }
 {
@@ -69,6 +69,10 @@ fn next_step(behind: &str) -> TextStep<'_>
 }
 
 /// Returns the value of a text, given the characters after its opening `"`; `None` if they are no text.
+///
+/// # Errors
+///
+/// `AllocError` if an allocation fails.
 pub fn text_after_quote<A: Allocator>(
     alloc: A,
     behind: &str,
@@ -78,7 +82,7 @@ pub fn text_after_quote<A: Allocator>(
     let mut text = String::with_capacity(alloc, behind.len())?;
     let mut rest = behind;
     loop {
-        // What has no quotation mark and no backslash stands for itself.
+        // Characters other than a quotation mark and a backslash mean themselves.
         let special = from_delimiter(b'"', b'\\', rest);
         text.push_str(prefix_before(rest, special))?;
         match next_step(special) {

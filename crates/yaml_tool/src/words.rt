@@ -1,4 +1,4 @@
-//! The words of a script's lines, and what they mean.
+//! The words of a script's lines, and their meaning.
 ghost use Rattle.std.specs.Prelude.{◌≡◌, None, List, MatchOption, option_map, nat_lt, IsTrue};
 ghost use Rattle.std.specs.List.{list_all};
 ghost use Rattle.std.specs.Str.{chars};
@@ -56,7 +56,7 @@ pub enum EventName {
     MappingEnd,
 }
 
-/// Parses the name of an event. Those that most lines begin with come first.
+/// Parses the name of an event. The names of most lines are tried first.
 pub fn event_named(word: &str) -> Option<EventName>
     ensures { MatchOption result ((fields : List notation.Field) → notation.event_of (chars word.now) fields ≡ None)
         (λ name. chars word.now ≡ event_word name) }

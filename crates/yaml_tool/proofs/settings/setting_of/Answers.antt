@@ -15,14 +15,14 @@ mapped make None result none = ap (option_map seen_setting) none
 mapped make (Some x) None made = absurd made
 mapped make (Some x) (Some setting) is = ap (λ s. Some (seen_setting s)) is
 
--- a setting of this name is what is made of its value, where that has a reading
+-- a setting of this name is made from its value, if that has a meaning
 set_by : {A : Type 0} (make : A → Setting) (value : Text) (name word : Text) {same : Bool} (given : Option A) (result : Option Setting)
     → same ≡ is_word name word → same ≡ true → MatchOption given (result ≡ None) (λ x. IsSomeAnd result (λ setting. setting ≡ make x))
     → option_map (λ x. seen_setting (make x)) given ≡ notation.setting_of word value → option_map seen_setting result ≡ notation.setting_of name value
 set_by make value name word given result is_same holds made reads =
     mapped make given result made ∙ reads ∙ ap (λ n. notation.setting_of n value) (sym ((bytes_eq-Decides name word).0 (sym is_same ∙ holds)))
 
--- what is made of a value as contracts see it
+-- the view of a setting that is made from its value
 after_seen : {A B C : Type 0} (f : B → C) (g : A → B) (given : Option A) → option_map (λ x. f (g x)) given ≡ option_map f (option_map g given)
 after_seen f g None = refl
 after_seen f g (Some x) = refl

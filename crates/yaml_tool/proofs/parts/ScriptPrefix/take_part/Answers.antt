@@ -2,7 +2,7 @@ use Rattle.yaml_tool.proofs.Common.{ℕ, List, ◌++◌, ◌≡◌, append_assoc
 use Rattle.yaml_tool.proofs.ScriptLemmas.{exit_with}
 use Rattle.yaml_tool.proofs.parts.ScriptPrefix.take_part.Goals as goal
 
--- a part behind a line, and what follows it
+-- a part after a line, and the text after it
 behind : (line part : List ℕ) {whole : List ℕ} (more : List ℕ) → whole ≡ line ++ part → whole ++ more ≡ line ++ (part ++ more)
 behind line part more is = ap (λ (bytes : List ℕ). bytes ++ more) is ∙ append_assoc line part more
 

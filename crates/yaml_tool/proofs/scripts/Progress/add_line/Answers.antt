@@ -10,14 +10,14 @@ use Rattle.yaml_tool.proofs.scripts.Progress.add_line.Goals.{then-not-is_empty-v
 use Rattle.std.proofs.{Common.arith, Common.true, Common.false, lemmas.Grind.common_steps}
 use Rattle.yaml_tool.proofs.scripts.Progress.add_line.Goals as goal
 
--- a parsed line goes to those before it as what it says
+-- a parsed line joins those before it by its meaning
 line_goes : {A : Type 0} (number : ℕ) (before : ScriptState) (bytes : List ℕ) (parsed : Option (Line A)) (given line : Line A)
     → option_map seen_line parsed ≡ line_understood bytes → parsed ≡ Some given → given ≡ line
     → after_line number before bytes ≡ with_line number before (seen_line line)
 line_goes number before bytes parsed given line reads is says =
     ap (option_and_then (with_line number before)) (sym reads ∙ ap (option_map seen_line) is) ∙ ap (λ line. with_line number before (seen_line line)) says
 
--- a setting goes to them where it may stand
+-- a setting joins them if it is allowed there
 setting_goes : (number : ℕ) (before : ScriptState) (setting : notation.Setting) (may : Bool) → may ≡ may_be_set setting before
     → with_line number before (sets setting) ≡ (if may then Some (record before { settings = before.settings ++ setting ∷ [] }) else None)
 setting_goes number before setting may is =
