@@ -39,7 +39,7 @@ first_of_more (x ∷ xs) number =
     ∙ ap (λ (ys : List ℕ). x ∷ ys) (filter-append (λ other. not (other == x)) (first_of_each xs) (cond (has number xs) [] (number ∷ [])))
     ∙ ap (λ (ys : List ℕ). x ∷ (others (first_of_each xs) ++ ys)) (one_kept (has number xs) number x)
 
--- a step that meets no node again changes nothing, and any other adds its node where it isn't there yet
+-- a step that meets no node again changes nothing, and any other adds its node if it isn't there yet
 pub shared_more : (walk : List Step) (number : ℕ)
     → shared_nodes (walk ++ meets_again number ∷ []) ≡ shared_nodes walk ++ cond (has number (shared_nodes walk)) [] (number ∷ [])
 shared_more walk number =
@@ -220,11 +220,11 @@ pub seen_more : (walk : List declared.Step) (index : ℕ) (default : declared.St
 seen_more walk index default inside = ap (map seen_step) (take_more walk index default inside)
     ∙ map-append seen_step (take index walk) (get_or walk index default ∷ [])
 
--- a slice that keeps its length is all of what it came from
+-- a slice that keeps its length is the whole slice
 pub whole_slice : (len : ℕ) (written old : List ℕ) → len ≡ length written → take len (written ++ drop (length written) old) ≡ written
 whole_slice len written old same = ap (λ (n : ℕ). take n (written ++ drop (length written) old)) same ∙ take-append_seam written (drop (length written) old)
 
--- ---- what a walk meets again is shared
+-- ---- a node that a walk meets again is shared
 
 has_behind : (first : Option ℕ) (number : ℕ) (rest : List ℕ) → has number rest ≡ true → has number (cons_option first rest) ≡ true
 has_behind None number rest is = is
@@ -254,7 +254,7 @@ pub met_has_place : (walk : List Step) (index number : ℕ) (default : Step) →
 met_has_place walk index number default inside is =
     has_place (shared_nodes walk) number (has_first number (filter_map node_met_again walk) ∙ has_met walk index number default inside is)
 
--- each step of a walk is numbered, and its node has a place where it is met again
+-- each step of a walk is numbered, and its node has a rank if it is met again
 pub step_placed : (walk : List declared.Step) (count index : ℕ) (places : List ℕ) (default : declared.Step) → is_numbered count (map seen_step walk) ≡ true
     → index < length walk → length places ≡ count → HasPlaces (map seen_step walk) places
     → StepIsPlaced places (seen_step (get_or walk index default))

@@ -1,4 +1,4 @@
--- Which node a name stands for, at each point of a walk.
+-- The node that a name means, at each point of a walk.
 use Rattle.yaml_base.proofs.Common.{suc, ℕ, ◌+◌, ◌<◌, ◌≤◌, ◌==◌, count_by, option_map, unwrap_or, Option, None, Some, length, Bool, cond, false, not, true, []}
 use Rattle.yaml_base.proofs.Common.{◌||◌, List, ◌++◌, ◌∷◌, refl, ◌≡◌, eq-eqb, eqb-true, append-nil, append_assoc, inl, inr, ap, subst, sym, ◌∙◌, arith, Text}
 use Rattle.yaml_base.proofs.Common.{filter_map, filter_map-append, list_any, list_any-append, position, position_or_len, Graph, Step, enters, meets_again}
@@ -37,7 +37,7 @@ at_most_one : (b : Bool) → cond b 1 0 ≤ 1
 at_most_one true = omega arith
 at_most_one false = omega arith
 
--- what is entered wasn't before
+-- a node that is entered wasn't before
 pub first_entry : (graph : Graph) (walk before rest : List Step) (number : ℕ) → IsOrderly graph walk → walk ≡ before ++ enters number ∷ rest
     → list_any (is_entry_of number) before ≡ false
 first_entry graph walk before rest number orderly is =
@@ -70,7 +70,7 @@ entry_place graph before rest number orderly is =
     ∙ ap (λ (order : List ℕ). number_in_order order number) (filter_map-append _ before (enters number ∷ rest))
     ∙ ap suc (position_behind number (entered_nodes before) (entered_nodes rest) new)
 
--- ---- what is met again was entered, and has a name
+-- ---- a node that is met again was entered, and has a name
 
 pub entered_before : (number : ℕ) (earlier before rest : List Step) → FollowEntries earlier (before ++ meets_again number ∷ rest)
     → list_any (is_entry_of number) (earlier ++ before) ≡ true
@@ -117,7 +117,7 @@ name_number walk number name few at =
 
 -- ---- who carries a name
 
--- each node that was entered and has a name is what the number of its name leads to
+-- the number of the name of each node that was entered and has a name leads to that node
 pub record Carries (graph : Graph) (before : List Step) (carriers : List ℕ) : Type 0 where
   pub room : length (shared_nodes (graph_steps graph)) < length carriers
   pub few : length (shared_nodes (graph_steps graph)) ≤ largest_usize
@@ -129,7 +129,7 @@ pub carries_none : (graph : Graph) (carriers : List ℕ) → length (shared_node
     → length (shared_nodes (graph_steps graph)) ≤ largest_usize → Carries graph [] carriers
 carries_none graph carriers room few = record { room = room; few = few; each = λ number name there is. cc }
 
--- where no node is entered
+-- if no node is entered
 pub carries_on : (graph : Graph) (before : List Step) (step : Step) (carriers : List ℕ) → ((number : ℕ) → is_entry_of number step ≡ false)
     → Carries graph before carriers → Carries graph (before ++ step ∷ []) carriers
 carries_on graph before step carriers none carries =
@@ -155,7 +155,7 @@ now_carried graph carriers number place other (Some stated) name room few is als
     ap (λ (text : Text). get_or (slice_set carriers (number_in_name text) place) (number_in_name name) 0) same
     ∙ get_or-set_same carriers (number_in_name name) place 0 (omega (arith, name_number (graph_steps graph) number name few at, at.within, room))
 
--- the names of others lead to where they led
+-- the names of other nodes lead to the same nodes as before
 still_carried : (graph : Graph) (carriers : List ℕ) (number place other : ℕ) (anchor : Option Text) (name : Text)
     → length (shared_nodes (graph_steps graph)) ≤ largest_usize
     → anchor_of (graph_steps graph) number ≡ anchor → anchor_of (graph_steps graph) other ≡ Some name → (number ≡ other → ⊥)
@@ -172,7 +172,7 @@ still_carried graph carriers number place other (Some stated) name few is also d
     ≡ too.place = omega (arith, same, name_number (graph_steps graph) number stated few at, name_number (graph_steps graph) other name few too) in
     differ (sym at.number_is ∙ ap (λ (n : ℕ). get_or (shared_nodes (graph_steps graph)) n 0) places ∙ too.number_is))
 
--- where a node is entered
+-- if a node is entered
 pub carries_entry : (graph : Graph) (before : List Step) (number : ℕ) (carriers : List ℕ) → Carries graph before carriers
     → Carries graph (before ++ enters number ∷ [])
     (slice_set carriers (number_of_anchor (anchor_of (graph_steps graph) number)) (number_in_order (entered_nodes (graph_steps graph)) number))

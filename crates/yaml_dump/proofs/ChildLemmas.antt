@@ -18,12 +18,12 @@ unfolding numbers_seen
 length-numbers_seen [] = omega arith
 length-numbers_seen (pair ∷ pairs) = omega (arith, length-numbers_seen pairs)
 
--- behind the last pair
+-- after the last pair
 pub none_behind : (pairs : List yaml_node_pair_t) (place : ℕ) → length pairs ≤ place / 2 → slice_get (pair_numbers (map seen_pair pairs)) place ≡ None
 unfolding numbers_seen
 none_behind pairs place behind = slice_get_past (numbers_seen pairs) place (omega (arith, length-numbers_seen pairs))
 
--- the key of a pair stands at twice its place
+-- the key of a pair is at twice its place
 key_at : (pairs : List yaml_node_pair_t) (half : ℕ) (default : yaml_node_pair_t) → half < length pairs
     → slice_get (numbers_seen pairs) (half + half) ≡ Some (seen_number (get_or pairs half default).key)
 unfolding numbers_seen
@@ -33,7 +33,7 @@ key_at (pair ∷ pairs) (suc half) default within =
     let two : suc half + suc half ≡ suc (suc (half + half)) = omega arith in
     ap (slice_get (seen_number pair.key ∷ seen_number pair.value ∷ numbers_seen pairs)) two ∙ key_at pairs half default (omega arith)
 
--- and its value behind it
+-- and its value next to it
 value_at : (pairs : List yaml_node_pair_t) (half : ℕ) (default : yaml_node_pair_t) → half < length pairs
     → slice_get (numbers_seen pairs) (suc (half + half)) ≡ Some (seen_number (get_or pairs half default).value)
 unfolding numbers_seen
@@ -70,7 +70,7 @@ pairs_countable pairs place (Some number) small is =
     let within : place < length (numbers_seen pairs) = slice_get_within (numbers_seen pairs) place number (sym is) in
     omega (arith, length-numbers_seen pairs)
 
--- what a test of all elements tells of the one at a place
+-- a test of all elements holds for the one at a place
 all_found : {X : Type 0} (test : X → Bool) (xs : List X) (place : ℕ) (x : X) → list_all test xs ≡ true → slice_get xs place ≡ Some x → test x ≡ true
 all_found test [] place x all is = cc
 all_found test (first ∷ xs) zero x all is = let same : first ≡ x = cc in ap test (sym same) ∙ (and_parts (test first) (list_all test xs) all).0

@@ -1,4 +1,4 @@
--- What the composer's lists are, as they are seen.
+-- The view of the composer's lists.
 use Rattle.yaml_base.proofs.Common.{suc, ℕ, ℤ, ◌+◌, ◌*◌, ◌<◌, ◌≤◌, length, replicate, drop, slice_index_or as get_or, List, [], map, ◌∷◌, ◌++◌, refl, ◌≡◌, ap}
 use Rattle.yaml_base.proofs.Common.{sym, ◌∙◌, arith, pos, zero, map-append, append_assoc, append-nil, length-map}
 use Rattle.yaml_base.specs.{declared.nodes.yaml_node_pair_t.yaml_node_pair_t, Seen.seen_event, declared.events.yaml_event_t.yaml_event_t}
@@ -7,7 +7,7 @@ use Rattle.std.specs.Prelude.{take, fold, FitsSigned, slice_set, reverse}
 use Rattle.std.proofs.Common.{to_z, of_z, w32, drop-cons}
 use Rattle.std.proofs.{lemmas.List.Sums.fold-append, lemmas.Int.to_z-of_z}
 use Rattle.yaml_base.specs.{graphs.Meetings.NumberPair, declared.nodes.yaml_node_t.yaml_node_t}
-use Rattle.yaml_dump.specs.Composition.{composed, filled, node_with, node_at_place, Composition, nothing_composed, paired}
+use Rattle.yaml_dump.specs.Composition.{composed, filled, node_with, node_at_place, Composition, nothing_composed, pairs_of_list}
 use Rattle.std.proofs.lemmas.List.{length-drop, map-set, take_more}
 use Rattle.yaml_dump.specs.{SeenComposer.seen_unended, declared.composer.Unended.Unended}
 
@@ -31,29 +31,29 @@ starts count nodes unended carriers none no_unended zeros =
     ∙ ap {B = Composition} (λ list. record { nodes = []; unended = []; carriers = list }) (zeros_seen count)
 
 pub pairs_more : (numbers : List ℤ) (place : ℕ) (d : ℤ) → 2 * place + 1 < length numbers
-    → paired (map seen_number (drop (2 * place) numbers))
+    → pairs_of_list (map seen_number (drop (2 * place) numbers))
     ≡ record { key = seen_number (get_or numbers (2 * place) d); value = seen_number (get_or numbers (2 * place + 1) d) }
-    ∷ paired (map seen_number (drop (2 * (place + 1)) numbers))
+    ∷ pairs_of_list (map seen_number (drop (2 * (place + 1)) numbers))
 pairs_more numbers place d within =
     let next : suc (2 * place) ≡ 2 * place + 1 = omega arith in
     let last : suc (2 * place + 1) ≡ 2 * (place + 1) = omega arith in
-    ap (λ list. paired (map seen_number list))
+    ap (λ list. pairs_of_list (map seen_number list))
     (drop-cons numbers (2 * place) d (omega (arith, within))
     ∙ ap (λ (n : ℕ). get_or numbers (2 * place) d ∷ drop n numbers) next
     ∙ ap (λ list. get_or numbers (2 * place) d ∷ list) (drop-cons numbers (2 * place + 1) d within)
     ∙ ap (λ (n : ℕ). get_or numbers (2 * place) d ∷ get_or numbers (2 * place + 1) d ∷ drop n numbers) last)
 
-pub few_paired : (numbers : List ℕ) → length numbers ≤ 1 → paired numbers ≡ []
+pub few_paired : (numbers : List ℕ) → length numbers ≤ 1 → pairs_of_list numbers ≡ []
 few_paired [] few = refl
 few_paired (number ∷ []) few = refl
 few_paired (number ∷ other ∷ rest) few = absurd (omega (arith, few))
 
 pub pairs_kept : (numbers : List ℤ) (before now : List yaml_node_pair_t) (place : ℕ) (pair : yaml_node_pair_t) → now ≡ before ++ pair ∷ []
-    → paired (map seen_number (drop (2 * place) numbers)) ≡ seen_pair pair ∷ paired (map seen_number (drop (2 * (place + 1)) numbers))
-    → map seen_pair before ++ paired (map seen_number (drop (2 * place) numbers)) ≡ paired (map seen_number numbers)
-    → map seen_pair now ++ paired (map seen_number (drop (2 * (place + 1)) numbers)) ≡ paired (map seen_number numbers)
+    → pairs_of_list (map seen_number (drop (2 * place) numbers)) ≡ seen_pair pair ∷ pairs_of_list (map seen_number (drop (2 * (place + 1)) numbers))
+    → map seen_pair before ++ pairs_of_list (map seen_number (drop (2 * place) numbers)) ≡ pairs_of_list (map seen_number numbers)
+    → map seen_pair now ++ pairs_of_list (map seen_number (drop (2 * (place + 1)) numbers)) ≡ pairs_of_list (map seen_number numbers)
 pairs_kept numbers before now place pair is next so_far =
-    let rest = paired (map seen_number (drop (2 * (place + 1)) numbers)) in
+    let rest = pairs_of_list (map seen_number (drop (2 * (place + 1)) numbers)) in
     ap (λ list. map seen_pair list ++ rest) is
     ∙ ap (λ list. list ++ rest) (map-append seen_pair before (pair ∷ []))
     ∙ append_assoc (map seen_pair before) (seen_pair pair ∷ []) rest
@@ -61,8 +61,8 @@ pairs_kept numbers before now place pair is next so_far =
     ∙ so_far
 
 pub all_paired : (numbers : List ℤ) (pairs : List yaml_node_pair_t) (place : ℕ) → length numbers ≤ 2 * place + 1
-    → map seen_pair pairs ++ paired (map seen_number (drop (2 * place) numbers)) ≡ paired (map seen_number numbers)
-    → map seen_pair pairs ≡ paired (map seen_number numbers)
+    → map seen_pair pairs ++ pairs_of_list (map seen_number (drop (2 * place) numbers)) ≡ pairs_of_list (map seen_number numbers)
+    → map seen_pair pairs ≡ pairs_of_list (map seen_number numbers)
 all_paired numbers pairs place end so_far =
     let left : length (map seen_number (drop (2 * place) numbers)) ≤ 1 =
     omega (arith, length-map (drop (2 * place) numbers) seen_number, length-drop (2 * place) numbers, end) in
@@ -91,7 +91,7 @@ pair_seen key value key_fits value_fits =
     ap {B = NumberPair} (λ (z : ℤ). record { key = seen_number z; value = seen_number value }) (sym (to_z-of_z w32 key key_fits))
     ∙ ap {B = NumberPair} (λ (z : ℤ). record { key = seen_number (to_z w32 (of_z w32 key)); value = seen_number z }) (sym (to_z-of_z w32 value value_fits))
 
--- behind one more event of a list
+-- after one more event of a list
 pub one_more : {A : Type 0} (events : List (yaml_event_t A)) (place : ℕ) (event : yaml_event_t A) (before now start : Composition) → place < length events
     → event ≡ get_or events place event
     → before ≡ fold composed start (map seen_event (take place events)) → now ≡ composed before (seen_event event)

@@ -8,17 +8,17 @@ use Rattle.std.specs.Prelude.{slice_set}
 use Rattle.std.proofs.{lemmas.List.Sums.fold-append, Math.Seq.set-append_seam}
 use Rattle.yaml_base.specs.graphs.Meetings.{graph_steps}
 use Rattle.yaml_base.proofs.UnfoldSteps.{IsOrderly}
-use Rattle.yaml_dump.specs.InOrder.{entered_nodes, number_in_order, held_by, node_by, numbered_node, nodes_in}
-use Rattle.yaml_dump.specs.Composition.{Composition, Unended, adding, node_begun, collection_begun, ended, composed, paired, held_with, node_at_place}
+use Rattle.yaml_dump.specs.InOrder.{entered_nodes, number_in_order, renumber_children, node_by, numbered_node, nodes_in}
+use Rattle.yaml_dump.specs.Composition.{Composition, Unended, adding, node_begun, collection_begun, ended, composed, pairs_of_list, held_with, node_at_place}
 use Rattle.yaml_dump.specs.Composition.{number_of_anchor}
 use Rattle.yaml_dump.proofs.CarrierLemmas.{Carries, carries_on, carries_entry, alias_carried, entry_place}
 
--- ---- what a composition stands at
+-- ---- the state of a composition
 
 abbrev pub order_of : Graph → List ℕ
 order_of graph = entered_nodes (graph_steps graph)
 
--- behind some steps of the walk
+-- after some steps of the walk
 pub record StandsBehind (graph : Graph) (before : List Step) (standing : Composition) : Type 0 where
   pub counted : length standing.nodes ≡ length (entered_nodes before)
   pub carries : Carries graph before standing.carriers
@@ -82,26 +82,26 @@ alias_composes graph before after number name standing orderly is stands =
 
 -- ---- a node that begins
 
--- what a node holds, without children
+-- a node's contents, without children
 abbrev pub emptied : Held → Held
 emptied (scalar_held value style) = scalar_held value style
 emptied (sequence_held items style) = sequence_held [] style
 emptied (mapping_held pairs style) = mapping_held [] style
 
 paired_numbers : (place : ℕ → ℕ) (pairs : List NumberPair)
-    → paired (map place (flat_map (λ (pair : NumberPair). pair.key ∷ pair.value ∷ []) pairs))
+    → pairs_of_list (map place (flat_map (λ (pair : NumberPair). pair.key ∷ pair.value ∷ []) pairs))
     ≡ map (λ (pair : NumberPair). record { key = place pair.key; value = place pair.value }) pairs
 paired_numbers place [] = refl
 paired_numbers place (pair ∷ pairs) =
     ap (λ (rest : List NumberPair). record { key = place pair.key; value = place pair.value } ∷ rest) (paired_numbers place pairs)
 
 -- with its children it is the node by other numbers
-filled_by : (place : ℕ → ℕ) (held : Held) → held_with (map place (numbers_held held)) (emptied held) ≡ held_by place held
+filled_by : (place : ℕ → ℕ) (held : Held) → held_with (map place (numbers_held held)) (emptied held) ≡ renumber_children place held
 filled_by place (scalar_held value style) = refl
 filled_by place (sequence_held items style) = refl
 filled_by place (mapping_held pairs style) = ap (λ (numbers : List NumberPair). mapping_held numbers style) (paired_numbers place pairs)
 
--- a node begins behind the steps before
+-- a node begins after the steps before
 begun_stands : (graph : Graph) (before after : List Step) (number : ℕ) (tag : Text) (held : Held) (standing : Composition) → IsOrderly graph (graph_steps graph)
     → graph_steps graph ≡ before ++ enters number ∷ after → StandsBehind graph before standing
     → StandsBehind graph (before ++ enters number ∷ []) (node_begun (anchor_of (graph_steps graph) number) tag held standing)
@@ -139,7 +139,7 @@ one_in_order graph number node is =
 pub scalar_composes : (graph : Graph) (before after : List Step) (number : ℕ) (tag : Text) (held : Held) (standing : Composition)
     → IsOrderly graph (graph_steps graph)
     → graph_steps graph ≡ before ++ enters number ∷ (leaves number ∷ after) → StandsBehind graph before standing
-    → node_numbered graph number ≡ Some (record { tag = tag; held = held }) → held_by (number_in_order (order_of graph)) held ≡ held
+    → node_numbered graph number ≡ Some (record { tag = tag; held = held }) → renumber_children (number_in_order (order_of graph)) held ≡ held
     → Composes graph before (enters number ∷ leaves number ∷ []) (number_in_order (order_of graph) number ∷ []) standing
     (node_begun (anchor_of (graph_steps graph) number) tag held standing)
 scalar_composes graph before after number tag held standing orderly is stands node same =
@@ -162,7 +162,7 @@ at_seam : (xs : List GraphNode) (y : GraphNode) (ys : List GraphNode) → node_a
 at_seam [] y ys = refl
 at_seam (x ∷ xs) y ys = at_seam xs y ys
 
--- the collection that was opened behind some nodes ends
+-- the collection that was opened after some nodes ends
 ended_so : (first : List GraphNode) (tag : Text) (held : Held) (below : List GraphNode) (children : List ℕ) (outer : List Unended) (next : Composition)
     → next.nodes ≡ (first ++ record { tag = tag; held = held } ∷ []) ++ below
     → next.unended ≡ record { place = length first; children = children } ∷ outer
@@ -186,7 +186,7 @@ ended_so first tag held below children outer next nodes unended =
     ∙ ap (λ (list : List GraphNode). record { nodes = list; unended = outer; carriers = next.carriers })
     (set-append_seam first bare below (record { tag = tag; held = held_with children held }))
 
--- behind a collection that was opened and its children
+-- after a collection that was opened, and its children
 pub collection_composes : (graph : Graph) (before below after : List Step) (number : ℕ) (tag : Text) (held : Held) (standing next : Composition)
     → IsOrderly graph (graph_steps graph) → graph_steps graph ≡ before ++ enters number ∷ (below ++ leaves number ∷ after) → StandsBehind graph before standing
     → node_numbered graph number ≡ Some (record { tag = tag; held = held })
@@ -222,7 +222,7 @@ collection_composes graph before below after number tag held standing next order
           (left_stands graph ((before ++ enters number ∷ []) ++ below) number next last count refl inner.stands);
     })
 
--- a collection that opens stands as the node that begins
+-- opening a collection meets the conditions that beginning a node does
 pub opened_stands : (graph : Graph) (before after : List Step) (number : ℕ) (tag : Text) (held : Held) (standing : Composition)
     → IsOrderly graph (graph_steps graph)
     → graph_steps graph ≡ before ++ enters number ∷ after → StandsBehind graph before standing
@@ -233,7 +233,7 @@ opened_stands graph before after number tag held standing orderly is stands =
 
 -- ---- the events of a tree
 
--- behind the events of some steps
+-- the composition after the events of some steps
 abbrev pub behind : Graph → List Step → Composition → Composition
 behind graph part standing = fold composed standing (flat_map (step_events graph (graph_steps graph)) part)
 

@@ -23,7 +23,7 @@ regrouped : (before below after : List Step) (number : ℕ)
     → before ++ ((enters number ∷ (below ++ leaves number ∷ [])) ++ after) ≡ before ++ enters number ∷ (below ++ leaves number ∷ after)
 regrouped before below after number = ap (λ (rest : List Step). before ++ enters number ∷ rest) (append_assoc below (leaves number ∷ []) after)
 
--- behind a collection: it was opened, its children came, it ended
+-- after a collection: it was opened, its children came, it ended
 behind_collection : (graph : Graph) (number : ℕ) (node : GraphNode) (below : List Step) (standing first last : Composition)
     → node_numbered graph number ≡ Some node
     → composed standing (opening_event_of (anchor_of (graph_steps graph) number) node.tag node.held) ≡ first

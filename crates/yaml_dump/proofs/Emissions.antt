@@ -35,7 +35,7 @@ some_more f (first ∷ emitted) next none = cc
 pub closed_already : (before : State) → before.closed ≡ true → Closes before (Ok tt) before
 closed_already before closed = subst (λ (b : Bool). ClosesFrom b before (Ok tt) before) (sym closed) (refl, refl)
 
--- the start, where the stream isn't opened
+-- the start, if the stream isn't opened
 pub emits_opening : (before middle : State) (done : Unit {0}) (opened : Bool) → before.opened ≡ opened → before.error ≡ None
     → OpensFrom opened before (Ok done) middle → EmitsAll (record before { opened = true }) (opening_unless opened) middle
 emits_opening before middle done true is none opens =
@@ -47,7 +47,7 @@ emits_opening before middle done true is none opens =
     }
 emits_opening before middle done false is none opens = record { moves = opens; unchanged = λ nothing. cc }
 
--- the end, where it isn't closed
+-- the end, if it isn't closed
 pub emits_closing : (before after : State) (answer : Result (Unit {0}) yaml_error_t) (closed : Bool) → before.error ≡ None
     → ClosesFrom closed before answer after → EmitsEach (record before { closed = after.closed }) (closing_unless closed) answer after
 emits_closing before after (Ok done) true none closes =
@@ -89,12 +89,12 @@ no_parts : (first second : List Event) → first ++ second ≡ [] → (first ≡
 no_parts [] second none = (refl, none)
 no_parts (event ∷ first) second none = cc
 
--- where the start is the first event, the stream is opened once an event was emitted
+-- if the start is the first event, the stream is opened once an event was emitted
 opened_some : (opened now : Bool) (more : List Event) → now ≡ true → now ≡ (opened || has_some (opening_unless opened ++ more))
 opened_some true now more is = is
 opened_some false now more is = is
 
--- events behind the start
+-- events after the start
 pub dumps_then : (nodeless : Bool) (document : List Event) (before middle after : State) (closed : Bool) (more : List Event)
     (answer : Result (Unit {0}) yaml_error_t)
     → EmitsAll (record before { opened = true }) (opening_unless before.opened) middle → EmitsEach (record middle { closed = closed }) more answer after
@@ -195,7 +195,7 @@ dumps_document nodeless document before middle after events answer some same fir
     on_err (Ok done) p = tt
     on_err (Err error) p = p
 
--- ---- what follows
+-- ---- the consequences
 
 -- the promises of the events up to the one that failed, and its error
 pub fails_promised : {before after : State} {events : List Event} {error : yaml_error_t} → (fails : FailsAt before events error after)
@@ -205,7 +205,7 @@ fails_promised fails = moved_promised (moves_then fails.moved fails.failed)
 pub fails_error : {before after : State} {events : List Event} {error : yaml_error_t} → FailsAt before events error after → after.error ≡ Some error
 fails_error {before} {after} {events} {error} fails = some_from_result after.error error fails.failed.answered
 
--- what closing a stream that isn't closed is
+-- closing a stream that isn't closed
 pub closing_move : (before after : State) (answer : Result (Unit {0}) yaml_error_t) → before.closed ≡ false → Closes before answer after
     → Moves (record before { closed = is_ok answer }) (stream_end ∷ []) answer after
 closing_move before after answer unclosed closes = subst (λ (b : Bool). ClosesFrom b before answer after) unclosed closes

@@ -1,9 +1,9 @@
--- Documents that were read of the same bytes say the same.
+-- Documents that were read of the same bytes are equivalent.
 use Rattle.yaml_base.proofs.Common.{Some, List, [], ◌∷◌, ◌≡◌, subst, sym, ◌∙◌, Graph, DocumentContent, DocumentTree}
 use Rattle.yaml_base.{proofs.ContentsUnfold.dumped_stream, proofs.SameEvents.same_canonical_output, proofs.SameShapes.same_shape}
 use Rattle.yaml_base.{specs.graphs.Dumped.ContentsUnfold, specs.graphs.Isomorphic.AllAreEquivalent, specs.graphs.Unfolding.content_shape}
 use Rattle.yaml_dump.{proofs.GraphTreeLemmas.dumped_trees_unfold, specs.GraphTrees.tree_shape, specs.GraphTrees.TreesUnfold}
-use Rattle.yaml_dump.specs.EqualBytes.{OneReading, OneReadingBack, EqualBytesTellGraphs, EqualReadableBytesTellGraphs, EqualGraphsGiveBytes}
+use Rattle.yaml_dump.specs.EqualBytes.{OneReading, OneReadingBack, EqualBytesTellGraphs, EqualReadableBytesTellGraphs, IsomorphicGraphsDumpEqually}
 use Rattle.yaml_emitter.proofs.{canonical.CanonicalOutput.output_tells, layouts.StreamOutput.output_tells_content}
 
 some_same : {A : Type 0} {a b : A} → Some a ≡ Some b → a ≡ b
@@ -67,6 +67,6 @@ equal_readable_bytes_tell_graphs given firsts seconds first second dumped also r
     (dumped_trees_unfold given.canonical firsts first content.documents dumped content.first_agrees)
     (dumped_trees_unfold given.canonical seconds second content.documents also content.second_agrees)
 
-pub equal_graphs_give_bytes : EqualGraphsGiveBytes
+pub equal_graphs_give_bytes : IsomorphicGraphsDumpEqually
 equal_graphs_give_bytes given firsts seconds first second canonical dumped also asked alike =
     same_canonical_output given firsts seconds first second canonical dumped also asked alike

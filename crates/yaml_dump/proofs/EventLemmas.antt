@@ -40,7 +40,7 @@ pushed events grown event found more grows is seen =
     ap seen_events grows ∙ map-append seen_event events (event ∷ [])
     ∙ ap (λ (others : List Event). seen_events events ++ others) (sym (ap seen_events_of is) ∙ seen)
 
--- where there is none
+-- if there is none
 pub nothing_pushed : {A : Type 0} (events : List (yaml_event_t A)) (found : Option (yaml_event_t A)) (more : List Event)
     → found ≡ None → seen_events_of found ≡ more → seen_events events ≡ seen_events events ++ more
 nothing_pushed events found more is seen =

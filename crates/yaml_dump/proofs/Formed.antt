@@ -15,7 +15,7 @@ pub none_formed : (form : EventForm) (events : List Event) → map (event_in_for
 none_formed form [] none = refl
 none_formed form (event ∷ events) none = cc
 
--- what a dump says to its caller
+-- the promises of a dump to its caller
 pub record Told (error : Option yaml_error_t) (graph : Graph) (document : List Event) (before : State) (answer : Result (Unit {0}) yaml_error_t) (after : State)
     : Type 0 where
   pub failed : IsSome error → (after ≡ before) × (answer ≡ result_of_error error)

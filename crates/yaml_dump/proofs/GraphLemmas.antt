@@ -1,4 +1,4 @@
--- A document's events unfold its graph, and so does what is read back of them.
+-- A document's events unfold its graph, and so do their bytes as they are read.
 use Rattle.yaml_dump.proofs.Common.{ℕ, ◌==◌, if◌then◌else◌, Option, None, Some, Result, Err, Ok, Vec, drop, length, Bool, false, true, List, [], map, ◌++◌, ◌∷◌}
 use Rattle.yaml_dump.proofs.Common.{refl, ◌≡◌, ap, subst, sym, ◌∙◌, false≢true, dumped_stream, document_unfolds, Event, stream_end, seen_event, length-map}
 use Rattle.yaml_dump.proofs.Common.{is_numbered, seen_step, seen_events, Settings, AreDumped, Graph, graph_steps, document_event_list, DocumentTree, Promised}
@@ -14,7 +14,7 @@ use Rattle.yaml_dump.specs.{Dumps.ReadsGraphs, Events.HoldsTexts, Events.walk_ev
 use Rattle.yaml_emitter.{proofs.standing.Moving.moved_promised, specs.Moves.Moves, proofs.EndedStreams.ends_last, specs.Promises.HasRoomAndMemory}
 use Rattle.yaml_emitter.{specs.Promises.IsWritten}
 
--- the events of a walk over nodes that hold what they need are the document's
+-- the events of a walk over nodes that hold all parts that it needs are the document's
 pub dumped_events : {A E : Type 0} (graph : Graph) (outline : Outline A) (nodes : List (yaml_node_t A)) (answer : Result (Vec (yaml_event_t A) A) E)
     → (length graph.nodes == 0) ≡ false → IsOutline graph outline → HoldsTexts graph [] (map seen_node nodes)
     → IfOk answer (λ events. (other : Graph) → IsOutline other outline → HoldsTexts other [] (map seen_node nodes)
@@ -37,7 +37,7 @@ pub events_unfold : {A E : Type 0} (graph : Graph) (answer : Result (Vec (yaml_e
 events_unfold graph (Ok events) is same = subst (EventsUnfold graph) (sym same) (document_unfolds graph is)
 events_unfold graph (Err error) is same = tt
 
--- what was dumped and closed without an error is written whole
+-- documents that were dumped and closed without an error are written whole
 pub written_whole : (given : Settings) (before : List Event) (graphs : List Graph) (state : State) → Promised given (before ++ stream_end ∷ []) state
     → state.error ≡ None → AreDumped graphs (before ++ stream_end ∷ []) → IsWritten given (before ++ stream_end ∷ []) state
 written_whole given before graphs state promised none dumped =
@@ -59,7 +59,7 @@ graphs_read given before graphs state promised none canonical dumped =
       unfolds = read.unfolds;
     }
 
--- what was read of dumped graphs
+-- the documents read of dumped graphs
 read_back : (given : Settings) (graphs : List Graph) (events : List Event) (bytes : List ℕ) (read : Option (List DocumentTree))
     → AreDumped graphs events → stream_trees given.breaks12 bytes ≡ read → agrees given.canonical events read ≡ true
     → GraphsReadBack given.breaks12 graphs bytes
@@ -74,7 +74,7 @@ trees_read given before state promised none graphs portable dumped =
     read_back given graphs (before ++ stream_end ∷ []) state.page.output (stream_trees given.breaks12 state.page.output) dumped refl
     ((written_whole given before graphs state promised none dumped).reads_back portable)
 
--- both, of what ends by the stream's end
+-- both, of output that ends with the stream's end
 pub moved_reads : (before after : State) (events : List Event) → Moves before (events ++ stream_end ∷ []) (Ok tt) after
     → (given : Settings) (all : List Event) → StandsAfter given all before
     → ReadsGraphs given (all ++ (events ++ stream_end ∷ [])) after × ReadsTrees given (all ++ (events ++ stream_end ∷ [])) after

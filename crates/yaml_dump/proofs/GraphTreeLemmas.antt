@@ -20,9 +20,9 @@ use Rattle.yaml_base.specs.streams.StreamContent.{is_same_text, tagging_agrees, 
 use Rattle.yaml_base.specs.streams.StreamContent.{are_same_directives, documents_agree}
 use Rattle.yaml_dump.specs.GraphTrees.{tag_or_string, trees_shapes, tree_pairs_shapes, DumpedTreesUnfold}
 
--- ---- a dumped node has its tag, or that of its kind where none is written
+-- ---- a dumped node has its tag, or that of its kind if none is written
 
--- the tag is the one that is written, and that of the kind where none is
+-- true if the tag is the one that is written, or that of the kind if none is
 abbrev keeps_tag : Option Text → Text → Option Text → Bool
 keeps_tag written own tag = is_same_text (Some (unwrap_or written own)) tag
 
@@ -39,7 +39,7 @@ same_bytes text = (bytes_eq-Decides text text).1 refl
 from_bytes : (a b : Text) → bytes_eq a b ≡ true → a ≡ b
 from_bytes a b is = (bytes_eq-Decides a b).0 is
 
--- a tag whose flag is on exactly where it is that of the kind
+-- a tag whose flag is on exactly if it is that of the kind
 own_flag : (own tag : Text) (canonical flag : Bool) → flag ≡ bytes_eq tag own
     → keeps_tag (if canonical || not flag then Some tag else None) own (Some tag) ≡ true
 own_flag own tag true flag is = same_bytes tag

@@ -1,4 +1,4 @@
--- What is left of a graph's nodes while the steps of a walk become events, and where a node is entered.
+-- The parts of a graph's nodes that are left while the steps of a walk become events, and the step at which a node is entered.
 use Rattle.yaml_dump.proofs.Common.{suc, zero, ℕ, ◌+◌, ◌-◌, ◌<◌, ◌≤◌, ◌==◌, option_map, Option, None, Some, drop, length, slice_index_or as get_or, slice_get}
 use Rattle.yaml_dump.proofs.Common.{slice_set as set, take, Bool, cond, false, true, ◌||◌, List, [], map, ◌++◌, ◌∷◌, ◌≢◌, refl, ◌≡◌, length-set, ap, subst, sym}
 use Rattle.yaml_dump.proofs.Common.{get_or-set_same, ◌∙◌, arith, nat_tests, length-map, map-append, list_any, Text, GraphNode, Graph, Step, enters, is_entry_of}
@@ -98,7 +98,7 @@ elsewhere (y ∷ ys) zero (suc place) x differs = refl
 elsewhere (y ∷ ys) (suc written) zero x differs = refl
 elsewhere (y ∷ ys) (suc written) (suc place) x differs = elsewhere ys written place x (λ same. differs (ap suc same))
 
--- ---- what is left
+-- ---- the parts that are left
 
 -- a node that wasn't entered begins as in the graph
 pub opens_as_held : {A : Type 0} (graph : Graph) (before : List Step) (nodes : List (yaml_node_t A)) (number : ℕ) (node : yaml_node_t A) (anchor : Option Text)
@@ -124,7 +124,7 @@ ends_as_held graph before nodes number node named is holds =
     ∙ holds.ends place
     ∙ ap closing_events (sym (numbered_at graph number named.first))
 
--- nodes that stay as they are still hold what more steps need
+-- nodes that stay as they are still hold all parts that more steps need
 pub still_held : (graph : Graph) (before : List Step) (step : Step) (nodes : List GraphNode) → HoldsTexts graph before nodes
     → HoldsTexts graph (before ++ step ∷ []) nodes
 still_held graph before step nodes holds =

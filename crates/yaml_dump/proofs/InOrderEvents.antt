@@ -25,7 +25,7 @@ all_mapped f test (x ∷ xs) each =
     and_from (test (f x)) (list_all test (map f xs)) (each x (0, omega arith, refl))
     (all_mapped f test xs (λ y within. each y (Contains-append_right (x ∷ []) xs y within)))
 
--- what an order has was entered
+-- a node of an order was entered
 entered_of : (walk : List Step) (number : ℕ) → Contains (entered_nodes walk) number → has number (entered_nodes walk) ≡ true
 entered_of walk number within = contained_has (entered_nodes walk) number within
   where

@@ -11,14 +11,14 @@ use Rattle.yaml_base.specs.graphs.Meetings.{graph_steps}
 use Rattle.yaml_base.proofs.SharedNodes.{has, has_position}
 use Rattle.yaml_base.proofs.UnfoldSteps.{is_meeting_of, FollowEntries, IsOrderly, orderly_steps, none_added}
 use Rattle.yaml_base.proofs.UnfoldTrees.{placed_steps, below_steps, HasNode, Fits, AllFit, Walks, walk_placed, root_met, children_met}
-use Rattle.yaml_dump.specs.InOrder.{entered_nodes, number_in_order, held_by, node_by, numbered_node, in_order}
+use Rattle.yaml_dump.specs.InOrder.{entered_nodes, number_in_order, renumber_children, node_by, numbered_node, in_order}
 
 -- ---- places in an order
 
 same_turned : (number other : ℕ) → (other == number) ≡ (number == other)
 same_turned number other = grind (arith, nat_tests, same_from_decides, eqb-true, eq-eqb)
 
--- what is entered is in the order
+-- a node that is entered is in the order
 pub entered_has : (number : ℕ) (walk : List Step) → has number (entered_nodes walk) ≡ list_any (is_entry_of number) walk
 entered_has number [] = refl
 entered_has number (enters other ∷ walk) =
@@ -59,7 +59,7 @@ abbrev pub number_of_place : List ℕ → ℕ → ℕ
 number_of_place order zero = 0
 number_of_place order (suc place) = get_or order place 0
 
--- ---- what is reached is entered, and is a node
+-- ---- a node that is reached is entered, and is there
 
 reached_entered : (graph : Graph) (walk : List Step) (placed : Placed) → IsOrderly graph walk → Fits (anchor_of walk) graph placed → walk ≡ placed_steps placed
     → number_at placed ≡ 1 → {number : ℕ} → IsReached graph number → list_any (is_entry_of number) walk ≡ true
@@ -100,7 +100,7 @@ mutual
         | inr now ↦ entry_has_node named graph last number fit.1 now
       ]
 
--- the walk over a document, and what is known of it
+-- the walk over a document, and facts about it
 pub record HasWalk (graph : Graph) : Type 0 where
   pub made : Walks (anchor_of (graph_steps graph)) graph [] (graph_steps graph) 1
   pub orderly : IsOrderly graph (graph_steps graph)
@@ -130,24 +130,24 @@ numbers_by_pairs : (place : ℕ → ℕ) (pairs : List NumberPair)
 numbers_by_pairs place [] = refl
 numbers_by_pairs place (pair ∷ pairs) = ap (λ (rest : List ℕ). place pair.key ∷ place pair.value ∷ rest) (numbers_by_pairs place pairs)
 
-pub numbers_by : (place : ℕ → ℕ) (held : Held) → numbers_held (held_by place held) ≡ map place (numbers_held held)
+pub numbers_by : (place : ℕ → ℕ) (held : Held) → numbers_held (renumber_children place held) ≡ map place (numbers_held held)
 numbers_by place (scalar_held value style) = refl
 numbers_by place (sequence_held items style) = refl
 numbers_by place (mapping_held pairs style) = numbers_by_pairs place pairs
 
 pub opening_by : (place : ℕ → ℕ) (anchor : Option Text) (tag : Text) (held : Held)
-    → opening_event_of anchor tag (held_by place held) ≡ opening_event_of anchor tag held
+    → opening_event_of anchor tag (renumber_children place held) ≡ opening_event_of anchor tag held
 opening_by place anchor tag (scalar_held value style) = refl
 opening_by place anchor tag (sequence_held items style) = refl
 opening_by place anchor tag (mapping_held pairs style) = refl
 
-pub closing_by : (place : ℕ → ℕ) (held : Held) → closing_event_of (held_by place held) ≡ closing_event_of held
+pub closing_by : (place : ℕ → ℕ) (held : Held) → closing_event_of (renumber_children place held) ≡ closing_event_of held
 closing_by place (scalar_held value style) = refl
 closing_by place (sequence_held items style) = refl
 closing_by place (mapping_held pairs style) = refl
 
 label_by : (place : ℕ → ℕ) (tag : Text) (held : Held)
-    → label_of false (record { tag = tag; held = held_by place held }) ≡ label_of false (record { tag = tag; held = held })
+    → label_of false (record { tag = tag; held = renumber_children place held }) ≡ label_of false (record { tag = tag; held = held })
 label_by place tag (scalar_held value style) = refl
 label_by place tag (sequence_held items style) = refl
 label_by place tag (mapping_held pairs style) = refl

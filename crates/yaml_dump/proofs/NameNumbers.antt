@@ -1,4 +1,4 @@
--- The name that a dump gives the node of a place tells its number.
+-- The name that a dump gives the shared node of a rank has the rank as its number.
 use Rattle.yaml_base.proofs.Common.{suc, zero, ℕ, ◌+◌, ◌-◌, ◌*◌, ◌/◌, ◌%◌, ◌<◌, ◌≤◌, ◌==◌, length, replicate, cond, false, true, List, [], ◌∷◌, ◌++◌, refl, ◌≡◌}
 use Rattle.yaml_base.proofs.Common.{eqb-true, ap, ◌∙◌, arith, nat_tests, digit_glyph, digits_onto, numbered_name, fold}
 use Rattle.yaml_base.specs.{graphs.Meetings.decimal_digits, Settings.largest_usize}

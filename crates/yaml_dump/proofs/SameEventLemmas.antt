@@ -1,4 +1,4 @@
--- What `==` says of events: whether they are seen alike.
+-- The meaning of `==` for events: whether their views are equal.
 use Rattle.yaml_dump.proofs.Common.{◌≡◌, refl, false≢true, ap, sym, ◌∙◌, Bool, ◌&&◌, List, [], ◌∷◌, map, Option, None, Some, option_map, seen_event}
 use Rattle.std.proofs.lemmas.{Bool.Decides.Decides-at, Bool.Decides.Decides-like, Bool.Decides.Decides-and}
 use Rattle.std.proofs.lemmas.{Bool.Decides.Decides-int_eq, Slice.Eq.bytes_eq-Decides, Str.encodes-chars}
@@ -153,7 +153,7 @@ same_events A allocator own drops (YAML_MAPPING_START_EVENT anchor tag implicit 
 same_events A allocator own drops YAML_MAPPING_END_EVENT YAML_MAPPING_END_EVENT = (λ _. refl, λ _. refl)
 same_events A allocator own drops _ _ = (λ no. absurd (false≢true no), λ no. cc)
 
--- so of what a comparison of two lists answers
+-- so for the result of comparing two lists
 pub events_told : (A : RattleType) (allocator : Ghosts A.Denot) (own drops : Dict) (first second : List (yaml_event_t A.Denot)) (result : Bool)
     → result ≡ pointwise (events.eq-value A allocator own drops).it first second → Decides result (map seen_event first ≡ map seen_event second)
 events_told A allocator own drops first second result is =

@@ -1,4 +1,4 @@
--- What is read of documents that were dumped with their types unfolds their graphs with all tags.
+-- Documents that were dumped with their types read back as their graphs with all tags.
 use Rattle.yaml_dump.proofs.Common.{unwrap_or, Option, None, Some, drop, length, false, true, List, [], map, ◌∷◌, refl, ◌≡◌, ap, subst, sym, ◌∙◌, false≢true}
 use Rattle.yaml_dump.proofs.Common.{list_all, dumped_stream, Text, Event, Settings, AreDumped, Graph, DocumentTree, Promised, StandsAfter, State}
 use Rattle.yaml_base.proofs.Common.{ℕ, option_map, is_some, and_parts, and_from, scalar, sequence_start, mapping_start, scalar_tag, Stream, stream_events}
@@ -13,7 +13,7 @@ use Rattle.yaml_writer.specs.TypedEvents.{typed_event, document_by, says_tag, Re
 use Rattle.yaml_dump.proofs.GraphTreeLemmas.{has_kept_tag, dumped_keep, dumped_trees_unfold}
 use Rattle.yaml_dump.specs.TypedDumps.{TypesReadBack, TypedDumpsReadBack}
 
--- ---- each event of dumped graphs says its node's tag
+-- ---- each event of dumped graphs has its node's tag
 
 some_tag : (tag : Option Text) (text : Text) → is_same_text (Some text) tag ≡ true → is_some tag ≡ true
 some_tag None text h = h
@@ -31,7 +31,7 @@ all_say (event ∷ events) h =
     let both = and_parts (has_kept_tag false event) (list_all (has_kept_tag false) events) h in
     and_from (says_tag event) (list_all says_tag events) (says_kept event both.0) (all_say events both.1)
 
--- ---- what was given is written whole
+-- ---- the events that were given are written whole
 
 module _ (promised : (given : Settings) (all : List Event) (state : State) → StandsAfter given all state → Promised given all state)
     (given : Settings) (graphs : List Graph) (events : List Event) (state : State) (dumped : AreDumped graphs events)

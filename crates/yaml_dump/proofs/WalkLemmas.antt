@@ -48,7 +48,7 @@ finish_longer depth graph (visit ∷ outer) before =
 
 -- ---- a turn leaves the whole walk as it is
 
--- behind the last number
+-- after the last number
 drop_none : (numbers : List ℕ) (place : ℕ) → slice_get numbers place ≡ None → drop place numbers ≡ []
 drop_none [] zero none = refl
 drop_none [] (suc place) none = refl

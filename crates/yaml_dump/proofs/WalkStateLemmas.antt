@@ -1,4 +1,4 @@
--- What holds of a standing of a walk, and that each turn keeps it.
+-- The invariants of a walk's state, and that each turn keeps them.
 use Rattle.yaml_base.proofs.Common.{suc, ℕ, ◌+◌, ◌-◌, ◌<◌, ◌≤◌, All, Option, None, Some, length, replicate, slice_index_or as get_or, Bool, cond, false, true}
 use Rattle.yaml_base.proofs.Common.{List, [], map, ◌++◌, ◌∷◌, ◌⊎◌, refl, ◌≡◌, eq-eqb, ne_eqb, inl, inr, ap, subst, sym, ◌∙◌, arith, cases_eq, length-map}
 use Rattle.yaml_base.proofs.Common.{All-head, All-tail, list_any, Graph, is_whole, enters, leaves, meets_again, is_entry_of, steps_from}
@@ -21,7 +21,7 @@ unentered entered = sum_by (λ is. cond is 0 1) entered
 abbrev pub depth_of : Graph → WalkState → ℕ
 depth_of graph standing = suc (length graph.nodes) - length standing.visits
 
--- the flags tell what the steps entered, there are no more visits than entered nodes, and all numbers name nodes
+-- the flags say which nodes the steps entered, there are no more visits than entered nodes, and all numbers name nodes
 pub record IsSound (graph : Graph) (standing : WalkState) : Type 0 where
   pub counted : length standing.entered ≡ length graph.nodes
   pub flagged : (place : ℕ) → place < length graph.nodes → get_or standing.entered place false ≡ list_any (is_entry_of (suc place)) standing.steps
@@ -246,7 +246,7 @@ meets_root graph some =
       };
     }
 
--- ---- what a standing tells
+-- ---- the consequences of a state
 
 -- no visit is left: the walk is whole
 pub steps_whole : (graph : Graph) (standing : WalkState) → standing.visits ≡ [] → Stands graph standing → standing.steps ≡ graph_steps graph

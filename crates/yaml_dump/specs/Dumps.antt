@@ -1,4 +1,4 @@
--- What it means that events are emitted in order, and that a stream is opened, dumped to and closed.
+-- The effect of emitting events in order, and of opening, dumping to and closing a stream.
 use Rattle.std.specs.Prelude.{◌≡◌, ◌⊎◌, ◌==◌, ◌||◌, Bool, true, false, None, Result, Ok, Err, List, [], ◌∷◌, ◌++◌, length, if◌then◌else◌, is_ok}
 use Rattle.yaml_base.specs.Settings.{Settings}
 use Rattle.yaml_base.specs.Event.{Event, stream_start, stream_end}
@@ -9,12 +9,12 @@ use Rattle.yaml_base.specs.declared.errors.yaml_error_t.TheVariants.{Memory}
 use Rattle.yaml_emitter.specs.State.{State}
 use Rattle.yaml_emitter.specs.Moves.{Moves}
 
--- all of them, without an error; where there are none, nothing changed
+-- all events are emitted, without an error; if there are none, nothing changes
 pub record EmitsAll (before : State) (events : List Event) (after : State) : Type 0 where
   pub moves : Moves before events (Ok tt) after
   pub unchanged : events ≡ [] → after ≡ before
 
--- up to the first whose call returned an error, this one; none after it was given, and what the events before it wrote is kept
+-- the events before the first whose call returns an error, and that event; none after it is given, and the bytes of those before it are kept
 pub record FailsAt (before : State) (events : List Event) (error : yaml_error_t) (after : State) : Type 0 where
   pub earlier : List Event
   pub event : Event
@@ -29,12 +29,12 @@ abbrev pub EmitsEach : State → List Event → Result (Unit {0}) yaml_error_t �
 EmitsEach before events (Ok _) after = EmitsAll before events after
 EmitsEach before events (Err error) after = FailsAt before events error after
 
--- a stream is opened by its start, where it isn't opened
+-- a stream is opened by its start, unless it is opened
 abbrev pub OpensFrom : (opened : Bool) → State → Result (Unit {0}) yaml_error_t → State → Type 0
 OpensFrom true before answer after = (answer ≡ Ok tt) × (after ≡ before)
 OpensFrom false before answer after = Moves (record before { opened = is_ok answer }) (stream_start None ∷ []) answer after
 
--- a stream is closed by its end, where it isn't closed
+-- a stream is closed by its end, unless it is closed
 abbrev pub ClosesFrom : (closed : Bool) → State → Result (Unit {0}) yaml_error_t → State → Type 0
 ClosesFrom true before answer after = (answer ≡ Ok tt) × (after ≡ before)
 ClosesFrom false before answer after = Moves (record before { closed = is_ok answer }) (stream_end ∷ []) answer after
@@ -42,20 +42,20 @@ ClosesFrom false before answer after = Moves (record before { closed = is_ok ans
 abbrev pub Closes : State → Result (Unit {0}) yaml_error_t → State → Type 0
 Closes before answer after = ClosesFrom before.closed before answer after
 
--- there are events
+-- true if there are events
 abbrev pub has_some : List Event → Bool
 has_some [] = false
 has_some (event ∷ rest) = true
 
--- what opens a stream that isn't opened
+-- the events that open a stream, unless it is opened
 abbrev pub opening_unless : Bool → List Event
 opening_unless opened = if opened then [] else stream_start None ∷ []
 
--- what a document without nodes emits: the stream's end, where it isn't closed
+-- the events of a document without nodes: the stream's end, unless it is closed
 abbrev pub closing_unless : Bool → List Event
 closing_unless closed = if closed then [] else stream_end ∷ []
 
--- what a dump emits: the document's events, after the stream's start where it isn't opened; a document without nodes
+-- the events of a dump: the document's, after the stream's start unless it is opened; a document without nodes
 -- closes the stream
 abbrev pub dump_events : State → (nodeless : Bool) → List Event → List Event
 dump_events state nodeless document = opening_unless state.opened ++ (if nodeless then closing_unless state.closed else document)
@@ -63,23 +63,23 @@ dump_events state nodeless document = opening_unless state.opened ++ (if nodeles
 abbrev pub dumped_events : State → Graph → List Event
 dumped_events state graph = dump_events state (length graph.nodes == 0) (document_event_list graph)
 
--- a dump that fails at an event leaves the stream opened where it was, or where an event before the failing one opened it
+-- a dump that fails at an event leaves the stream opened if it was before, or if an event before the failing one opened it
 pub record FailsDump (nodeless : Bool) (document : List Event) (before : State) (error : yaml_error_t) (after : State) : Type 0 where
   pub fails : FailsAt (record before { opened = after.opened }) (dump_events before nodeless document) error after
   pub opened_before : after.opened ≡ (before.opened || has_some fails.earlier)
 
--- a dump on an emitter without an error: the document's events are emitted, the stream is opened then, and closed where it was, or
--- where the document has no nodes; or its list of events found no room, and nothing was done; or it fails at an event
+-- a dump on an emitter without an error: the document's events are emitted, the stream is then opened, and closed if it was before or
+-- if the document has no nodes; or there was no memory for its list of events, and nothing was done; or it fails at an event
 abbrev pub DumpsEvents : (nodeless : Bool) → List Event → State → Result (Unit {0}) yaml_error_t → State → Type 0
 DumpsEvents nodeless document before (Ok _) after =
     EmitsAll (record before { opened = true; closed = before.closed || nodeless }) (dump_events before nodeless document) after
 DumpsEvents nodeless document before (Err error) after = ((error ≡ Memory) × (after ≡ before)) ⊎ FailsDump nodeless document before error after
 
--- so with the events of a graph
+-- a dump of the events of a graph
 abbrev pub Dumps : Graph → State → Result (Unit {0}) yaml_error_t → State → Type 0
 Dumps graph before answer after = DumpsEvents (length graph.nodes == 0) (document_event_list graph) before answer after
 
--- what the canonical reader finds in the output of these events unfolds the graphs of which they are dumps
+-- if these events are dumps of graphs in canonical mode, the canonical reader finds contents in their output that unfold the graphs
 abbrev pub ReadsGraphs : Settings → List Event → State → Type 0
 ReadsGraphs given events after =
     (graphs : List Graph) → given.canonical ≡ true → AreDumped graphs events → GraphsRead given.breaks12 graphs after.page.output

@@ -1,4 +1,4 @@
--- What follows of dumps, and of events emitted in order.
+-- The consequences of dumps, and of emitting events in order.
 use Rattle.std.specs.Prelude.{Bool, ◌≡◌, ◌⊎◌, true, Result, Ok, Err, List, [], ◌∷◌, ◌++◌}
 use Rattle.yaml_base.specs.Settings.{Settings}
 use Rattle.yaml_base.specs.Event.{Event, stream_end}
@@ -16,7 +16,7 @@ use Rattle.yaml_dump.specs.GraphTrees.{ReadsTrees}
 abbrev pub IsBegun : State → State → Type 0
 IsBegun before after = (after ≡ before) ⊎ (after.started ≡ true)
 
--- text and output only grow; what the caller set stays, but for what says that the stream is begun, opened and closed; nothing was
+-- text and output only grow; the caller's settings stay, except whether the stream is begun, opened and closed; and nothing was
 -- done, or the stream was begun
 pub record KeepsRest (before after : State) : Type 0 where
   pub grows : Grows before.page after.page
@@ -24,8 +24,8 @@ pub record KeepsRest (before after : State) : Type 0 where
   pub begun : IsBegun before after
 
 -- emitting in order is a move, by all events that were given; both it and a dump keep the rest; a dump that fails closes nothing;
--- a document's events unfold its graph; and of what ends by the stream's end without an error both readers find the graphs of which
--- it is a dump
+-- a document's events unfold its graph; and in output that ends with the stream's end, without an error, both readers find the graphs
+-- that were dumped
 pub record DumpsTell : Type 0 where
   pub moves : (before after : State) (events : List Event) (answer : Result (Unit {0}) yaml_error_t) → EmitsEach before events answer after
       → (given : List Event) × Moves before given answer after

@@ -1,4 +1,4 @@
--- Equal bytes come only from documents that say the same; and documents that say the same have equal bytes in canonical mode.
+-- Equal bytes come only from equivalent documents; and equivalent documents have equal bytes in canonical mode.
 use Rattle.std.specs.Prelude.{◌≡◌, ℕ, Bool, true, List}
 use Rattle.yaml_base.specs.Settings.{Settings}
 use Rattle.yaml_base.specs.Event.{Event}
@@ -15,27 +15,27 @@ OneReading =
     (breaks12 : Bool) (firsts seconds : List Graph) (bytes : List ℕ) → GraphsRead breaks12 firsts bytes → GraphsRead breaks12 seconds bytes
     → AllAreEquivalent firsts seconds
 
--- nor do those in which the reader of whole streams finds graphs
+-- bytes in which the reader of whole streams finds graphs hold no others
 abbrev pub OneReadingBack : Type 0
 OneReadingBack =
     (breaks12 : Bool) (firsts seconds : List Graph) (bytes : List ℕ) → GraphsReadBack breaks12 firsts bytes → GraphsReadBack breaks12 seconds bytes
     → AllAreEquivalent firsts seconds
 
--- under equal settings equal canonical outputs, uncut, come only from documents that say the same
+-- under equal settings equal canonical outputs, uncut, come only from equivalent documents
 abbrev pub EqualBytesTellGraphs : Type 0
 EqualBytesTellGraphs =
     (given : Settings) (firsts seconds : List Graph) (first second : List Event) → AreDumped firsts first → AreDumped seconds second
     → IsWrittenWhole given first → IsWrittenWhole given second → output_of given first ≡ output_of given second → AllAreEquivalent firsts seconds
 
--- so do equal outputs in every mode, of streams that read back
+-- under equal settings equal outputs of streams that read back, in every mode, come only from equivalent documents
 abbrev pub EqualReadableBytesTellGraphs : Type 0
 EqualReadableBytesTellGraphs =
     (given : Settings) (firsts seconds : List Graph) (first second : List Event) → AreDumped firsts first → AreDumped seconds second
     → IsReadable given first → IsReadable given second → output_of given first ≡ output_of given second → AllAreEquivalent firsts seconds
 
--- and in canonical mode documents that say the same, and end alike, have equal outputs, whatever their styles
-abbrev pub EqualGraphsGiveBytes : Type 0
-EqualGraphsGiveBytes =
+-- in canonical mode equivalent documents that end alike have equal outputs, whatever their styles
+abbrev pub IsomorphicGraphsDumpEqually : Type 0
+IsomorphicGraphsDumpEqually =
     (given : Settings) (firsts seconds : List Graph) (first second : List Event) → given.canonical ≡ true → AreDumped firsts first
     → AreDumped seconds second → encoding_asked first ≡ encoding_asked second → AreWrittenAlike firsts seconds
     → output_of given first ≡ output_of given second

@@ -13,12 +13,12 @@ abbrev pub event_in_form : EventForm → Event → Event
 event_in_form Same = λ event. event
 event_in_form Typed = typed_event
 
--- a dump of these events; on an emitter with an error that error, and nothing done
+-- a dump of these events; on an emitter with an error nothing changes, and that error is the answer
 abbrev pub DumpsFrom : Option yaml_error_t → Graph → List Event → State → Result (Unit {0}) yaml_error_t → State → Type 0
 DumpsFrom (Some error) graph document before answer after = (after ≡ before) × (answer ≡ Err error)
 DumpsFrom None graph document before answer after = DumpsEvents (length graph.nodes == 0) document before answer after
 
--- the document's events in this form
+-- a dump of the document's events in this form
 abbrev pub DumpsInForm : EventForm → Graph → State → Result (Unit {0}) yaml_error_t → State → Type 0
 DumpsInForm form graph before answer after =
     DumpsFrom before.error graph (map (event_in_form form) (document_event_list graph)) before answer after

@@ -1,4 +1,4 @@
--- What the reader of whole streams finds of dumped graphs, in every mode. A tag is written only where it isn't that of the
+-- The trees that the reader of whole streams finds in dumped graphs, in every mode. A tag is written only if it isn't that of the
 -- node's kind, or in canonical mode; a node that is read without a tag has that of its kind, as libyaml's loader gives it.
 use Rattle.std.specs.Prelude.{◌≡◌, Bool, true, false, None, Some, List, [], ◌∷◌, ℕ, ⊤, unwrap_or}
 use Rattle.yaml_base.specs.Characters.{Text}
@@ -13,7 +13,7 @@ use Rattle.yaml_base.specs.StreamLaw.{reads_alike}
 use Rattle.yaml_base.specs.streams.StreamReader.{stream_trees}
 use Rattle.yaml_emitter.specs.State.{State}
 
--- the tag of a scalar that was read: without one, that of texts
+-- the tag of a scalar that was read; that of strings if it has none
 abbrev pub tag_or_string : Tagging → Text
 tag_or_string (with_tag tag) = tag
 tag_or_string (without_tag standing) = string_tag
@@ -38,7 +38,7 @@ abbrev mutual
   tree_pairs_shapes (tree_pairs_and pairs key value) =
       shapes_and (shapes_and (tree_pairs_shapes pairs) (tree_shape key)) (tree_shape value)
 
--- a document that was read unfolds a graph but for its styles, and has its version and directives
+-- a document that was read unfolds a graph except for its styles, and has its version and directives
 pub record DocumentTreeUnfolds (graph : Graph) (document : DocumentTree) : Type 0 where
   pub version : document.version ≡ graph.start.version
   pub directives : document.directives ≡ graph.start.directives
@@ -50,14 +50,14 @@ TreesUnfold [] [] = ⊤
 TreesUnfold (graph ∷ graphs) (document ∷ documents) = DocumentTreeUnfolds graph document × TreesUnfold graphs documents
 TreesUnfold _ _ = ⊥
 
--- what the reader of whole streams finds in bytes unfolds these graphs
+-- the reader of whole streams finds documents in these bytes that unfold the graphs
 pub record GraphsReadBack (breaks12 : Bool) (graphs : List Graph) (bytes : List ℕ) : Type 0 where
   pub documents : List DocumentTree
   pub read : stream_trees breaks12 bytes ≡ Some documents
   pub unfolds : TreesUnfold graphs documents
 
--- what the reader of whole streams finds in the output of these events unfolds the graphs of which they are dumps: in portable
--- mode whatever they are, else where no document is lost and no tag has a flow indicator
+-- if these events are dumps of graphs, the reader of whole streams finds documents in their output that unfold the graphs: in portable
+-- mode for all events, in other modes for those that lose no document and have no flow indicator in a tag
 abbrev pub ReadsTrees : Settings → List Event → State → Type 0
 ReadsTrees given events after =
     (graphs : List Graph) → reads_alike given.portable given.canonical events ≡ true → AreDumped graphs events

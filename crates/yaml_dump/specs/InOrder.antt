@@ -17,21 +17,21 @@ entered_nodes walk = filter_map node_entered walk
 abbrev pub number_in_order : List ℕ → ℕ → ℕ
 number_in_order order number = suc (position_or_len (λ other. other == number) order)
 
--- what a node holds, by other numbers
-abbrev pub held_by : (ℕ → ℕ) → Held → Held
-held_by place (scalar_held value style) = scalar_held value style
-held_by place (sequence_held items style) = sequence_held (map place items) style
-held_by place (mapping_held pairs style) = mapping_held (map (λ pair. record { key = place pair.key; value = place pair.value }) pairs) style
+-- a node's contents, with its children renumbered
+abbrev pub renumber_children : (ℕ → ℕ) → Held → Held
+renumber_children place (scalar_held value style) = scalar_held value style
+renumber_children place (sequence_held items style) = sequence_held (map place items) style
+renumber_children place (mapping_held pairs style) = mapping_held (map (λ pair. record { key = place pair.key; value = place pair.value }) pairs) style
 
--- a node by other numbers
+-- a node with its children renumbered
 abbrev pub node_by : (ℕ → ℕ) → GraphNode → GraphNode
-node_by place node = record { tag = node.tag; held = held_by place node.held }
+node_by place node = record { tag = node.tag; held = renumber_children place node.held }
 
--- the node of a number; an empty one where there is none
+-- the node of a number; an empty one if there is none
 abbrev pub numbered_node : Graph → ℕ → GraphNode
 numbered_node graph number = unwrap_or (node_numbered graph number) (record { tag = []; held = scalar_held [] any_style })
 
--- the nodes of some numbers, in this order, which are numbered by it
+-- the nodes of these numbers, in this order, with their children renumbered by `order`
 abbrev pub nodes_in : Graph → List ℕ → List ℕ → List GraphNode
 nodes_in graph order numbers = map (λ number. node_by (number_in_order order) (numbered_node graph number)) numbers
 

@@ -1,4 +1,4 @@
--- Documents that are dumped with their types: what is read of them has all tags of their nodes, whichever schema resolves it.
+-- Documents that are dumped with their types: they read back with all tags of their nodes, whichever schema resolves them.
 use Rattle.std.specs.Prelude.{◌≡◌, ◌==◌, ℕ, Bool, true, None, Some, Result, List, map, length}
 use Rattle.yaml_base.specs.Settings.{Settings}
 use Rattle.yaml_base.specs.Event.{Event}
@@ -24,16 +24,16 @@ typed_event_list graph = map typed_event (document_event_list graph)
 abbrev pub DumpsTyped : Graph → State → Result (Unit {0}) yaml_error_t → State → Type 0
 DumpsTyped graph before answer after = DumpsEvents (length graph.nodes == 0) (typed_event_list graph) before answer after
 
--- what the reader of whole streams finds in bytes unfolds these graphs with all their tags, where either schema gives its tag to what
--- has none
+-- the reader of whole streams finds documents in these bytes that unfold the graphs with all their tags, if either schema gives its tag
+-- to each scalar without one
 pub record TypesReadBack (breaks12 : Bool) (graphs : List Graph) (bytes : List ℕ) : Type 0 where
   pub documents : List DocumentTree
   pub read : stream_trees breaks12 bytes ≡ Some documents
   pub by_11 : TreesUnfold graphs (map (document_by resolved_by_11) documents)
   pub by_core : TreesUnfold graphs (map (document_by resolved_by_core) documents)
 
--- so of an emitter that was given the typed events of dumped graphs, and has no error: in portable mode whatever they are, else where
--- no document is lost and no tag has a flow indicator
+-- this holds for an emitter that was given the typed events of dumped graphs and has no error: in portable mode for all events, in other
+-- modes for those that lose no document and have no flow indicator in a tag
 abbrev pub TypedDumpsReadBack : Type 0
 TypedDumpsReadBack =
     (given : Settings) (graphs : List Graph) (events : List Event) (state : State) → AreDumped graphs events

@@ -1,4 +1,4 @@
--- What contracts see of a walk's steps.
+-- The view of a walk's steps in contracts.
 use Rattle.yaml_base.specs.graphs.Meetings as meetings
 use Rattle.yaml_base.specs.graphs.Meetings.{enters, leaves, meets_again}
 use Rattle.yaml_dump.specs.declared.steps.Step.{Step}

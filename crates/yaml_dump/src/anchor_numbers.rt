@@ -6,7 +6,7 @@ ghost use Rattle.yaml_dump.specs.Composition as composition;
 
 use std::alloc::Allocator;
 
-/// Returns a number with one more digit, where that fits. Other characters change nothing.
+/// Returns a number with one more digit, if the result fits. Other characters change nothing.
 fn with_digit(number: usize, character: char) -> usize
     ensures { result ≡ composition.with_digit number character }
 {
@@ -21,7 +21,7 @@ fn with_digit(number: usize, character: char) -> usize
     }
 }
 
-/// Returns the number that the digits of a name write.
+/// Returns the number that the digits in a name give.
 pub(crate) fn number_in_name(name: &str) -> usize
     ensures { result ≡ composition.number_in_name (chars name.now) }
 {

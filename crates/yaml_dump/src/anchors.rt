@@ -16,7 +16,7 @@ pub(crate) fn numbered_name<A: Allocator>(alloc: A, place: usize) -> Result<Stri
     format!(in alloc; "id{place:03}")
 }
 
-/// Gives the node of a step its place where it is met again and has none yet; how many nodes have one then.
+/// Gives the node of a step the next rank if the walk meets it again and it has none yet. Returns the number of nodes that have one.
 fn place_met(places: &mut [usize], shared: usize, step: Step) -> usize
     requires numbered { IsNumbered (length places.old) (seen_step step) }
     requires fits { shared < largest_usize }
@@ -33,9 +33,8 @@ fn place_met(places: &mut [usize], shared: usize, step: Step) -> usize
     shared + 1
 }
 
-/// Returns for each node, that of number 1 first, its place from 1 on among those that the walk meets again, in the
-/// order in which each first is; 0 for one that is met once.
-pub(crate) fn shared_places<A: Allocator + Copy>(
+/// Returns for each node, that of number 1 first, its rank among shared nodes, by second visit and from 1 on; 0 if not shared.
+pub(crate) fn shared_ranks<A: Allocator + Copy>(
     alloc: A,
     walk: &[Step],
     count: usize,

@@ -1,17 +1,17 @@
-//! The nodes of a document, composed of its events.
+//! Composes the nodes of a document from its events.
 ghost use Rattle.std.specs.Prelude.{◌≡◌, [], ◌∷◌, IfOk, map, option_map, length, unwrap_or, fold, slice_index_or};
 ghost use Rattle.yaml_base.specs.Seen.{seen_text, seen_event};
 ghost use Rattle.yaml_base.specs.graphs.Meetings.{GraphNode};
 ghost use Rattle.yaml_base.specs.graphs.SeenNodes.{seen_number, seen_node, seen_pair};
 ghost use Rattle.yaml_dump.specs.Composition as composition;
-ghost use Rattle.yaml_dump.specs.Composition.{with_children, begun_node, opened_node, carried, nothing_composed, composed, ended, filled, node_with, paired};
+ghost use Rattle.yaml_dump.specs.Composition.{with_children, begun_node, opened_node, carried, nothing_composed, composed, ended, filled, node_with, pairs_of_list};
 ghost use Rattle.yaml_dump.specs.SeenComposer.{seen_composer};
 
 use crate::anchor_numbers::{number_in_name, number_of_anchor};
 use std::alloc::{AllocError, Allocator};
 use yaml_base::{yaml_event_t, yaml_node_data_t, yaml_node_pair_t, yaml_node_t};
 
-/// A collection that hasn't ended: where its node stands, and the numbers of its children so far.
+/// A collection that hasn't ended: its node's place, and the numbers of its children so far.
 #[derive(Drop)]
 struct Unended<A: Allocator> {
     place: usize,
@@ -21,21 +21,21 @@ struct Unended<A: Allocator> {
 /// The state of the composing so far.
 #[derive(Drop)]
 struct Composer<A: Allocator> {
-    /// The nodes that have begun. A collection gets its children where it ends.
+    /// The nodes that have begun. A collection gets its children when it ends.
     nodes: Vec<yaml_node_t<A>, A>,
     /// The outermost first.
     unended: Vec<Unended<A>, A>,
-    /// Of each number of a name the number of the node that carries it, else 0.
+    /// For each number of a name the number of the node that carries it, else 0.
     carriers: Vec<i32, A>,
 }
 
-/// Sets pairs to those of numbers that follow one another.
+/// Sets pairs to those of a list of numbers, two by two.
 fn fill_pairs<A: Allocator>(
     alloc: A,
     pairs: &mut Vec<yaml_node_pair_t, A>,
     numbers: &[i32],
 ) -> Result<(), AllocError>
-    ensures { IfOk result (λ _. map seen_pair pairs.new.items ≡ paired (map seen_number numbers.now)) }
+    ensures { IfOk result (λ _. map seen_pair pairs.new.items ≡ pairs_of_list (map seen_number numbers.now)) }
 {
     let count = numbers.len() / 2;
     let mut made = Vec::with_capacity(alloc, count)?;
@@ -81,7 +81,7 @@ fn fill_at<A: Allocator + Copy>(
     fill(alloc, &mut nodes[place], children)
 }
 
-/// Returns a copy of a tag; an empty text where there is none.
+/// Returns a copy of a tag; an empty text if there is none.
 fn copied_tag<A: Allocator + Copy>(
     alloc: A,
     tag: &Option<String<A>>,
@@ -95,7 +95,7 @@ fn copied_tag<A: Allocator + Copy>(
 }
 
 impl<A: Allocator> Composer<A> {
-    /// Returns a composer before the first event, for so many numbers of names.
+    /// Returns a composer before the first event, for `count` numbers of names.
     fn at_start(alloc: A, count: usize) -> Result<Composer<A>, AllocError>
     where
         A: Copy,
@@ -130,7 +130,7 @@ impl<A: Allocator> Composer<A> {
         }
     }
 
-    /// Notes who carries a name of this number.
+    /// Notes the node that carries a name of this number.
     fn carry(&mut self, number: usize, carrier: i32)
         ensures { seen_composer self.new ≡ carried number (seen_number carrier) (seen_composer self.old) }
     {
@@ -245,7 +245,7 @@ impl<A: Allocator> Composer<A> {
     }
 }
 
-/// Returns the nodes of which these are the events, in the order in which they begin.
+/// Returns the nodes of these events, in the order in which they begin.
 pub(crate) fn composed_nodes<A: Allocator + Copy>(
     alloc: A,
     events: &[yaml_event_t<A>],

@@ -1,4 +1,4 @@
-//! A document composed of its events, as libyaml's loader composes one of a parser's.
+//! Composes a document from its events, as libyaml's loader does from a parser's.
 ghost use Rattle.std.specs.Prelude.{◌≡◌, Bool, Some, true, IfOk, MatchResult, map, option_map};
 ghost use Rattle.yaml_base.specs.Event.{DocumentStart, document_start, document_end};
 ghost use Rattle.yaml_base.specs.Seen.{seen_event};
@@ -20,7 +20,7 @@ use yaml_base::{
     yaml_document_t, yaml_event_t, yaml_node_t, yaml_tag_directive_t, yaml_version_directive_t,
 };
 
-/// The reason why a list of events is no document's.
+/// The reason why a list of events isn't that of a document.
 #[derive(Clone, Copy, PartialEq, Eq, Debug)]
 pub enum ComposeError {
     /// No document with nodes has these events.
@@ -38,7 +38,7 @@ impl fmt::Display for ComposeError {
     }
 }
 
-/// So `?` turns it into a caller's own error.
+/// So `?` converts it to a caller's own error.
 impl Error for ComposeError {}
 
 /// The start of a document.
@@ -49,7 +49,7 @@ struct Heading<A: Allocator> {
     implicit: bool,
 }
 
-/// Returns a copy of what a document's first event holds; none where the event begins no document.
+/// Returns a copy of the contents of a document's first event; none if the event begins no document.
 fn heading_of<A: Allocator + Copy>(
     alloc: A,
     event: &yaml_event_t<A>,
@@ -75,7 +75,7 @@ fn heading_of<A: Allocator + Copy>(
     }))
 }
 
-/// Returns whether `...` may be left out after a document's last event; none where the event ends no document.
+/// Returns whether `...` may be left out after a document's last event; none if the event ends no document.
 fn end_of<A: Allocator>(event: &yaml_event_t<A>) -> Option<bool>
     ensures { (implicit : Bool) → seen_event event.now ≡ document_end implicit → result ≡ Some implicit }
 {
@@ -85,7 +85,7 @@ fn end_of<A: Allocator>(event: &yaml_event_t<A>) -> Option<bool>
     }
 }
 
-/// Returns the document of these parts; none where a node holds a number that names none.
+/// Returns the document of these parts; none if a node holds a number that names none.
 fn document_of<A: Allocator>(
     heading: Heading<A>,
     nodes: Vec<yaml_node_t<A>, A>,
@@ -134,14 +134,15 @@ fn composed_document<A: Allocator + Copy>(
     document_of(heading, nodes, end_implicit)
 }
 
-/// Returns the document that has these events: those that `document_events` gives, from its start to its end. Its nodes are
-/// numbered in the order in which they begin. A document without nodes has no events, and is never returned.
+/// Returns the document that has these events, from its start to its end, as `document_events` gives them. Its nodes are numbered
+/// in the order in which they begin. A document without nodes has no events, and is never returned.
 ///
-/// An event may hold nothing that a dump doesn't give it. Its anchors are numbered in the order of the first aliases, no other node has
-/// an anchor, each node has its tag, and its flags say whether that is the tag of its kind.
+/// The events must be such as a dump gives: their anchors are numbered in the order of the first aliases, no other node has an
+/// anchor, each node has its tag, and its flags say whether that is the tag of its kind.
 ///
 /// # Errors
-/// `NotDumped` where no document with nodes has these events. `Memory` where a growth was refused, or where there are more nodes than a
+///
+/// `NotDumped` if no document with nodes has these events. `Memory` if an allocation fails, or if there are more nodes than a
 /// document can number.
 pub fn document_of_events<A: Allocator + Copy>(
     alloc: A,

@@ -9,7 +9,7 @@ ghost use Rattle.yaml_dump.specs.Events.{without_children};
 use std::alloc::{AllocError, Allocator};
 use yaml_base::{yaml_document_t, yaml_node_data_t, yaml_node_t};
 
-/// Returns a node's texts, kind and style: a copy of a collection has no children, of which no event speaks.
+/// Returns a node's texts, kind and style. The copy of a collection has no children, since its events don't name them.
 fn copied_node<A: Allocator + Copy>(
     alloc: A,
     node: &yaml_node_t<A>,
@@ -57,7 +57,7 @@ fn node_of<A: Allocator>(document: &yaml_document_t<A>, number: usize) -> Option
     document.get_node(number as i32)
 }
 
-/// Returns how many nodes there are.
+/// Returns the number of nodes.
 fn count_of<A: Allocator>(document: &yaml_document_t<A>) -> usize
     ensures all { result ≡ length (graph_of document.now).nodes }
     ensures few { result ≤ largest_i32 }
@@ -65,7 +65,7 @@ fn count_of<A: Allocator>(document: &yaml_document_t<A>) -> usize
     document.node_count() as usize
 }
 
-/// Copies of all nodes, that of number 1 first.
+/// Returns copies of all nodes, that of number 1 first.
 pub(crate) fn copied_nodes<A: Allocator + Copy>(
     alloc: A,
     document: &yaml_document_t<A>,

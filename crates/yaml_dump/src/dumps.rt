@@ -1,4 +1,4 @@
-//! Documents dumped: their events, emitted.
+//! Dumps documents: emits their events.
 
 ghost use Rattle.std.specs.Prelude.{◌≡◌, ◌==◌, true, false, None, length, map, IfOk, IfErr, OnOk, IsSome};
 ghost use Rattle.yaml_base.specs.graphs.Documents.{graph_of};
@@ -19,14 +19,15 @@ use std::alloc::{AllocError, Allocator};
 use yaml_base::{yaml_document_t, yaml_error_t, yaml_event_t};
 use yaml_emitter::yaml_emitter_t;
 
-/// Returns the events of a document, from its start to its end; none where it has no nodes.
+/// Returns the events of a document, from its start to its end; none if it has no nodes.
 ///
-/// Each node that is reached from node 1 is written where it is first met, and stands as an alias elsewhere; nodes that
-/// are met more than once have anchors, numbered in the order of their second meetings (`id001`). The events of a document
-/// that has nodes are those of a tree that unfolds its graph.
+/// Each node that is reached from node 1 is written where the walk first meets it, and is an alias elsewhere. Nodes that the walk
+/// meets more than once have anchors, numbered in the order of their second meetings (`id001`). The events of a document with
+/// nodes are those of a tree that unfolds its graph.
 ///
 /// # Errors
-/// `Memory` where a growth was refused.
+///
+/// `Memory` if an allocation fails.
 pub fn document_events<A: Allocator + Copy>(
     alloc: A,
     document: &yaml_document_t<A>,
@@ -54,7 +55,7 @@ fn events_of_copies<A: Allocator + Copy>(
     ensures events { IfOk result (λ events. map seen_event events.items ≡ document_event_list (graph_of document.now)) }
     ensures unfolds { IfOk result (λ events. EventsUnfold (graph_of document.now) (map seen_event events.items)) }
 {
-    // A law: what the nodes hold are numbers of nodes.
+    // A law: the numbers that nodes hold are numbers of nodes.
     document.numbers_name_nodes();
     let Ok(outline) = outline_of(alloc, document) else {
         return Err(AllocError);
@@ -65,7 +66,7 @@ fn events_of_copies<A: Allocator + Copy>(
     events_of_walk(alloc, outline, copies)
 }
 
-/// Returns the events of a document, into which its texts are moved; none where it has no nodes.
+/// Returns the events of a document, into which its texts are moved; none if it has no nodes.
 fn moved_events<A: Allocator + Copy>(
     alloc: A,
     document: yaml_document_t<A>,
@@ -82,7 +83,7 @@ fn moved_events<A: Allocator + Copy>(
     events_of_walk(alloc, outline, nodes)
 }
 
-/// Opens the stream where it isn't opened.
+/// Opens the stream if it isn't opened.
 fn open_if_needed<A: Allocator + Copy>(emitter: &mut yaml_emitter_t<A>) -> Result<(), yaml_error_t>
     requires { emitter.old.has_output ≡ true }
     ensures { OpensFrom emitter.old.opened emitter.old result emitter.new }
@@ -93,13 +94,14 @@ fn open_if_needed<A: Allocator + Copy>(emitter: &mut yaml_emitter_t<A>) -> Resul
     yaml_emitter_open(emitter)
 }
 
-/// Emits a document's events, after opening the stream where it isn't opened; a document without nodes closes the
-/// stream, and what was dumped is then read back as `yaml_emitter_close` says. The document is taken in each case.
+/// Emits a document's events, after opening the stream if it isn't opened. A document without nodes closes the stream; the
+/// dumped documents then read back as `yaml_emitter_close` says. The document is taken in each case. An output must be set.
 ///
 /// # Errors
-/// The first error that there was, in this call or before. Where the list of events can't be allocated, `Memory` is
-/// returned and the emitter is as before. After an error the stream is opened where it was, or where its start was
-/// emitted, and closed only where it was. In each case it is as before, or its stream is started.
+///
+/// The first error, of this call or an earlier one. If the list of events can't be allocated, `Memory` is returned and the emitter
+/// doesn't change. After an error the stream is opened if it was before, or if its start was emitted, and closed only if it was
+/// before. In each case the emitter doesn't change, or its stream is started.
 pub fn yaml_emitter_dump<A: Allocator + Copy>(
     alloc: A,
     emitter: &mut yaml_emitter_t<A>,
@@ -114,12 +116,13 @@ pub fn yaml_emitter_dump<A: Allocator + Copy>(
     dump_in_form(alloc, emitter, document, &EventForm::Same)
 }
 
-/// Emits a document's events as `yaml_emitter_dump` does, with the flags that keep each scalar's tag (`typed_event`): what is read back has
-/// the tag of each node, whichever schema gives tags to what is written without one, the type repository of YAML 1.1 or the core schema of
-/// YAML 1.2 (`typed_dumps_read_back`; but for two kinds of streams where portable mode is off). So a string `no` stands in quotes, and an
-/// integer `3` stands plain.
+/// Emits a document's events as `yaml_emitter_dump` does, with the flags that keep each scalar's tag (`typed_event`). The document
+/// then reads back with the tag of each node, whether the type repository of YAML 1.1 or the core schema of YAML 1.2 gives tags to
+/// scalars that are written without one (`typed_dumps_read_back`; except for two kinds of streams if portable mode is off). So a
+/// string `no` is quoted, and an integer `3` is plain. An output must be set.
 ///
 /// # Errors
+///
 /// Those of `yaml_emitter_dump`, in the same cases.
 pub fn yaml_emitter_dump_typed<A: Allocator + Copy>(
     alloc: A,
@@ -135,8 +138,8 @@ pub fn yaml_emitter_dump_typed<A: Allocator + Copy>(
     dump_in_form(alloc, emitter, document, &EventForm::Typed)
 }
 
-/// Emits a document's events, each in this form, after opening the stream where it isn't opened; a document without nodes
-/// closes the stream.
+/// Emits a document's events, each in this form, after opening the stream if it isn't opened. A document without nodes closes
+/// the stream.
 fn dump_in_form<A: Allocator + Copy>(
     alloc: A,
     emitter: &mut yaml_emitter_t<A>,

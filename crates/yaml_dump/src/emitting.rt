@@ -1,4 +1,4 @@
-//! Events emitted one after another, as they are or as `typed_event` makes them.
+//! Emits events one after another, as they are or as `typed_event` makes them.
 
 ghost use Rattle.std.specs.Prelude.{◌≡◌, true, None, map};
 ghost use Rattle.yaml_base.specs.Seen.{seen_event};
@@ -31,9 +31,10 @@ impl EventForm {
     }
 }
 
-/// Emits events in order, up to the first call that returns an error.
+/// Emits events in order, up to the first call that returns an error. An output must be set, and the emitter has no error.
 ///
 /// # Errors
+///
 /// The error of that call; no event after it is given to the emitter.
 pub fn emit_each<A: Allocator + Copy>(
     emitter: &mut yaml_emitter_t<A>,
@@ -50,6 +51,7 @@ pub fn emit_each<A: Allocator + Copy>(
 /// Emits events in order as `emit_each` does, each as `typed_event` makes it.
 ///
 /// # Errors
+///
 /// The error of the first call that returns one; no event after it is given to the emitter.
 pub fn emit_each_typed<A: Allocator + Copy>(
     emitter: &mut yaml_emitter_t<A>,
@@ -63,7 +65,7 @@ pub fn emit_each_typed<A: Allocator + Copy>(
     emit_in_form(emitter, events, &EventForm::Typed)
 }
 
-/// Emits events in order, each in this form, up to the first call that returns an error, which it returns.
+/// Emits events in order, each in this form, up to the first call that returns an error; that error is returned.
 pub(crate) fn emit_in_form<A: Allocator + Copy>(
     emitter: &mut yaml_emitter_t<A>,
     events: Vec<yaml_event_t<A>, A>,

@@ -15,7 +15,7 @@ ghost use Rattle.yaml_dump.specs.Named.{IsNamed};
 ghost use Rattle.yaml_dump.specs.Outlines.{IsOutline};
 ghost use Rattle.yaml_dump.specs.WalkSteps.{seen_step};
 
-use crate::anchors::{numbered_name, shared_places};
+use crate::anchors::{numbered_name, shared_ranks};
 use crate::outlines::Outline;
 use crate::steps::Step;
 use crate::tags::{YAML_MAP_TAG, YAML_SEQ_TAG, YAML_STR_TAG};
@@ -26,7 +26,7 @@ use yaml_base::{
     yaml_sequence_style_t,
 };
 
-/// Returns whether a tag is this one, which is ASCII.
+/// Returns whether a tag is `wanted`, which is ASCII.
 fn is_tag(tag: &str, wanted: &'static str) -> bool
     requires { IsTrue (list_all (λ byte. nat_lt byte 128) wanted.now) }
     ensures { result ≡ bytes_eq (chars tag.now) wanted.now }
@@ -98,7 +98,7 @@ fn mapping_start<A: Allocator>(
     }
 }
 
-/// Returns the event with which a node begins. The node's texts are moved there; its kind stays.
+/// Returns the event with which a node begins. The node's texts are moved into it; the node's kind stays.
 fn opening_event<A: Allocator + Copy>(
     alloc: A,
     anchor: Option<String<A>>,
@@ -130,7 +130,7 @@ fn closing_event<A: Allocator>(contents: &yaml_node_data_t<A>) -> Option<yaml_ev
     }
 }
 
-/// Returns the anchor of the shared node of a place; the place 0 has none.
+/// Returns the anchor of the shared node of a rank; the rank 0 has none.
 fn anchor_of<A: Allocator>(alloc: A, place: usize) -> Result<Option<String<A>>, AllocError>
     ensures { IfOk result (λ anchor. option_map seen_text anchor ≡ anchor_of_place place) }
 {
@@ -143,7 +143,7 @@ fn anchor_of<A: Allocator>(alloc: A, place: usize) -> Result<Option<String<A>>, 
     Ok(Some(name))
 }
 
-/// Returns the event with which the node of a number begins, where no step before entered that node.
+/// Returns the event with which the node of a number begins, if no earlier step entered that node.
 fn opening_event_at<A: Allocator + Copy>(
     alloc: A,
     nodes: &mut [yaml_node_t<A>],
@@ -176,8 +176,8 @@ fn closing_event_at<A: Allocator>(
     closing_event(&nodes[number - 1].contents)
 }
 
-/// Returns the event of a step, where the shared nodes have these places; a scalar is left without one. A node is entered
-/// once, so its texts are moved into the event of its entry.
+/// Returns the event of a step, by the ranks of the shared nodes; none for leaving a scalar. A node is entered once, so its texts
+/// are moved into the event of its entry.
 fn step_event<A: Allocator + Copy>(
     alloc: A,
     nodes: &mut [yaml_node_t<A>],
@@ -255,7 +255,7 @@ fn push_events<A: Allocator + Copy>(
     Ok(())
 }
 
-/// Appends the events of a walk over these nodes. The nodes' texts are moved into them.
+/// Appends the events of a walk over these nodes, whose texts are moved into them.
 fn push_walk<A: Allocator + Copy>(
     alloc: A,
     nodes: &mut [yaml_node_t<A>],
@@ -267,13 +267,13 @@ fn push_walk<A: Allocator + Copy>(
         → seen_events events.new.items
         ≡ seen_events events.old.items ++ flat_map (meetings.step_events graph (map seen_step walk.now)) (map seen_step walk.now)) }
 {
-    let Ok(places) = shared_places(alloc, walk, nodes.len()) else {
+    let Ok(places) = shared_ranks(alloc, walk, nodes.len()) else {
         return Err(AllocError);
     };
     push_events(alloc, nodes, places.as_slice(), walk, events)
 }
 
-/// Returns the events of a document of this outline and these nodes. The nodes are dropped, and their texts are moved into the
+/// Returns the events of a document with this outline and these nodes. The nodes are dropped, and their texts are moved into the
 /// events.
 pub(crate) fn events_of_walk<A: Allocator + Copy>(
     alloc: A,

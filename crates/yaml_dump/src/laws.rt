@@ -7,23 +7,23 @@ ghost use Rattle.yaml_dump.specs.TypedDumps.{TypedDumpsReadBack};
 
 use yaml_emitter::standing_is_promised;
 
-/// States what follows of a dump, and of events that are emitted in order.
+/// States the consequences of a dump, and of emitting events in order.
 pub fn dumps_tell()
     ensures { DumpsTell }
 {}
 
-/// States that documents that agree with the events of dumped graphs unfold these graphs, each its own, but for styles:
-/// the same nodes are shared, in each place the tag is the node's (where none was read, that of its kind), and version and
+/// States that documents that agree with the events of dumped graphs unfold these graphs, each its own, except for styles:
+/// the same nodes are shared, at each place the tag is the node's (if none was read, that of its kind), and version and
 /// directives are the graph's.
 pub fn dumped_trees_unfold()
     ensures { DumpedTreesUnfold }
 {}
 
-/// States that equal bytes tell equal graphs: where two streams of dumped documents have the same output under the same
+/// States that equal bytes mean equal graphs: if two streams of dumped documents have the same output under the same
 /// settings, and no limit cuts it, their documents pair off with the same versions and directives, and the parts of their
 /// graphs that the roots reach are isomorphic. One bijection of node numbers takes root to root, and keeps kinds, tags,
-/// values, and children in order (`Isomorphic`). So it is in canonical mode, and in every mode of streams that read back (see
-/// `streams_read_back` of `yaml_emitter`); and whoever holds bytes alone, and knows that a dump wrote them, knows the graphs.
+/// values, and children in order (`Isomorphic`). This holds in canonical mode, and in every mode for streams that read back (see
+/// `streams_read_back` of `yaml_emitter`). So whoever has only the bytes, and knows that a dump wrote them, knows the graphs.
 pub fn equal_bytes_tell_graphs()
     ensures canonical { equal.EqualBytesTellGraphs }
     ensures readable { equal.EqualReadableBytesTellGraphs }
@@ -31,16 +31,16 @@ pub fn equal_bytes_tell_graphs()
     ensures read_back { equal.OneReadingBack }
 {}
 
-/// States that isomorphic graphs give equal bytes in canonical mode, whatever their nodes' numbers and styles are, where
+/// States that isomorphic graphs give equal bytes in canonical mode, whatever their nodes' numbers and styles, if
 /// the documents have the same versions, directives and explicit ends, and the streams ask for the same encoding.
 pub fn equal_graphs_give_bytes()
-    ensures { equal.EqualGraphsGiveBytes }
+    ensures { equal.IsomorphicGraphsDumpEqually }
 {}
 
-/// States that what is read of documents that were dumped with their types unfolds their graphs with all their tags, whichever schema
-/// resolves it: the type repository of YAML 1.1 or the core schema of YAML 1.2. So it is of an emitter that was given the typed events of
-/// a whole stream of documents and has no error; with portable mode off two kinds of streams are excepted (see `streams_read_back` of
-/// `yaml_emitter`).
+/// States that documents that were dumped with their types read back as their graphs with all their tags, whether the type
+/// repository of YAML 1.1 or the core schema of YAML 1.2 resolves them. This holds for an emitter that was given the typed events
+/// of a whole stream of documents and has no error. If portable mode is off, two kinds of streams are excepted (see
+/// `streams_read_back` of `yaml_emitter`).
 pub fn typed_dumps_read_back()
     ensures { TypedDumpsReadBack }
 {

@@ -1,4 +1,4 @@
-//! Documents, dumped: a graph of nodes becomes the events of a document.
+//! Dumps documents: a graph of nodes becomes the events of a document. And composes documents from such events.
 #![tactic(auto)]
 
 mod anchor_numbers;

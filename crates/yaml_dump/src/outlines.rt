@@ -1,4 +1,4 @@
-//! The parts of a document's events, but for its nodes.
+//! The parts of a document's events, except those of its nodes.
 ghost use Rattle.std.specs.Prelude.{◌≡◌, ◌∷◌, [], ◌==◌, false, IfOk, map, length};
 ghost use Rattle.yaml_base.specs.Event as seen;
 ghost use Rattle.yaml_base.specs.Seen.{seen_events, seen_directive};
@@ -49,7 +49,7 @@ pub(crate) fn copied_directives<A: Allocator + Copy>(
     Ok(copies)
 }
 
-/// Returns the event with which a document begins, in a list with room for those of so many steps.
+/// Returns the event with which a document begins, in a list with room for the events of `steps` steps.
 fn begun_events<A: Allocator + Copy>(
     alloc: A,
     document: &yaml_document_t<A>,

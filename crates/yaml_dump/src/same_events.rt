@@ -1,4 +1,4 @@
-//! Whether events are the same, by what is seen of them.
+//! Whether events have the same view.
 ghost use Rattle.std.specs.Prelude.{◌≡◌, map};
 ghost use Rattle.std.specs.Bool.{Decides};
 ghost use Rattle.yaml_base.specs.Seen.{seen_event};

@@ -3,10 +3,10 @@
 /// A step of the walk; nodes are numbered from 1.
 #[derive(Clone, Copy)]
 pub(crate) enum Step {
-    /// A node is met first.
+    /// The walk meets a node for the first time.
     Enters(usize),
-    /// All below a node was met.
+    /// The walk has met all nodes below this one.
     Leaves(usize),
-    /// A node is met that was met before.
+    /// The walk meets a node that it met before.
     MeetsAgain(usize),
 }

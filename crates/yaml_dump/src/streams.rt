@@ -1,4 +1,4 @@
-//! Streams opened and closed as a whole.
+//! Opens and closes streams as a whole.
 
 ghost use Rattle.std.specs.Prelude.{◌≡◌, true, false, None, List, [], ◌∷◌, ◌++◌, IsSome, OnOk, is_ok};
 ghost use Rattle.yaml_base.specs.Event.{Event, stream_start, stream_end};
@@ -12,9 +12,10 @@ use std::alloc::Allocator;
 use yaml_base::{YAML_ANY_ENCODING, YAML_STREAM_END_EVENT, YAML_STREAM_START_EVENT, yaml_error_t};
 use yaml_emitter::{yaml_emitter_emit, yaml_emitter_t};
 
-/// Opens the stream: emits its start. Its encoding is the emitter's, and UTF-8 where none is set.
+/// Opens the stream: emits its start. An output must be set, and the stream not be opened. The encoding is the emitter's, or UTF-8 if none is set.
 ///
 /// # Errors
+///
 /// Those of `yaml_emitter_emit`; the stream is then not opened.
 pub fn yaml_emitter_open<A: Allocator + Copy>(
     emitter: &mut yaml_emitter_t<A>,
@@ -35,14 +36,15 @@ pub fn yaml_emitter_open<A: Allocator + Copy>(
     Ok(())
 }
 
-/// Closes a stream that was opened: emits its end. Where it is closed already nothing is done, and no memory is needed.
+/// Closes a stream that was opened: emits its end. If it is closed already, nothing is done, and no memory is needed.
 ///
-/// Where documents were dumped in canonical mode, the canonical reader finds in the output contents that unfold their
-/// graphs, document by document, with each document's version and directives. So does the reader of whole streams in every
-/// mode, where a node without a tag has that of its kind; with portable mode off two kinds of streams are excepted
+/// If documents were dumped in canonical mode, the canonical reader finds in the output contents that unfold their graphs,
+/// document by document, with each document's version and directives. In every mode, so does the reader of whole streams, for
+/// which a node without a tag has that of its kind; if portable mode is off, two kinds of streams are excepted
 /// (`streams_read_back` of `yaml_emitter`).
 ///
 /// # Errors
+///
 /// Those of `yaml_emitter_emit`; the stream is then not closed.
 pub fn yaml_emitter_close<A: Allocator + Copy>(
     emitter: &mut yaml_emitter_t<A>,

@@ -70,7 +70,7 @@ fn next_child<A: Allocator>(document: &yaml_document_t<A>, visit: Visit) -> Opti
     ensures named { IfSome result (λ child. IsNamed (length (graph_of document.now).nodes) child) }
     ensures countable { IfSome result (λ _. visit.met + 1 < 2 ^ 64) }
 {
-    // A law: what the node holds are numbers of nodes.
+    // A law: the numbers that the node holds are numbers of nodes.
     document.numbers_name_nodes();
     let node = document.get_node(visit.number as i32)?;
     number_at(&node.contents, visit.met)
@@ -126,8 +126,8 @@ impl<A: Allocator> Walker<A> {
     }
 }
 
-/// Returns the steps of the walk from node 1. The visits are kept in a list of their own, so nodes may lie however deep
-/// in each other.
+/// Returns the steps of the walk from node 1. The visits are kept in a list of their own, so nodes may be nested to any
+/// depth.
 pub(crate) fn walk<A: Allocator + Copy>(
     alloc: A,
     document: &yaml_document_t<A>,

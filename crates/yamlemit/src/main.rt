@@ -5,7 +5,7 @@ use std::io;
 use std::process::ExitCode;
 use yaml_tool::{run, status, write_line};
 
-/// Ends with the run's status, also where the line that says what went wrong can't be written. Arguments are ignored.
+/// Exits with the run's status, even if reporting the failure fails. Ignores arguments.
 fn main(rt: HostRuntime) -> ExitCode {
     let answer = run(rt.alloc(), &mut rt.reader(), &mut io::writer(&rt));
     let stderr = rt.stderr();

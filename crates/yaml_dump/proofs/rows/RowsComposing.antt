@@ -1,4 +1,4 @@
--- Graphs in the order of their walks, and what events compose, computed.
+-- Graphs in the order of their walks, and the documents that events compose, computed.
 use Rattle.yaml_dump.proofs.Common.{ℕ, Option, None, Some, replicate, length, true, List, [], ◌++◌, ◌∷◌, refl, ◌≡◌, Text, Event, GraphNode}
 use Rattle.yaml_base.proofs.Common.{codes, fold, any_style, block, scalar, sequence_start, sequence_end, mapping_start, mapping_end, alias}
 use Rattle.yaml_base.proofs.Common.{NumberPair, scalar_held, sequence_held, mapping_held, string_tag, sequence_tag, mapping_tag}

@@ -7,7 +7,7 @@ use Rattle.yaml_dump.specs.Dumps.{Dumps, dumped_events}
 use Rattle.yaml_emitter.proofs.rows.RowsKeptDocuments.{two, both, kept, not_empty}
 use Rattle.yaml_emitter.proofs.standing.{KeptDocuments.documents_without_error, KeptDocuments.documents_stay, Promising.promised}
 
--- an emitter that stands after the two documents and what followed, without an error
+-- an emitter after the two documents and later events, without an error
 stays : (later : List Event) (state : State) → StandsAfter nothing_given (two ++ later) state → state.error ≡ None → IsPrefix both state.page.output
 stays later state stands none =
     kept (two ++ later) later state.page.output refl
@@ -24,7 +24,7 @@ fails later events error before after stands h =
     (documents_without_error nothing_given all h.between (promised nothing_given all h.between stood)
     (none_from_result h.between.error h.moved.answered)) h.failed.grows.output)
 
--- so no state whose output was emptied follows it, and none follows a whole dump that fails, even where it gave no event
+-- so no state whose output was emptied follows it, and none follows a whole dump that fails, even if it gave no event
 emptied_dumping : (later : List Event) (graph : Graph) (error : yaml_error_t) (before after : State) → StandsAfter nothing_given (two ++ later) before
     → before.error ≡ None → Dumps graph before (Err error) after → after.page.output ≡ [] → ⊥
 emptied_dumping later graph error before after stands none (inl nothing) =

@@ -3,7 +3,7 @@ use Rattle.yaml_dump.proofs.Common.{Places, anchor_of_place, seen_step}
 use Rattle.std.proofs.{Common.take_all, lemmas.List.length-replicate}
 use Rattle.yaml_dump.proofs.AnchorLemmas.{step_numbered, seen_more, whole_slice, anchor_placed, none_placed}
 use Rattle.yaml_dump.specs.declared.steps.Step.TheVariants.{Enters}
-use Rattle.yaml_dump.proofs.anchors.shared_places.Goals as goal
+use Rattle.yaml_dump.proofs.anchors.shared_ranks.Goals as goal
 
 pub place_met-shared-requires-clause-numbered :
     goal.place_met-shared-requires-clause-numbered

@@ -1,5 +1,5 @@
 use Rattle.yaml_dump.proofs.Common.{◌≤◌, length, take, map, ◌≡◌, Places, seen_step}
-use Rattle.yaml_dump.proofs.anchors.shared_places.Given as goal
+use Rattle.yaml_dump.proofs.anchors.shared_ranks.Given as goal
 
 abbrev pub invariant-loop-step : goal.invariant-loop-step
 invariant-loop-step g l = record {
