@@ -4,6 +4,7 @@ pub mod Words
 pub mod Settings
 pub mod LineBreaks
 pub mod Prefix
+pub mod Quoting
 pub mod Sinks
 pub mod Cursor
 pub mod Indicators

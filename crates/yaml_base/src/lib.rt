@@ -11,6 +11,7 @@ mod kinds;
 mod laws;
 mod nodes;
 mod places;
+mod quoting;
 mod sinks;
 mod styles;
 
@@ -41,6 +42,7 @@ pub use laws::{
 };
 pub use nodes::{yaml_node_data_t, yaml_node_pair_t, yaml_node_t};
 pub use places::place_of;
+pub use quoting::Quoted;
 pub use sinks::write_to_sink;
 pub use styles::yaml_mapping_style_t::{
     YAML_ANY_MAPPING_STYLE, YAML_BLOCK_MAPPING_STYLE, YAML_FLOW_MAPPING_STYLE,
