@@ -1,16 +1,21 @@
 """The public calls of the crates, as docs/REFERENCE.md and `tests/docs/contracts` show them."""
+import dataclasses
 import re
 
 import sources
 
 
+@dataclasses.dataclass
 class Call:
-    """A public item: its title, the group that it belongs to, its doc comment, its declaration or contract, the names by which
-    it is found, its clauses, and of an implementation the type."""
+    """A public item. `names` are those by which it is found; `owner` is the type that an implementation is of."""
 
-    def __init__(self, title, group, doc, code, names, clauses, owner=None):
-        self.title, self.group, self.doc, self.code = title, group, doc, code
-        self.names, self.clauses, self.owner = names, clauses, owner
+    title: str
+    group: str
+    doc: str
+    code: str
+    names: list
+    clauses: list
+    owner: str = ""
 
 
 def public_parts(item):
@@ -24,7 +29,7 @@ def public_parts(item):
         if re.match(r" {4}\S", line) and not line.startswith(("    //", "    #")):
             is_field_public = line.startswith("    pub ") and not line.startswith("    pub(")
         # (a field ends with a comma outside of brackets; `rt fmt` leaves one at the end of its last line)
-        if re.match(r" {4}\S.*,$|.*,$", line) and is_balanced("\n".join(field)):
+        if line.endswith(",") and not line.lstrip().startswith("//") and is_balanced("\n".join(field)):
             if is_field_public:
                 kept += [part for part in field if not part.startswith("    // ")]
             else:
@@ -68,14 +73,43 @@ def indented(text):
     return re.sub(r"^(?=.)", "    ", text, flags=re.M)
 
 
-def implementations(crate, item, private_traits, is_type):
-    """Returns the implementations of public traits for a type, or of a trait for types that aren't public."""
-    return [each for each in crate.every() if each.kind == "impl" and each.trait and is_type(each)
-            and re.sub(r"<.*", "", each.trait).split("::")[-1] not in private_traits | {"Drop"}]
+def trait_of(item):
+    """Returns the name of the trait that an implementation is of, without its path and generics."""
+    return re.sub(r"<.*", "", item.trait).split("::")[-1]
+
+
+def implementations(crate, private_traits, is_of_type):
+    """Returns the implementations in a crate of public traits, for the types that a test picks."""
+    return [each for each in crate.every() if each.kind == "impl" and each.trait and is_of_type(each)
+            and trait_of(each) not in private_traits | {"Drop"}]
 
 
 def clauses_of(item):
     return item.clauses + [clause for child in item.children for clause in clauses_of(child)]
+
+
+GROUPS = {"struct": "Types", "enum": "Types", "trait": "Traits", "const": "Constants", "static": "Constants", "type": "Types"}
+
+
+def of_function(item, group):
+    return Call(item.name, group, item.doc, declaration(item), [item.name], item.clauses)
+
+
+def of_other(crate, item):
+    """Returns the call that shows an exported item that is no function, found by the names of its functions and variants, too."""
+    names = [item.name, *(f"{item.name}::{child.name}" for child in item.children if child.kind == "fn")]
+    names += [path.split("::")[-1] for path in crate.exported if path.split("::")[-2:-1] == [item.name]]
+    return Call(item.name, GROUPS[item.kind], item.doc, declaration(item), names, clauses_of(item))
+
+
+def methods(crate, name):
+    """Returns the public functions of a type."""
+    for block in crate.every():
+        if block.kind == "impl" and block.name == name and not block.trait:
+            for child in block.children:
+                if child.kind == "fn" and child.is_public:
+                    title = f"{name}::{child.name}"
+                    yield Call(title, "Types", child.doc, declaration(child), [title], child.clauses)
 
 
 def calls_of(crate, traits):
@@ -85,30 +119,15 @@ def calls_of(crate, traits):
     types = {item.name for item in public if item.kind in ("struct", "enum")}
     found = []
     for item in public:
-        names = [item.name]
         if item.kind == "fn":
-            group = "Laws" if sources.is_law(item) else "Functions"
-            found.append(Call(item.name, group, item.doc, declaration(item), names, item.clauses))
+            found.append(of_function(item, "Laws" if sources.is_law(item) else "Functions"))
             continue
-        group = "Types" if item.kind in ("struct", "enum") else "Traits" if item.kind == "trait" else "Constants"
-        clauses = clauses_of(item)
-        names += [f"{item.name}::{child.name}" for child in item.children if child.kind == "fn"]
-        names += [path.split("::")[-1] for path in crate.exported if path.split("::")[-2:-1] == [item.name]]
-        found.append(Call(item.name, group, item.doc, declaration(item), names, clauses))
-        if item.kind not in ("struct", "enum"):
-            continue
-        own = [each for each in crate.every() if each.kind == "impl" and each.name == item.name]
-        for each in own:
-            for child in each.children:
-                if not each.trait and child.kind == "fn" and child.is_public:
-                    title = f"{item.name}::{child.name}"
-                    found.append(Call(title, group, child.doc, declaration(child), [title], child.clauses))
-        for each in implementations(crate, item, private_traits, lambda each: each.name == item.name):
-            found.append(implementation(each, group))
-    for each in implementations(crate, None, private_traits, lambda each: each.name not in types):
-        if re.sub(r"<.*", "", each.trait).split("::")[-1] in traits:
-            found.append(implementation(each, "Implementations"))
-    return found
+        found.append(of_other(crate, item))
+        if item.name in types:
+            found += methods(crate, item.name)
+            found += [implementation(each, "Types") for each in implementations(crate, private_traits, lambda each: each.name == item.name)]
+    others = implementations(crate, private_traits, lambda each: each.name not in types and trait_of(each) in traits)
+    return found + [implementation(each, "Implementations") for each in others]
 
 
 def implementation(item, group):

@@ -29,11 +29,6 @@ def front():
     return [ROOT / name for name in ("CHANGELOG.md", "CONTRIBUTING.md", "SECURITY.md")]
 
 
-def prose(text):
-    """Returns the text without its blocks of code."""
-    return re.sub(r"^    .*$", "", FENCED.sub("", text), flags=re.M)
-
-
 def cells(line):
     """Returns the cells of a table's row, or the line itself if it is no row."""
     return re.split(r"(?<!\\)\|", line.strip().strip("|")) if line.startswith("|") else [line]
