@@ -58,28 +58,34 @@ def dedent(text, columns):
     return re.sub(rf"\n {{0,{columns}}}", "\n", text)
 
 
+class File:
+    """A file in Rattle, with its text, and this text without comments and strings."""
+
+    def __init__(self, path):
+        self.path, self.text = path, path.read_text()
+        self.masked = mask(self.text)
+
+
 class Item:
     """An item of a file: a function, a type, an implementation, or any other."""
 
-    def __init__(self, file, text, masked, before, start, match):
-        self.file, self.kind = file, match["kind"]
+    def __init__(self, file, before, start, match):
+        self.file, self.kind, self.start = file.path, match["kind"], start
         self.is_public = match["visibility"] == "pub "
-        self.start, self.clauses, self.body, self.children = start, [], None, []
-        self.find_end(text, masked, match.end())
-        self.name = self.find_name(masked)
-        gap = text[before:start]
+        self.clauses, self.body, self.children = [], None, []
+        self.find_end(file, match.end())
+        self.name = self.find_name(file.masked)
+        gap = file.text[before:start]
         self.doc = "\n".join(re.findall(r"^ *///(?: (.*)|$)", gap, re.M))
-        self.comment = "\n".join(re.findall(r"^ *// (.*)", gap, re.M))
         self.attributes = re.findall(r"^ *(#\[.*?\])$", gap, re.M | re.S)
         if self.body and self.kind in ("impl", "trait", "mod"):
-            self.children = items_of(file, text, masked, *self.body)
+            self.children = items_of(file, *self.body)
 
-    def find_end(self, text, masked, at):
+    def find_end(self, file, at):
         """Finds where the head, the body and the item end, and the clauses of a function's contract."""
-        scan = re.compile(r"[;{(\[]")
-        head_end = None
+        text, masked, head_end = file.text, file.masked, None
         while True:
-            found = scan.search(masked, at)
+            found = re.compile(r"[;{(\[]").search(masked, at)
             place = found.start()
             if found[0] == ";":
                 self.head_end, self.end = head_end or place, place + 1
@@ -110,28 +116,27 @@ class Item:
         return found[1] if found else ""
 
 
-def items_of(file, text, masked, start, end):
+def items_of(file, start, end):
     """Returns the items between two places of a file."""
     found, before = [], start
     while True:
-        match = re.compile(r"\S").search(masked, before if not found else found[-1].end, end)
+        match = re.compile(r"\S").search(file.masked, before, end)
         if not match:
             return found
-        before = found[-1].end if found else start
         at = match.start()
-        while masked[at] == "#":
-            at = re.compile(r"\S").search(masked, closing(masked, masked.index("[", at)) + 1).start()
-        item = ITEM.match(masked, at)
+        while file.masked[at] == "#":
+            at = re.compile(r"\S").search(file.masked, closing(file.masked, file.masked.index("[", at)) + 1).start()
+        item = ITEM.match(file.masked, at)
         if not item:
-            raise ValueError(f"{file}: not an item: {text[at : at + 60]!r}")
-        found.append(Item(file, text, masked, before, at, item))
+            raise ValueError(f"{file.path}: not an item: {file.text[at : at + 60]!r}")
+        found.append(Item(file, before, at, item))
+        before = found[-1].end
 
 
-def read_items(file):
+def read_items(path):
     """Returns the items of a file in Rattle."""
-    text = file.read_text()
-    masked = mask(text)
-    return items_of(file, text, masked, 0, len(text))
+    file = File(path)
+    return items_of(file, 0, len(file.text))
 
 
 def crates():
