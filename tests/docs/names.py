@@ -64,7 +64,7 @@ class Names:
 
     def has_path(self, page, path):
         """Returns whether a path is there: from the page, the top, or a folder in which the pages name files."""
-        path = path.removeprefix("./")
+        path = re.sub(r"^\./", "", path)
         if re.match(r"[A-Z]+/", path):
             return True  # (a folder of the reader's choice)
         path = re.sub(r"(?<=/)out/.*", "", path)

@@ -103,7 +103,7 @@ class Item:
         self.text = dedent(text[self.start : self.end], column)
         self.head = dedent(text[self.start : self.head_end].rstrip(), column)
         last = self.body[0] - 1 if self.body else self.end
-        self.contract = dedent(text[self.start : last].rstrip(), column).removesuffix(";")
+        self.contract = re.sub(r";$", "", dedent(text[self.start : last].rstrip(), column))
 
     def find_name(self, masked):
         if self.kind == "impl":
@@ -160,7 +160,7 @@ def used_names(text):
     if not brace:
         return [re.sub(r"\s+", "", text)]
     parts, depth, part = [], 0, ""
-    for character in inner.rstrip().removesuffix("}"):
+    for character in re.sub(r"\}\s*$", "", inner):
         depth += {"{": 1, "}": -1}.get(character, 0)
         if character == "," and depth == 0:
             parts.append(part)
@@ -178,7 +178,7 @@ class Crate:
         self.root = next(file for file in (self.folder / "src/lib.rt", self.folder / "src/main.rt") if file.exists())
         self.is_program = self.root.name == "main.rt"
         head = re.match(r"(?://!.*\n)*", self.root.read_text())[0]
-        self.doc = " ".join(line.removeprefix("//!").strip() for line in head.splitlines())
+        self.doc = " ".join(line[3:].strip() for line in head.splitlines())
         files = sorted((self.folder / "src").rglob("*.rt"))
         self.items = {file: read_items(file) for file in files if "tests" not in file.relative_to(self.folder).with_suffix("").parts}
         self.exported, self.handed_on = [], []
