@@ -186,10 +186,12 @@ class Crate:
         for item in self.items[self.root]:
             if not item.is_public:
                 continue
+            if item.kind == "mod":
+                raise ValueError(f"{self.root}: a public module isn't understood here")
             if item.kind == "use":
                 for path in used_names(item.text.split("use ", 1)[1].rstrip("; \n")):
                     (self.exported if path.split("::")[0] in modules else self.handed_on).append(path)
-            elif item.kind != "mod":
+            else:
                 self.exported.append(item.name)
 
     def every(self):
