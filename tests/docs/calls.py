@@ -9,13 +9,20 @@ import sources
 class Call:
     """A public item. `names` are those by which it is found; `owner` is the type that an implementation is of."""
 
+    item: sources.Item
     title: str
     group: str
-    doc: str
     code: str
     names: list
-    clauses: list
     owner: str = ""
+
+    @property
+    def doc(self):
+        return self.item.doc
+
+    @property
+    def clauses(self):
+        return clauses_of(self.item)
 
 
 def public_parts(item):
@@ -91,15 +98,15 @@ def clauses_of(item):
 GROUPS = {"struct": "Types", "enum": "Types", "trait": "Traits", "const": "Constants", "static": "Constants", "type": "Types"}
 
 
-def of_function(item, group):
-    return Call(item.name, group, item.doc, declaration(item), [item.name], item.clauses)
+def of_function(item, title, group):
+    return Call(item, title, group, declaration(item), [title])
 
 
 def of_other(crate, item):
     """Returns the call that shows an exported item that is no function, found by the names of its functions and variants, too."""
     names = [item.name, *(f"{item.name}::{child.name}" for child in item.children if child.kind == "fn")]
     names += [path.split("::")[-1] for path in crate.exported if path.split("::")[-2:-1] == [item.name]]
-    return Call(item.name, GROUPS[item.kind], item.doc, declaration(item), names, clauses_of(item))
+    return Call(item, item.name, GROUPS[item.kind], declaration(item), names)
 
 
 def methods(crate, name):
@@ -108,8 +115,7 @@ def methods(crate, name):
         if block.kind == "impl" and block.name == name and not block.trait:
             for child in block.children:
                 if child.kind == "fn" and child.is_public:
-                    title = f"{name}::{child.name}"
-                    yield Call(title, "Types", child.doc, declaration(child), [title], child.clauses)
+                    yield of_function(child, f"{name}::{child.name}", "Types")
 
 
 def calls_of(crate, traits):
@@ -120,7 +126,7 @@ def calls_of(crate, traits):
     found = []
     for item in public:
         if item.kind == "fn":
-            found.append(of_function(item, "Laws" if sources.is_law(item) else "Functions"))
+            found.append(of_function(item, item.name, "Laws" if sources.is_law(item) else "Functions"))
             continue
         found.append(of_other(crate, item))
         if item.name in types:
@@ -133,7 +139,7 @@ def calls_of(crate, traits):
 def implementation(item, group):
     title = f"{item.trait.split('::')[-1] if '<' not in item.trait else item.trait} for {item.name}"
     names = [title, *(f"{item.name}::{child.name}" for child in item.children if child.kind == "fn")]
-    return Call(title, group, item.doc, of_implementation(item), names, clauses_of(item), item.name)
+    return Call(item, title, group, of_implementation(item), names, item.name)
 
 
 def all_calls():
@@ -147,3 +153,10 @@ def shown(call):
     """Returns a call as its source has it: the doc comment, then the declaration or the contract."""
     comment = "".join(f"/// {line}".rstrip() + "\n" for line in call.doc.split("\n")) if call.doc else ""
     return comment + call.code + "\n"
+
+
+def definitions(call):
+    """Returns the definitions of this repository that a call's clauses and its type's invariants name, each with its file."""
+    said = "\n".join([text for _, _, text in call.clauses] + re.findall(r"\bghost \w+\b[^;{]*[{=](.*)", call.code))
+    imported = sources.imported_definitions(call.item.file)
+    return {word: imported[word] for word in re.findall(r"(?<![\w.])[^\W\d]\w*(?:\.[^\W\d]\w*)?", said) for word in (word, word.split(".")[0]) if word in imported}

@@ -170,6 +170,20 @@ def used_names(text):
     return [re.sub(r"\s+", "", path) + name for part in [*parts, part] if part.strip() for name in used_names(part.strip())]
 
 
+def imported_definitions(path):
+    """Returns the definitions of this repository that a file imports, by the word that names each there, with the file of each."""
+    found = {}
+    for place, names, alias in re.findall(r"\bghost use Rattle\.([\w.]+?)(?:\.\{([^}]*)\}| as (\w+));", path.read_text()):
+        file = ROOT / "crates" / (place.replace(".", "/") + ".antt")
+        if not file.exists():
+            continue
+        if alias:
+            found.update((f"{alias}.{name}", file) for name in re.findall(r"^ *(?:(?:abbrev|unfoldable|pub|record|data) )*(\w+) ", file.read_text(), re.M))
+        for name in re.split(r",\s*", names) if names else ():
+            found[name.split(" as ")[-1].strip()] = file
+    return found
+
+
 class Crate:
     """A crate with its items, and what it exports."""
 
