@@ -1,7 +1,7 @@
 """The names in backticks on the pages: each is a path, an option, or a name of the sources, or is listed in tests/docs/foreign."""
 import re
 
-from pages import FENCED, front, manual, name_of
+from pages import FENCED, GENERATED, front, manual, name_of
 from sources import ROOT, crates, mask, ported, read_items
 
 SPAN = re.compile(r"(?<!`)`([^`\n]+)`(?!`)")
@@ -88,9 +88,10 @@ class Names:
 def wrong_names():
     """Returns a line for each name in backticks that isn't there, the number of those that are, and that of the foreign words."""
     names, wrong, count, foreign = Names(), [], 0, set()
-    others = [page for page in [*front(), ROOT / "bench/README.md"] if page.exists() and page.name != "CHANGELOG.md"]
+    others = [page for page in [*front(), GENERATED, ROOT / "bench/README.md"] if page.exists() and page.name != "CHANGELOG.md"]
     for page in [*manual(), *others]:
-        for span in dict.fromkeys(SPAN.findall(FENCED.sub("", page.read_text()))):
+        text = re.sub(r"^Definitions: .*$", "", FENCED.sub("", page.read_text()), flags=re.M)
+        for span in dict.fromkeys(SPAN.findall(text)):
             if span in names.foreign:
                 foreign.add(span)
                 continue
