@@ -1,12 +1,14 @@
 #!/usr/bin/env python3
-"""Compares the definitions of yaml_base with a model: compare.py [--model FOLDER] [--first N] [--count N] [--kind KIND] [--wrong]
+"""Compares the definitions of yaml_base with the model of tests/model: compare.py [--stored] [--first N] [--count N] [--kind KIND] [--wrong]
 
-Each case becomes lemmas that hold by computation alone, written into a copy of the crate outside the repository, and the
-checker computes them: it accepts a lemma exactly where the definition gives what the model gave. Without --model the
-stored sample is taken. With --wrong one expected value in ten is changed first, and the run passes only if the checker
-refuses each of the changed lemmas and no other.
+Each case becomes lemmas that hold by computation alone, in a crate above yaml_base that is made outside the repository, and
+the checker computes them: it accepts a lemma exactly if the definition gives what the model gave. With --stored the cases
+are those of sample.jsonl, else random ones. With --wrong one expected value in ten is changed first, and the run passes only
+if the checker refuses each of the changed lemmas and no other.
+
+The library yaml_base is the one that the test command left, or an earlier `rt lib`; else `rt lib` proves it first.
 """
-import argparse, json, os, pathlib, random, re, shutil, subprocess, sys, tempfile, time
+import argparse, json, pathlib, random, re, shutil, subprocess, sys, tempfile, time
 
 HERE = pathlib.Path(__file__).resolve().parent
 ROOT = HERE.parent.parent
@@ -218,7 +220,7 @@ use Rattle.yaml_base.specs.values.Resolved.{meant_null, meant_boolean, meant_int
 use Rattle.yaml_base.specs.values.SchemaOf11.{resolved_by_11}
 use Rattle.yaml_base.specs.values.SchemaCore.{resolved_by_core}
 use Rattle.yaml_base.specs.declared.errors.yaml_error_t.TheVariants.{%s}
-use Rattle.yaml_base.proofs.ComparedCommon.{written_after_each, refusals_after, texts, bodies, tidy_bodies, read_by, read_back}
+use Rattle.compared.proofs.ComparedCommon.{written_after_each, refusals_after, texts, bodies, tidy_bodies, read_by, read_back}
 """ % ", ".join(ERRORS)
 
 def lemma(name, computed, expected):
@@ -255,46 +257,70 @@ def spoiler(r):
 def stored():
     with open(HERE / "sample.jsonl") as f: return [json.loads(line) for line in f]
 
-def modelled(folder, first, count, kind):
-    made = subprocess.run([sys.executable, HERE / "make_cases.py", folder, str(first), str(count)] + ([kind] if kind else []), capture_output=True, text=True, check=True)
+def modelled(first, count, kind):
+    made = subprocess.run([sys.executable, HERE / "make_cases.py", str(first), str(count)] + ([kind] if kind else []), capture_output=True, text=True, check=True)
     return [json.loads(line) for line in made.stdout.splitlines()]
 
-def main():
-    p = argparse.ArgumentParser()
-    p.add_argument("--model"), p.add_argument("--wrong", action="store_true"), p.add_argument("--keep", action="store_true")
-    p.add_argument("--first", type=int, default=0), p.add_argument("--count", type=int, default=300)
-    p.add_argument("--kind", choices=list(LEMMAS))
-    p.add_argument("--check", default=os.environ.get("CHECK", "rt check"))
-    o = p.parse_args()
-    beside = ROOT.parent / "shared" / "oracle"
-    model = o.model or (beside if beside.is_dir() else None)
-    if not model: cases = stored()[:o.count + o.count // 3]
-    else: cases = modelled(model, o.first, o.count, o.kind) + (modelled(model, o.first, o.count // 3, "resolved") if o.kind is None else [])
+def cases_of(o):
+    if o.stored: return stored()[:o.count + o.count // 3]
+    return modelled(o.first, o.count, o.kind) + (modelled(o.first, o.count // 3, "resolved") if o.kind is None else [])
 
-    scratch = pathlib.Path(tempfile.mkdtemp(prefix="definitions-"))
-    crate = scratch / "crates" / "yaml_base"
-    shutil.copytree(ROOT / "crates" / "yaml_base", crate, symlinks=True, ignore=shutil.ignore_patterns("must-fail"))
-    (scratch / "crates.txt").write_text("yaml_base:\n")
-    shutil.copy(ROOT / "HANDLES", scratch)
+# ---- the checker
+
+def library():
+    """The folder with the library of yaml_base, which is proved and built first if need be. (A library that `rt` itself built has a
+    stamp beside it, and `rt lib` knows whether it is current; the test command leaves one without.)"""
+    crate = ROOT / "crates" / "yaml_base"
+    built = crate / "out" / "rlib" / "yaml_base.rlib"
+    newest = max(file.stat().st_mtime for part in ("src", "specs", "proofs") for file in (crate / part).rglob("*"))
+    if (built.parent / "stamp").exists() or not built.exists() or built.stat().st_mtime < newest:
+        ran = subprocess.run(["rt", "lib"], cwd=crate, stdin=subprocess.DEVNULL, capture_output=True, text=True)
+        if ran.returncode: sys.exit("yaml_base is not proved:\n" + ran.stdout + ran.stderr)
+    return built.parent
+
+def checked(crate):
+    """Checks a crate above yaml_base, and returns what the checker says."""
+    kit = pathlib.Path(shutil.which("rt") or sys.exit("the toolchain is missing: its command rt is not on the path")).resolve().parents[1]
+    base = library()
+    words = [kit / "bin/rattle", "check", "--crate-name", "compared", "src/lib.rt", "--extern", f"std={kit}/rlibs/std.rlib", "-L", f"dependency={kit}/rlibs",
+             "--extern", f"yaml_base={base}/yaml_base.rlib", "-L", f"dependency={base}", "--antt-project", kit / "rattle/logic/antt-project.json",
+             "--logic-built", kit / "logic_built", "--jobs", "2"]
+    ran = subprocess.run(words, cwd=crate, stdin=subprocess.DEVNULL, capture_output=True, text=True)
+    return ran.stdout + ran.stderr
+
+def write_crate(crate, cases, wrong):
+    """Writes the crate with the cases as lemmas; returns the names of its lemmas, and of those that were spoiled."""
+    (crate / "src").mkdir(parents=True)
+    (crate / "proofs").mkdir()
+    (crate / "src/lib.rt").write_text("//! Computed cases.\n#![tactic(auto)]\n\npub fn nothing() {}\n")
     shutil.copy(HERE / "Common.antt.txt", crate / "proofs" / "ComparedCommon.antt")
     declared, names, spoiled = ["pub mod ComparedCommon"], set(), set()
     for k in range(0, len(cases), CASES_A_FILE):
-        written, here, wrong = file_of(cases[k:k + CASES_A_FILE], spoiler(random.Random(k)) if o.wrong else None)
+        written, here, changed = file_of(cases[k:k + CASES_A_FILE], spoiler(random.Random(k)) if wrong else None)
         (crate / "proofs" / ("Compared%d.antt" % (k // CASES_A_FILE))).write_text(written)
         declared.append("pub mod Compared%d" % (k // CASES_A_FILE))
         names.update(here)
-        spoiled.update(wrong)
-    with open(crate / "proofs" / "Lib.antt", "a") as f: f.write("\n" + "\n".join(declared) + "\n")
+        spoiled.update(changed)
+    (crate / "proofs" / "Lib.antt").write_text("\n".join(declared) + "\n")
+    return names, spoiled
 
+def main():
+    p = argparse.ArgumentParser()
+    p.add_argument("--stored", action="store_true"), p.add_argument("--wrong", action="store_true"), p.add_argument("--keep", action="store_true")
+    p.add_argument("--first", type=int, default=0), p.add_argument("--count", type=int, default=300)
+    p.add_argument("--kind", choices=list(LEMMAS))
+    o = p.parse_args()
+    cases = cases_of(o)
+    scratch = pathlib.Path(tempfile.mkdtemp(prefix="definitions-"))
+    names, spoiled = write_crate(scratch / "compared", cases, o.wrong)
     began = time.time()
-    run = subprocess.run(o.check.split(), cwd=crate, capture_output=True, text=True)
-    log = run.stdout + run.stderr
+    log = checked(scratch / "compared")
     (scratch / "log").write_text(log)
     refused = set(re.findall(r"error: `(case_\w+)`", log))
     proved = any(line.startswith("logic=proved") for line in log.splitlines())
-    fine = refused == spoiled and proved == (not spoiled) and ("proofs/Compared" in log) == bool(spoiled)
+    fine = bool(names) and refused == spoiled and proved == (not spoiled)
     print("%d cases (%s), %d lemmas, %d changed, %d refused, %.0f s: %s" % (
-        len(cases), "model" if model else "sample", len(names), len(spoiled), len(refused), time.time() - began, "as wanted" if fine else "NOT as wanted"))
+        len(cases), "stored" if o.stored else "random", len(names), len(spoiled), len(refused), time.time() - began, "as wanted" if fine else "NOT as wanted"))
     for name in sorted(refused ^ spoiled): print("  differs: " + name)
     if fine and not o.keep: shutil.rmtree(scratch)
     else: print("  kept: %s" % scratch)

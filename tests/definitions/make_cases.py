@@ -1,8 +1,6 @@
 #!/usr/bin/env python3
-"""Random cases with what a model makes of them, as JSON lines: make_cases.py MODEL [FIRST [COUNT [KIND]]]
+"""Random cases with what the model of tests/model makes of them, as JSON lines: make_cases.py [FIRST [COUNT [KIND]]]
 
-MODEL is a folder with the plain model of the library in Python (layout.py, readers.py, cases.py, gen.py, compare.py,
-stream_reader.py, lines_reader.py, scalar_bodies.py, content.py, schema.py).
 The model was written from the rules alone and shares nothing with the definitions. A case is one of these kinds, by its seed:
 
   list      settings and events: effective settings, how many events are ready after each front, the first refusal or
@@ -10,7 +8,7 @@ The model was written from the rules alone and shares nothing with the definitio
             content, and whether the whole stream reads back with it
   text      a text for one of the readers, and its reading or null
   bytes     canonical bytes, most of them spoiled, and their content or null
-  stream    bytes in any mode, half of them spoiled, some behind a heading, and the documents in them or null
+  stream    bytes in any mode, half of them spoiled, some after a heading, and the documents in them or null
   script    a script, many of them spoiled, and what it says
   document  nodes, and the events of their document
 
@@ -18,7 +16,7 @@ And of this kind where it is asked for, whatever the seed:
 
   resolved  a plain scalar, half of them near misses, and what it means in YAML 1.1 and by the core schema of 1.2
 """
-import dataclasses, decimal, json, random, re, sys
+import dataclasses, decimal, json, pathlib, random, re, sys
 
 KINDS = ["list"] * 5 + ["text"] * 2 + ["bytes", "script", "document"] + ["stream"] * 4
 
@@ -145,7 +143,7 @@ WRITTEN = ["---", "...", '"a"', '"b c"', "[", "]", "{", "}", "?", ":", ",", "*a"
 
 def of_bytes(seed):
     r = random.Random(seed)
-    s, events = gen.settings(r), gen.events(r)
+    s, events = random_lists.settings(r), random_lists.events(r)
     s.canonical = True
     eff = layout.effective(s, first_encoding(events))
     data = layout.encode(eff.encoding, "".join(layout.layout_of(eff, events).pieces))
@@ -171,7 +169,7 @@ FRONTS = ["# a\n", "#\n", "#a: b # c\r\n#\t\u2028", "# \u2029# a\r", "# a\n%YAML
 
 def of_stream(seed):
     r = random.Random(seed)
-    s, events = gen.settings(r, seed), gen.events(r)
+    s, events = random_lists.settings(r, seed), random_lists.events(r)
     s.breaks12, s.portable = r.random() < 0.2, r.random() < 0.5
     if r.random() < 0.8: s.canonical = False
     eff = layout.effective(s, first_encoding(events))
@@ -209,7 +207,7 @@ def of_document(seed):
     for _ in range(count):
         k, tag, style = r.random(), r.choice(TAGS), r.choice(["any", "block", "flow"])
         some_numbers = [r.randint(1, count) for _ in range(2 * r.choice([0, 1, 1, 2, 3]))]
-        if k < 0.3: nodes.append(["scalar", tag, gen.text(r, ["a", "b", " ", "\n", "é"], 4), r.choice(["any", "plain", "folded"])])
+        if k < 0.3: nodes.append(["scalar", tag, random_lists.text(r, ["a", "b", " ", "\n", "é"], 4), r.choice(["any", "plain", "folded"])])
         elif k < 0.7: nodes.append(["seq", tag, some_numbers, style])
         else: nodes.append(["map", tag, list(zip(some_numbers[0::2], some_numbers[1::2])), style])
     start, end = layout.DocStart(None, (), r.random() < 0.5), layout.DocEnd(r.random() < 0.5)
@@ -271,13 +269,14 @@ def is_small(case):
 
 
 if __name__ == "__main__":
-    sys.path.insert(0, sys.argv[1])
+    sys.dont_write_bytecode = True  # (so that nothing is left beside the sources)
+    sys.path.insert(0, str(pathlib.Path(__file__).resolve().parents[1] / "model"))
     sys.setrecursionlimit(100000)
-    import cases, compare, content, gen, layout, lines_reader, readers, scalar_bodies, schema, stream_reader
+    import cases, compare, content, layout, lines_reader, random_lists, readers, scalar_bodies, schema, stream_reader
     stream_reader.Reader = lines_reader.Reader = strict_reader()
-    gen.settings = half_portable(gen.settings)
-    first, count = (int(x) for x in (sys.argv[2:4] + ["0", "300"][len(sys.argv[2:4]):]))
-    kind = sys.argv[4] if len(sys.argv) > 4 else None
+    random_lists.settings = half_portable(random_lists.settings)
+    first, count = (int(x) for x in (sys.argv[1:3] + ["0", "300"][len(sys.argv[1:3]):]))
+    kind = sys.argv[3] if len(sys.argv) > 3 else None
     seed = first
     while count > 0:
         if kind not in (None, "resolved", KINDS[seed % len(KINDS)]): seed += 1; continue

@@ -1,9 +1,17 @@
-"""The JSON files of this machine, those of node's and of Python's packages among them."""
+"""JSON files: those of `files` here, and those of this machine, of node's and of Python's packages among them."""
 import pathlib
 import random
 import sys
 
+OWN = pathlib.Path(__file__).resolve().with_name("files")
+
 PLACES = ["/usr/lib/node_modules", "/usr/share/nodejs", "/usr/share", "/usr/lib", sys.prefix]
+
+
+def own_files():
+    """The names and the texts of the files of this repository."""
+    for path in sorted(OWN.glob("*.json")):
+        yield path.name, path.read_text(encoding="utf-8")
 
 
 def json_files(count, seed, most=200_000):

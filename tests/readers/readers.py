@@ -1,8 +1,8 @@
 #!/usr/bin/env python3
-"""Streams that the program wrote in portable mode, read by other readers of YAML: readers.py PROGRAM COUNT [--libyaml EVENTS] [--model FOLDER]
+"""Streams that the program wrote in portable mode, read by other readers of YAML: readers.py PROGRAM COUNT [--libyaml EVENTS]
 
 The scripts are those of the stored sample, one for each of the texts below that have tabs or spaces at the ends of their
-lines, and, with the model's folder, COUNT random ones, two thirds of them with `blanks literal`; each with `portable on`. What
+lines, and COUNT random ones of the model's, two thirds of them with `blanks literal`; each with `portable on`. What
 a script gives is compared with what a reader finds in the bytes: documents, directives, anchors, aliases, tags, values,
 and for a scalar without a written tag whether it is resolved as a plain or as a quoted one, which its flags must allow.
 Only the differences that docs/DIFFERENCES.md lists are let through, and counted.
@@ -60,23 +60,23 @@ def blank_script(value):
     events = [line for root in documents for line in ["+DOC 1 -", *root, "-DOC 1"]]
     return "\n".join(["portable on", "blanks literal", "+STR utf8", *events, "-STR"]).encode()
 
-def scripts(model, count):
+def scripts(count):
     for line in SAMPLE.open():
         lines = json.loads(line)["script"].encode("latin-1").split(b"\n")
         yield b"\n".join([b"portable on"] + [x for x in lines if not x.startswith((b"portable ", b"limit "))])
     yield from map(blank_script, BLANK_TEXTS)
-    if model is None: return
-    sys.path.insert(0, str(model))
-    import gen
+    sys.dont_write_bytecode = True  # (so that nothing is left beside the sources)
+    sys.path.insert(0, str(SAMPLE.parents[1] / "model"))
+    import random_lists
     for seed in range(count):
         r = random.Random(seed)
-        settings = gen.settings(r, seed)
+        settings = random_lists.settings(r, seed)
         settings.breaks12, settings.portable, settings.literal_blanks = r.random() < 0.15, True, seed % 3 != 0
-        yield gen.script(settings, gen.events(r))
+        yield random_lists.script(settings, random_lists.events(r))
 
-def written(program, model, count):
+def written(program, count):
     """Scripts that the program accepts to the stream's end, each with its bytes."""
-    for script in scripts(model, count):
+    for script in scripts(count):
         ran = subprocess.run([program], input=script, capture_output=True, timeout=60)
         lines = [x for x in script.split(b"\n") if x and not x.startswith(b"#")]
         if ran.returncode == 0 and lines[-1] == b"-STR": yield script, ran.stdout
@@ -153,9 +153,9 @@ def compare(name, cases, readings, cuts):
 
 def main():
     p = argparse.ArgumentParser()
-    p.add_argument("program"), p.add_argument("count", type=int), p.add_argument("--libyaml"), p.add_argument("--model", type=pathlib.Path)
+    p.add_argument("program"), p.add_argument("count", type=int), p.add_argument("--libyaml")
     o = p.parse_args()
-    cases = list(written(o.program, o.model, o.count))
+    cases = list(written(o.program, o.count))
     streams = [data for _, data in cases]
     wrong = 0 if cases else 1
     if o.libyaml: wrong += compare("libyaml", cases, by_libyaml(o.libyaml, streams), True)

@@ -1,11 +1,12 @@
-"""Texts of TOML: the cases that Python's own tests hold, TOML files of this machine, random documents, and spoiled ones."""
+"""Texts of TOML: the files of `files` here, the cases of Python's own tests, TOML files of this machine, random documents, and spoiled ones."""
 import pathlib
 import random
 import subprocess
 import sysconfig
 
 PLACES = ["/usr/lib", "/usr/share", "/opt", "/root/.pyenv/versions", "/root/.rustup", "/root/.cargo", "/home"]
-# Where Python's tests of tomllib stand: cases of toml-test among them.
+OWN = pathlib.Path(__file__).resolve().with_name("files")
+# The folder of Python's tests of tomllib, cases of toml-test among them.
 CASES = "test/test_tomllib/data"
 WORDS = ["", "a", "no", "1.0", "2001-12-14", "07:32:00", "~", "null", "x: y", "# a", "'", '"', "\\", "a\nb", "a\n", " a", "a ", "\t", "\u00e9", "\U0001F600", "\u2028",
          "- a", "[", "{", "=", ".", "1_000", "0x1F", "inf", "nan", "true", "a" * 130]
@@ -22,6 +23,12 @@ def libraries():
     """The folders of the standard library of this Python and, where it is another, of the one that `python3` names."""
     named = subprocess.run(["python3", "-c", "import sysconfig; print(sysconfig.get_path('stdlib'))"], capture_output=True, text=True)
     return dict.fromkeys([sysconfig.get_path("stdlib"), *named.stdout.splitlines()])
+
+
+def own_files():
+    """The names and the bytes of the files of this repository."""
+    for path in sorted(OWN.glob("*.toml")):
+        yield path.name, path.read_bytes()
 
 
 def python_cases():
