@@ -104,7 +104,7 @@ fn emit_bare(
     emit_each(emitter, events)
 }
 
-/// Closes the stream where it was opened and no call has failed.
+/// Closes the stream if it was opened and no call has failed.
 fn close_if_open(emitter: &mut yaml_emitter_t<Global>) -> Result<(), yaml_error_t> {
     if let Some(error) = emitter.error() {
         return Err(error);

@@ -1,7 +1,7 @@
 //! Streams, event by event.
 ghost use Rattle.std.specs.Prelude.{◌≡◌, true, false};
 
-use crate::tests::equal;
+use crate::tests::{answers, equal};
 use std::alloc::{AllocError, Global};
 use std::process::Abort;
 use yaml_dump::{
@@ -9,8 +9,8 @@ use yaml_dump::{
     YAML_BLOCK_MAPPING_STYLE, YAML_DOCUMENT_END_EVENT, YAML_DOCUMENT_START_EVENT,
     YAML_EMITTER_ERROR, YAML_FLOW_SEQUENCE_STYLE, YAML_MAPPING_END_EVENT, YAML_MAPPING_START_EVENT,
     YAML_SCALAR_EVENT, YAML_SEQUENCE_END_EVENT, YAML_SEQUENCE_START_EVENT, YAML_STREAM_END_EVENT,
-    YAML_STREAM_START_EVENT, yaml_emitter_emit, yaml_emitter_emit_scalar, yaml_emitter_flush,
-    yaml_emitter_initialize, yaml_emitter_set_output_string, yaml_emitter_t,
+    YAML_STREAM_START_EVENT, YAML_UTF8_ENCODING, yaml_emitter_emit, yaml_emitter_emit_scalar,
+    yaml_emitter_flush, yaml_emitter_initialize, yaml_emitter_set_output_string, yaml_emitter_t,
     yaml_emitter_take_output, yaml_error_t, yaml_event_t,
 };
 
@@ -65,7 +65,7 @@ fn emit_text(emitter: &mut yaml_emitter_t<Global>, value: &str) -> Result<(), ya
     yaml_emitter_emit_scalar(emitter, &content).into_result()
 }
 
-/// Emits a mapping in which a sequence stands once, and then as an alias.
+/// Emits a mapping that has a sequence twice, the second time as an alias.
 fn emit_twice(alloc: Global, emitter: &mut yaml_emitter_t<Global>) -> Result<(), yaml_error_t>
     requires { emitter.old.has_output ≡ true }
     ensures { emitter.new.has_output ≡ true }
@@ -96,6 +96,42 @@ fn emit_twice(alloc: Global, emitter: &mut yaml_emitter_t<Global>) -> Result<(),
     yaml_emitter_emit(emitter, YAML_MAPPING_END_EVENT)
 }
 
+/// Emits texts, which are only borrowed.
+fn emit_texts(emitter: &mut yaml_emitter_t<Global>, texts: &[&str]) -> Result<(), yaml_error_t>
+    requires { emitter.old.has_output ≡ true }
+    ensures { emitter.new.has_output ≡ true }
+{
+    for text in texts {
+        emit_text(emitter, text)?;
+    }
+    Ok(())
+}
+
+/// Returns the start of a sequence in flow.
+fn list_start() -> yaml_event_t<Global> {
+    YAML_SEQUENCE_START_EVENT {
+        anchor: None,
+        tag: None,
+        implicit: true,
+        style: YAML_FLOW_SEQUENCE_STYLE,
+    }
+}
+
+/// Returns a stream whose only document is a list of texts.
+fn list_yaml(alloc: Global, texts: &[&str]) -> Result<Vec<u8>, yaml_error_t> {
+    let encoding = YAML_UTF8_ENCODING;
+    let mut emitter = yaml_emitter_initialize(alloc)?;
+    yaml_emitter_set_output_string(&mut emitter, 10_000);
+    yaml_emitter_emit(&mut emitter, YAML_STREAM_START_EVENT { encoding })?;
+    yaml_emitter_emit(&mut emitter, document_start(alloc))?;
+    yaml_emitter_emit(&mut emitter, list_start())?;
+    emit_texts(&mut emitter, texts)?;
+    yaml_emitter_emit(&mut emitter, YAML_SEQUENCE_END_EVENT)?;
+    yaml_emitter_emit(&mut emitter, YAML_DOCUMENT_END_EVENT { implicit: true })?;
+    yaml_emitter_emit(&mut emitter, YAML_STREAM_END_EVENT)?;
+    Ok(yaml_emitter_take_output(&mut emitter))
+}
+
 /// Flushes all text so far, and sends what was flushed since the last call. Returns how many events still wait.
 fn send(emitter: &mut yaml_emitter_t<Global>, sent: &mut Vec<u8>) -> Result<usize, yaml_error_t>
     requires { emitter.old.has_output ≡ true }
@@ -117,12 +153,7 @@ fn event(rt: &impl Abort, alloc: Global, word: &str) -> yaml_event_t<Global> {
             encoding: YAML_ANY_ENCODING,
         },
         "document" => document_start(alloc),
-        "[" => YAML_SEQUENCE_START_EVENT {
-            anchor: None,
-            tag: None,
-            implicit: true,
-            style: YAML_FLOW_SEQUENCE_STYLE,
-        },
+        "[" => list_start(),
         "]" => YAML_SEQUENCE_END_EVENT,
         "end" => YAML_DOCUMENT_END_EVENT { implicit: true },
         "close" => YAML_STREAM_END_EVENT,
@@ -230,7 +261,7 @@ const WHOLE: &[Step] = &[
     (Act::Emit("close"), 0, "[a, b]\n", ""),
 ];
 
-/// Borrowed texts stand between events.
+/// Borrowed texts come between events.
 const TEXTS: &[Step] = &[
     (Act::Emit("stream document [ a"), 2, "", ""),
     (Act::Text("second"), 0, "", ""),
@@ -260,6 +291,12 @@ const PARTS: &[Step] = &[
     (Act::Emit("document b end close"), 0, "--- b\n", "a\n"),
     (Act::Send, 0, "", "a\n--- b\n"),
 ];
+
+#[test]
+fn a_list_is_a_stream(rt: HostRuntime) {
+    let yaml = list_yaml(rt.alloc(), &["a", "b: c"]);
+    answers(&rt, yaml, &Ok("[a, 'b: c']\n"));
+}
 
 #[test]
 fn bytes_appear_where_they_are_ready(rt: HostRuntime) {

@@ -16,7 +16,7 @@ fn quoted(alloc: Global, value: &str) -> Result<Vec<u8>, yaml_error_t> {
     Vec::from_slice(alloc, pen.output()).map_err(|_| yaml_error_t::Memory)
 }
 
-/// Returns the style that a value takes as the root of a document, where none is asked for.
+/// Returns the style that a value takes as the root of a document, if none is asked for.
 fn root_style(value: &str) -> Result<yaml_scalar_style_t, yaml_error_t> {
     let allowed = analyze_scalar(value, true, false);
     let empty = value.is_empty();

@@ -6,7 +6,7 @@ use std::io::Write;
 use std::process::Abort;
 use yaml_writer::{Writer, value_settings};
 
-/// A host, and what it lets through.
+/// A host, with its ports and its rule.
 #[derive(Drop, Serialize)]
 struct Host<'a> {
     name: &'a str,

@@ -11,7 +11,7 @@ fn sealed_integer(alloc: Global, number: i64) -> Result<Entry<Global>, yaml_erro
     seal(alloc, &Value::Int(number))
 }
 
-/// Returns the integer of an entry; `None` where it holds another value.
+/// Returns the integer of an entry; `None` if it holds another value.
 fn opened_integer(alloc: Global, entry: &Entry<Global>) -> Result<Option<i64>, OpenError> {
     match open(alloc, entry)? {
         Value::Int(number) => Ok(Some(number)),

@@ -26,7 +26,7 @@ fn give_values(writer: &mut Writer<Global>) -> Result<(), yaml_error_t> {
     writer.end()
 }
 
-/// Returns a document of it.
+/// Returns a document of this mapping.
 fn values(alloc: Global) -> Result<Vec<u8>, yaml_error_t> {
     let mut writer = Writer::new(alloc, value_settings())?;
     give_values(&mut writer)?;
@@ -56,7 +56,7 @@ fn give_shared(writer: &mut Writer<Global>) -> Result<(), yaml_error_t> {
     writer.end()
 }
 
-/// Returns a day, and a minute of it; `None` where the clock shows no such time.
+/// Returns a day, and a minute of it; `None` if the clock shows no such time.
 fn minute(date: Date, hour: u8, minute: u8) -> Option<Timestamp> {
     let time = Time::new(hour, minute, 0, 0, None)?;
     Some(Timestamp {
