@@ -49,53 +49,6 @@ fn emit_all(
     Ok(())
 }
 
-/// Emits a scalar without anchor and tag, whose text is only borrowed.
-fn emit_text(emitter: &mut yaml_emitter_t<Global>, value: &str) -> Result<(), yaml_error_t>
-    requires { emitter.old.has_output ≡ true }
-    ensures { emitter.new.has_output ≡ true }
-{
-    let content = ScalarContent {
-        anchor: None,
-        tag: None,
-        value,
-        plain_implicit: true,
-        quoted_implicit: true,
-        style: YAML_ANY_SCALAR_STYLE,
-    };
-    yaml_emitter_emit_scalar(emitter, &content).into_result()
-}
-
-/// Emits a mapping that has a sequence twice, the second time as an alias.
-fn emit_twice(alloc: Global, emitter: &mut yaml_emitter_t<Global>) -> Result<(), yaml_error_t>
-    requires { emitter.old.has_output ≡ true }
-    ensures { emitter.new.has_output ≡ true }
-{
-    let memory = |_| yaml_error_t::Memory;
-    let name = String::from_str(alloc, "list").map_err(memory)?;
-    let again = String::from_str(alloc, "list").map_err(memory)?;
-    let mapping = YAML_MAPPING_START_EVENT {
-        anchor: None,
-        tag: None,
-        implicit: true,
-        style: YAML_BLOCK_MAPPING_STYLE,
-    };
-    let sequence = YAML_SEQUENCE_START_EVENT {
-        anchor: Some(name),
-        tag: None,
-        implicit: true,
-        style: YAML_FLOW_SEQUENCE_STYLE,
-    };
-    let alias = YAML_ALIAS_EVENT { anchor: again };
-    yaml_emitter_emit(emitter, mapping)?;
-    emit_text(emitter, "first")?;
-    yaml_emitter_emit(emitter, sequence)?;
-    emit_text(emitter, "a")?;
-    yaml_emitter_emit(emitter, YAML_SEQUENCE_END_EVENT)?;
-    emit_text(emitter, "again")?;
-    yaml_emitter_emit(emitter, alias)?;
-    yaml_emitter_emit(emitter, YAML_MAPPING_END_EVENT)
-}
-
 /// Emits texts, which are only borrowed.
 fn emit_texts(emitter: &mut yaml_emitter_t<Global>, texts: &[&str]) -> Result<(), yaml_error_t>
     requires { emitter.old.has_output ≡ true }
@@ -130,6 +83,53 @@ fn list_yaml(alloc: Global, texts: &[&str]) -> Result<Vec<u8>, yaml_error_t> {
     yaml_emitter_emit(&mut emitter, YAML_DOCUMENT_END_EVENT { implicit: true })?;
     yaml_emitter_emit(&mut emitter, YAML_STREAM_END_EVENT)?;
     Ok(yaml_emitter_take_output(&mut emitter))
+}
+
+/// Emits a scalar without anchor and tag, whose text is only borrowed.
+fn emit_text(emitter: &mut yaml_emitter_t<Global>, value: &str) -> Result<(), yaml_error_t>
+    requires { emitter.old.has_output ≡ true }
+    ensures { emitter.new.has_output ≡ true }
+{
+    let content = ScalarContent {
+        anchor: None,
+        tag: None,
+        value,
+        plain_implicit: true,
+        quoted_implicit: true,
+        style: YAML_ANY_SCALAR_STYLE,
+    };
+    yaml_emitter_emit_scalar(emitter, &content).into_result()
+}
+
+/// Emits a mapping in which a sequence occurs once, and then as an alias.
+fn emit_twice(alloc: Global, emitter: &mut yaml_emitter_t<Global>) -> Result<(), yaml_error_t>
+    requires { emitter.old.has_output ≡ true }
+    ensures { emitter.new.has_output ≡ true }
+{
+    let memory = |_| yaml_error_t::Memory;
+    let name = String::from_str(alloc, "list").map_err(memory)?;
+    let again = String::from_str(alloc, "list").map_err(memory)?;
+    let mapping = YAML_MAPPING_START_EVENT {
+        anchor: None,
+        tag: None,
+        implicit: true,
+        style: YAML_BLOCK_MAPPING_STYLE,
+    };
+    let sequence = YAML_SEQUENCE_START_EVENT {
+        anchor: Some(name),
+        tag: None,
+        implicit: true,
+        style: YAML_FLOW_SEQUENCE_STYLE,
+    };
+    let alias = YAML_ALIAS_EVENT { anchor: again };
+    yaml_emitter_emit(emitter, mapping)?;
+    emit_text(emitter, "first")?;
+    yaml_emitter_emit(emitter, sequence)?;
+    emit_text(emitter, "a")?;
+    yaml_emitter_emit(emitter, YAML_SEQUENCE_END_EVENT)?;
+    emit_text(emitter, "again")?;
+    yaml_emitter_emit(emitter, alias)?;
+    yaml_emitter_emit(emitter, YAML_MAPPING_END_EVENT)
 }
 
 /// Flushes all text so far, and sends what was flushed since the last call. Returns how many events still wait.

@@ -3,7 +3,7 @@ use crate::tests::equal;
 use std::alloc::Global;
 use yaml_read::{ReadError, read_document};
 
-/// Returns the number of nodes of the document that has these canonical bytes. An alias is no node.
+/// Returns how many nodes the document of these canonical bytes has; a node with aliases counts once.
 fn stored_nodes(alloc: Global, bytes: &[u8]) -> Result<i32, ReadError> {
     let document = read_document(alloc, bytes)?;
     Ok(document.node_count())
