@@ -3,9 +3,10 @@ use Rattle.yaml_base.proofs.Common.{ℕ, nat_lt, length, Bool, false, true, ◌|
 use Rattle.yaml_base.proofs.Common.{length-append, ap, sym, ◌∙◌, arith, nat_tests, list_any, Event, awaited, is_balanced, nonempty_prefixes, is_ready}
 use Rattle.yaml_base.specs.Ready.{ReadyStays}
 
-pub any_map : (p : List Event → Bool) (f : List Event → List Event) (xs : List (List Event)) → list_any p (map f xs) ≡ list_any (λ x. p (f x)) xs
-any_map p f [] = refl
-any_map p f (x ∷ xs) = ap (λ b. p (f x) || b) (any_map p f xs)
+pub any_map : (test : List Event → Bool) (extend : List Event → List Event) (lists : List (List Event))
+    → list_any test (map extend lists) ≡ list_any (λ list. test (extend list)) lists
+any_map test extend [] = refl
+any_map test extend (list ∷ lists) = grind (arith, any_map test extend lists)
 
 either : (a b c : Bool) → (b ≡ true → c ≡ true) → a || b ≡ true → a || c ≡ true
 either true b c more given = refl

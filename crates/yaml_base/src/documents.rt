@@ -19,8 +19,8 @@ use std::fmt;
 pub struct NodeNumber(pub i32);
 
 impl fmt::Display for NodeNumber {
-    fn fmt<W: fmt::Write>(&self, f: &mut fmt::Formatter<W>) -> fmt::Result {
-        write!(f, "no node has the number {}", self.0)
+    fn fmt<W: fmt::Write>(&self, formatter: &mut fmt::Formatter<W>) -> fmt::Result {
+        write!(formatter, "no node has the number {}", self.0)
     }
 }
 
