@@ -1,4 +1,4 @@
-//! An allocator that refuses one growth, for tests.
+//! An allocator for tests that refuses one growth.
 #![tactic(auto)]
 
 ghost use Rattle.std.specs.Prelude.{◌≡◌};
@@ -6,15 +6,15 @@ ghost use Rattle.std.specs.Prelude.{◌≡◌};
 use std::alloc::{AllocError, Allocator};
 use std::cell::Cell;
 
-/// Passes each call on to another allocator, but for one growth, which it refuses.
+/// Passes each call on to another allocator, except one growth, which it refuses.
 pub struct Refusing<A: Allocator> {
     inner: A,
-    /// The number of growths up to the one to be refused; with 0 none is.
+    /// The number of growths up to the one to be refused; 0 if none is to be.
     left: Cell<usize>,
 }
 
 impl<A: Allocator> Refusing<A> {
-    /// Refuses nothing yet.
+    /// Returns an allocator that refuses nothing yet.
     pub fn new(inner: A) -> Refusing<A>
         ensures passes_on { result.inner ≡ inner }
     {
@@ -24,13 +24,13 @@ impl<A: Allocator> Refusing<A> {
         }
     }
 
-    /// Refuses from now on the growth of this number, from 1 on, and no other one; with 0 none is. (No clause can say
-    /// what a cell holds.)
+    /// Refuses the growth of this number, counted from 1 and from now on, and no other; with 0 none. (The number is in a
+    /// cell, and no clause can speak of a cell's contents.)
     pub fn refuse(&self, number: usize) {
         self.left.set(number);
     }
 
-    /// Returns the number of the growth to be refused, from now on; 0 where it was refused.
+    /// Returns the number of the growth to be refused, counted from now on; 0 if it was refused or none is to be.
     pub fn left(&self) -> usize {
         self.left.get()
     }
@@ -42,7 +42,7 @@ impl<A: Allocator> Drop for Refusing<A> {
     }
 }
 
-// Counts a growth, and returns whether it is the one to be refused.
+// Counts a growth and returns whether it is the one to be refused.
 fn is_refused(left: &Cell<usize>) -> bool {
     let number = left.get();
     left.set(number.saturating_sub(1));
@@ -60,7 +60,7 @@ unsafe impl<A: Allocator> Allocator for Refusing<A> {
         self.inner.allocate(size, align)
     }
 
-    unsafe fn deallocate(&self, ptr: *mut u8, size: usize, align: usize) {
-        self.inner.deallocate(ptr, size, align);
+    unsafe fn deallocate(&self, block: *mut u8, size: usize, align: usize) {
+        self.inner.deallocate(block, size, align);
     }
 }

@@ -1,137 +1,90 @@
--- It gives the block back to the inner allocator, and counts nothing. Assumes `Logic`.
-use Rattle.std.proofs.Common.{Bor, List, [], refl, w64, ℕ, ◌+◌, ◌<◌, ◌^◌, ◌∷◌, ◌≡◌}
-use Rattle.std.proofs.alloc.Calls.{Al, Gives, Gives-Gives, Gives-goes, at_gives, gives_key, seen, token, α}
-use base.Fml.{Lft, Share, ffalse, flft, froom, fsep, ftrue}
-use base.Logic.{SProp, ent, id⊢, never_e}
+-- The block goes to the inner allocator, and the count stays as it is. Assumes `Logic`.
+use Rattle.std.proofs.Common.{◌≡◌, ◌∷◌, [], refl, w64}
+use Rattle.std.proofs.alloc.Calls.{Al, Gives, Gives-Gives, Gives-goes, at_gives, seen, token}
+use Rattle.std.proofs.raw_atomic.Walks.{leaves, proved}
+use base.Fml.{flft, fsep, ftrue}
+use base.Logic.{fst∗, never}
 use contract.BorrowLft.{⊑_trans, ◌⊑◌}
-use contract.Monad.{Fun, fact}
-use contract.Running.{tables, tables_of}
-use denote.Builtin.{RawPtr, RefOf, usize}
+use contract.Monad.{fact}
+use contract.Running.{tables}
+use denote.Builtin.{RawPtr}
 use denote.Exit.{yes}
-use denote.Opens.{unhide}
-use denote.Param.{bounded, param}
-use denote.Plain.{uint_Tells, uint_vals}
-use denote.RattleType.{owns}
-use denote.RawPtr.{Ptr, block_ptr, null_ptr, ptr_val, rawptr_Tells, rawptr_vals}
+use denote.Memory.{hidden_shr}
+use denote.Plain.{uint_Tells}
+use denote.RattleType.{flat, owns}
+use denote.RawPtr.{Ptr, block_ptr, in_a_block, null_ptr, rawptr_Tells, rawptr_vals, room_for}
 use denote.Ref.{shr_vals}
 use denote.Signature.{Slot, plain, types_at}
-use denote.Steps.{heard, nothing}
+use denote.Steps.{heard}
 use denote.Triple.Call.{calls_at}
-use denote.Triple.Clauses.{Clauses, Ended}
-use denote.Triple.Spec.{triple_of}
-use denote.Triple.Statement.{Triple}
-use denote.Triple.Table.{entered}
-use denote.Triple.Walked.{Goes-dropped, Stays, ends_at, stay_dropped, walk_Meets, walk_of, walked}
+use denote.Triple.Clauses.{Ended}
+use denote.Triple.Table.{framed}
+use denote.Triple.Walked.{Goes-dropped, Stays, stay_dropped, walk_of}
 use mir.MapTy.{inst_fn}
-use mir.Syntax.{Args, Fn, Ty, a_type, dcons, dnil}
-use mir.Val.{Val, vint, vptr, vunit}
-use prog.Memory.{Memory, align, capped, size, up}
-use prog.Routine.{Routine}
-use prog.Wp.{Tables, WpFn}
-use seplogic.Ra.Ura.{Ura}
-use sound.WpLaws.{WpFn-mono, fm_of}
+use mir.Val.{vunit}
+use prog.Memory.{align, capped, size}
+use prog.Wp.{WpFn}
 use types.ByLocal.{alloc_all, free_all, get, lands_as, look_at, pass_all, sets, through}
-use types.Kit.{ !, Item, await, by, done, feq_i, fjoin, fsplit, given, join, keep, later, learn, move, qed, raw, split, split3, suffices, use1, ‵, ◌$◌, ◌∵◌}
-use types.Kit.{◌⊛◌}
-use types.Logic.{Logic}
-use types.Run.{addr, and_then, enter, fld, no_more, of_opd, returns, stop, unit_lit}
-use Rattle.yaml_test_allocator.specs.contracts.Refusing as S
-use Rattle.yaml_test_allocator.specs.contracts.RefusingAllocator.deallocate as F
-use Rattle.yaml_test_allocator.specs.contracts.RefusingAllocator.deallocate.Key as key
-use Rattle.yaml_test_allocator.proofs.RefusingAllocator.deallocate.Statement as stated
+use types.Kit.{ !, await, by, frame, keep, fsplit, given, group, later, learn, move, prop, qed, raw, regoal, split, split3, suffices, use1, ‵, ◌$◌, ◌∵◌, ◌⊛◌}
+use types.Logic.{sem}
+use types.Run.{addr, enter, fld, of_opd, returns, stop, unit_lit}
+use Rattle.yaml_test_allocator.proofs.Parts.{Count, four_values, Number, stored_number, number_typed, returns_unit, self, inner_place, count_place, parts, instance}
+use Rattle.yaml_test_allocator.specs.contracts.RefusingAllocator.deallocate as method
+use Rattle.yaml_test_allocator.proofs.RefusingAllocator.deallocate.Statement.{statement}
 use Rattle.yaml_test_allocator.proofs.RefusingAllocator.deallocate.Code as code
 
+abbrev Address : Slot 2
+Address = plain (λ _. RawPtr)
+
 module _ (Z : Al) where
-  abbrev args : Args
-  args = bounded (a_type ∷ []) (Z.row, tt) (dcons Z.d (dcons Z.drops dnil))
-
-  abbrev here : Fn
-  here = inst_fn args code.function
-
-  abbrev self : Slot 2
-  self = RefOf (0 ∷ []) tt (plain (λ _. S.the_row (param 0 Z.row))) (λ _. tt)
-
   abbrev ended : Ended
-  ended = F.ended Z.row Z.g Z.d Z.drops
+  ended = method.ended Z.row Z.g Z.d Z.drops
 
   abbrev stayed : Stays ended.signature.params ended.kept
-  stayed = (
-    stay_dropped self yes,
-    (
-      stay_dropped (plain (λ _. RawPtr)) yes,
-      (stay_dropped (plain (λ _. usize)) yes, (stay_dropped (plain (λ _. usize)) yes, tt)),
-    ),
-  )
+  stayed = (stay_dropped (self Z) yes, (stay_dropped Address yes, (stay_dropped Number yes, (stay_dropped Number yes, tt))))
 
-module _ (Z : Al) {M : Type 1} {𝓤 : Ura M} (𝓛 : Logic 𝓤) (at_mem : Memory → SProp 𝓤) (run : Routine → Fun 𝓤) (𝓣 : Tables 𝓤 𝓛.H)
-    (de : Triple 𝓤 (𝓣.C (gives_key Z)) (Gives Z 𝓛 at_mem run)) where
-  open 𝓛 use {H}
-
-  abbrev held : Clauses 𝓤 (ended Z)
-  held = F.clauses Z.row Z.g Z.d Z.drops 𝓛 at_mem run
-
-  module _ (κ ρ : Lft) (q s : Share) (out : κ ⊑ ρ) (r : Bor (S.the_row Z.row).Denot) (n a : ℕ) (τ : Ty) where
-    abbrev bound : Ptr → (walk_of 𝓛 (ended Z) (stayed Z) held).Ghost
-    bound x = (((κ, (ρ, tt)), (q, (s, tt)), (out, tt), (r, (x, (n, (a, tt)))), (shr_vals r, (rawptr_vals x, (vint w64 n ∷ [], (vint w64 a ∷ [], tt))))), τ)
-
-    abbrev given_values : Ptr → List Val
-    given_values x = vptr r.ref_ptr.0 r.ref_ptr.1 ∷ ptr_val x ∷ vint w64 n ∷ vint w64 a ∷ []
-
-    abbrev Post : Ptr → Val → SProp 𝓤
-    Post x = (walk_of 𝓛 (ended Z) (stayed Z) held).post (bound x)
-
-    abbrev sound_output : Ptr → Item 𝓤
-    sound_output x = (‵ (flft κ q) ⊛ ‵ (flft ρ s) ⊛ ‵ ftrue) ⊛ ‵ (owns (types_at (ended Z).signature.params (bound x).0.0) (bound x).0.3 (bound x).0.4)
-
-    abbrev Said : Type 0
-    Said = (capped (size τ) ≡ n) × (capped (align τ) ≡ a)
-
-    -- No block lies at null.
-    walk : n < 2 ^ 64 → a < 2 ^ 64 → (x : Ptr) → ent 𝓤 ((walk_of 𝓛 (ended Z) (stayed Z) held).pre (bound x))
-        (WpFn 𝓤 H 𝓣.C 𝓣.Λ (here Z) (given_values x) (Post x))
-    walk fn fa null_ptr =
-        qed 𝓛 (sound_output null_ptr ∷ (raw (fact 𝓤 (ρ ⊑ Z.row.lives)) ⊛ raw (fact 𝓤 Said) ⊛ ‵ (fsep ffalse (token Z r.now.inner τ null_ptr))) ∷ []) ∵
-        move ! (1 ∷ []) $ split3 ! $ move ! (2 ∷ []) $ fsplit ! $ keep ! (0 ∷ []) $ by ! (never_e 𝓤 _)
-    walk fn fa (block_ptr b o) =
-        let h : Z.row.Denot = r.now.inner in
-        let p : ℕ × ℕ = (r.ref_ptr.0, r.ref_ptr.1 + up (align (α Z)) 0) in
-        let x : Ptr = block_ptr b o in
-        let y : (Gives Z 𝓛 at_mem run).Ghost = at_gives Z 𝓛 at_mem run κ q p h b o n a τ in
-        qed 𝓛 (sound_output x ∷ (raw (fact 𝓤 (ρ ⊑ Z.row.lives)) ⊛ raw (fact 𝓤 Said) ⊛ ‵ (fsep (froom τ b o) (token Z h τ x))) ∷ []) ∵
-        move ! (1 ∷ []) $ split3 ! $ heard ! (ρ ⊑ Z.row.lives) (λ le. heard ! Said (λ parsed. move ! (1 ∷ []) $
-        split ! $ split ! $ move ! (2 ∷ []) $ fsplit ! $ fsplit ! $ move ! (1 ∷ []) $ unhide ! $ fsplit ! $ fsplit ! $ use1 𝓛 (‵ (seen Z κ p h))
-        (id⊢ 𝓤 _) $ keep ! (0 ∷ 5 ∷ 6 ∷ 7 ∷ []) $
-        enter ! 𝓣.C 𝓣.Λ (here Z) (given_values x) _ $ alloc_all ! (λ l. pass_all ! refl
-        ((tt, tt), ((tt, tt), ((tt, record { fits = fn }), ((tt, record { fits = fa }), tt)))) $
-        sets ! (addr ! (through ! refl (fld ! refl (stop !)))) refl (tt, tt) $
-        join ! $ move ! (2 ∷ []) $ fsplit ! $ move ! (1 ∷ 2 ∷ []) $ join ! $ move ! (1 ∷ 0 ∷ []) $ join ! $
-        use1 𝓛 (raw ((Gives Z 𝓛 at_mem run).pre y)) (Gives-goes Z 𝓛 at_mem run κ q p h (⊑_trans κ ρ Z.row.lives out le) b o n a τ parsed.0 parsed.1 fn fa) $
-        calls_at ! (fm_of 𝓤 H 𝓛.laws 𝓣) (Gives Z 𝓛 at_mem run) de y (and_then ! (get ! refl)
-        (and_then ! (get ! refl) (and_then ! (get ! refl) (and_then ! (get ! refl) (no_more !))))) (λ v.
-        use1 𝓛 (later (given (v ≡ vunit) (‵ (flft κ q)))) (Gives-Gives Z 𝓛 at_mem run κ q p h b o n a τ v) $ await ! tt $ learn ! (λ e.
-        lands_as ! e refl (tt, tt) $ sets ! (of_opd ! (unit_lit !)) refl (tt, tt) $ returns ! (look_at ! 0 refl) $ free_all ! refl $
-        suffices ! _ (ends_at 𝓛 (ended Z) (stayed Z) held (bound x) vunit tt (tt, (tt, (tt, (tt, tt)))) (tt, (tt, (tt, (tt, tt))))) $
-        nothing ! $ feq_i ! (List Val) (vunit ∷ []) (vunit ∷ []) refl $ nothing ! $ nothing ! $ fjoin ! $ nothing ! $ fjoin ! $ nothing ! $ fjoin ! $
-        nothing ! $ fjoin ! $ join ! $
-        move ! (2 ∷ 3 ∷ []) $ join ! $ join ! $ done !)))))
-
-pub deallocate_spec : {M : Type 1} → stated.statement M
-unfolding tables_of
-deallocate_spec 𝓤 𝓛 𝓜 𝓡 wired Y L g d d' met _ =
-    let Z : Al = record { row = Y; laws = L; g = g; d = d; drops = d' } in
-    let 𝓣 : Tables 𝓤 𝓛.H = tables_of 𝓤 𝓛.H 𝓜 (tables 𝓤 𝓛.H 𝓜 𝓡 𝓡.env) in
-    let c = F.clauses Y g d d' 𝓛 𝓜.mem 𝓡.returns in
-    entered 𝓤 𝓛.H (triple_of 𝓛 (F.signature Y) (F.spec Y g d d' 𝓛 𝓜.mem 𝓡.returns)) 𝓣.C 𝓣.Λ (key.name (args Z)) (here Z)
-    (code.unfolded 𝓤 𝓛.H 𝓜 𝓡 wired (Y, tt) d d')
-    (walk_Meets 𝓛 (ended Z) (stayed Z) (
-      Goes-dropped 𝓛 2 (self Z) yes (λ κs x f. refl),
-      (
-        Goes-dropped 𝓛 2 (plain (λ _. RawPtr)) yes (λ κs x f. refl),
-        (Goes-dropped 𝓛 2 (plain (λ _. usize)) yes (λ κs x f. refl), (Goes-dropped 𝓛 2 (plain (λ _. usize)) yes (λ κs x f. refl), tt)),
-      ),
-    ) c
-    (WpFn 𝓤 𝓛.H 𝓣.C 𝓣.Λ (here Z)) (WpFn-mono 𝓤 𝓛.H 𝓛.laws 𝓣 (here Z))
-    (walked 𝓛 (ended Z) (stayed Z) c (WpFn 𝓤 𝓛.H 𝓣.C 𝓣.Λ (here Z)) (λ κs. (shr_vals, (rawptr_vals, (uint_vals w64, (uint_vals w64, tt)))))
-    (λ κs. ((λ r vs s. s.0), (rawptr_Tells, (uint_Tells w64, (uint_Tells w64, tt)))))
-    (λ κs qs bounds a τ are. walk Z 𝓛 𝓜.mem 𝓡.returns 𝓣 (met.deallocate d') κs.0 κs.1.0 qs.0 qs.1.0 bounds.0 a.0 a.1.1.0 a.1.1.1.0 τ are.1.1.0.1 are.1.1.1.0.1
-    a.1.0)))
+pub deallocate_spec : {M : Type 1} → statement M
+deallocate_spec 𝓤 𝓛 𝓜 𝓡 wired row laws ghosts dict drops met dropped =
+    let Z : Al = record { row = row; laws = laws; g = ghosts; d = dict; drops = drops } in
+    let clauses = method.clauses row ghosts dict drops 𝓛 𝓜.mem 𝓡.returns in
+    let 𝓣 = tables 𝓤 𝓛.H 𝓜 𝓡 𝓡.env in
+    let W = walk_of 𝓛 (ended Z) (stayed Z) clauses in
+    let body = inst_fn (instance Z) code.function in
+    let number = Goes-dropped 𝓛 2 Number yes (λ κs x f. refl) in
+    let told = uint_Tells w64 in
+    proved 𝓛 (ended Z) (stayed Z) clauses 𝓜 𝓡
+    (Goes-dropped 𝓛 2 (self Z) yes (λ κs x f. refl), (Goes-dropped 𝓛 2 Address yes (λ κs x f. refl), (number, (number, tt))))
+    (method.Key.name (instance Z)) body (code.unfolded 𝓤 𝓛.H 𝓜 𝓡 wired (row, tt) dict drops)
+    (λ κs. (shr_vals, (rawptr_vals, (stored_number, (stored_number, tt)))))
+    (λ κs. ((λ it words is. is.0), (rawptr_Tells, (told, (told, tt)))))
+    (λ κs qs bounds a τ are.
+    let handle = a.0 in
+    let h = handle.now.inner in
+    let κ = κs.0 in
+    let ρ = κs.1.0 in
+    let bound : Ptr → W.Ghost = λ p.
+    ((κs, qs, bounds, (handle, (p, a.1.1)), (shr_vals handle, (rawptr_vals p, (stored_number a.1.1.0, (stored_number a.1.1.1.0, tt))))), τ) in
+    let tokens = ‵ (flft κ qs.0) ⊛ ‵ (flft ρ qs.1.0) ⊛ ‵ ftrue in
+    let Said : Type 0 = (capped (size τ) ≡ a.1.1.0) × (capped (align τ) ≡ a.1.1.1.0) in
+    qed 𝓛 ((tokens ⊛ ‵ (owns (types_at (ended Z).signature.params κs) a (bound a.1.0).0.4)) ∷
+    (raw (fact 𝓤 (ρ ⊑ row.lives)) ⊛ raw (fact 𝓤 Said) ⊛ ‵ (fsep (room_for τ a.1.0) (token Z h τ a.1.0))) ∷ []) ∵
+    split ! $ move ! (1 ∷ []) $ fsplit ! $ use1 𝓛 (‵ (seen Z κ (inner_place Z handle) h) ⊛ ‵ (hidden_shr Count κ (record { value = tt }) (count_place Z handle).0 (count_place Z handle).1))
+    (parts Z handle 𝓛 κ ρ) $ split ! $ move ! (4 ∷ 3 ∷ []) $ split3 ! $
+    heard ! _ (λ within. heard ! _ (λ said.
+    in_a_block ! a.1.0 (λ p. fsep (room_for τ p) (token Z h τ p)) (fst∗ 𝓤 (never 𝓤) (sem 𝓛 (token Z h τ null_ptr))) (λ b o at.
+    regoal ! (λ p. prop (WpFn 𝓤 𝓛.H 𝓣.C 𝓣.Λ body (flat (types_at (ended Z).signature.params κs) (bound p).0.4) (W.post (bound p)))) at refl $
+    fsplit ! $ move ! (2 ∷ []) $ split3 ! $ move ! (3 ∷ 4 ∷ 5 ∷ 0 ∷ []) $ group ! 4 $
+    let given_back = at_gives Z 𝓛 𝓜.mem 𝓡.returns κ qs.0 (inner_place Z handle) h b o a.1.1.0 a.1.1.1.0 τ in
+    use1 𝓛 (raw ((Gives Z 𝓛 𝓜.mem 𝓡.returns).pre given_back))
+    (Gives-goes Z 𝓛 𝓜.mem 𝓡.returns κ qs.0 (inner_place Z handle) h (⊑_trans κ ρ row.lives bounds.0 within) b o a.1.1.0 a.1.1.1.0 τ said.0 said.1 are.1.1.0.1 are.1.1.1.0.1) $
+    -- [the call's part; the token of ρ; nothing; the count; the other parameters]
+    keep ! (0 ∷ 1 ∷ 2 ∷ []) $ enter ! _ _ _ _ _ $
+    alloc_all ! (λ local. pass_all ! refl ((tt, tt), ((tt, tt), (number_typed a.1.1.0 are.1.1.0.1, (number_typed a.1.1.1.0 are.1.1.1.0.1, tt)))) $
+    sets ! (addr ! (through ! refl (fld ! refl (stop !)))) refl (tt, tt) $
+    calls_at ! (framed 𝓤 𝓛.H 𝓜 𝓣) (Gives Z 𝓛 𝓜.mem 𝓡.returns) (met.deallocate drops) given_back
+    (four_values ! (get ! refl) (get ! refl) (get ! refl) (get ! refl)) (λ reply.
+    use1 𝓛 (later (given (reply ≡ vunit) (‵ (flft κ qs.0)))) (Gives-Gives Z 𝓛 𝓜.mem 𝓡.returns κ qs.0 (inner_place Z handle) h b o a.1.1.0 a.1.1.1.0 τ reply) $
+    await ! tt $ learn ! (λ is_unit.
+    lands_as ! is_unit refl (tt, tt) $ sets ! (of_opd ! (unit_lit !)) refl (tt, tt) $ returns ! (look_at ! 0 refl) $ free_all ! refl $ group ! 3 $
+    suffices ! _ (leaves 𝓛 (ended Z) (stayed Z) clauses (bound (block_ptr b o)) vunit tt (tt, (tt, (tt, (tt, tt)))) (tt, (tt, (tt, (tt, tt))))) $
+    frame ! $ by ! (returns_unit 𝓛))))))))
