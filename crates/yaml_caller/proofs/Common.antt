@@ -2,7 +2,7 @@
 pub use Rattle.yaml_base.proofs.Common.{ℕ, ◌<◌, ◌≤◌, if◌then◌else◌, ◌==◌, is_none, bytes_eq, Option, None, Some, codes, length, Bool, false, true, ◌||◌, List}
 pub use Rattle.yaml_base.proofs.Common.{[], map, ◌++◌, ◌∷◌, ◌⊎◌, refl, ◌≡◌, append-nil, append_assoc, inl, inr, ap, subst, sym, ◌∙◌, arith, bytes_eq-Decides}
 pub use Rattle.yaml_base.proofs.Common.{chars, Text, any_style, block, TagDirective, Event, stream_start, stream_end, scalar, scalar_node, no_documents}
-pub use Rattle.yaml_base.proofs.Common.{documents_and, Stream, output_of, most_open, open_count, IsAccepted, Settings, AreDumped, GraphNode, Graph}
+pub use Rattle.yaml_base.proofs.Common.{documents_and, Stream, output_of, most_open, open_count, IsAccepted, Settings, IsDumpOf, GraphNode, Graph}
 pub use Rattle.yaml_base.proofs.Common.{string_tag, mapping_tag, document_event_list, IsWholeGraph, agrees, stream_trees}
 pub use Rattle.yaml_pen.proofs.Common.{result_of_error}
 pub use Rattle.yaml_emitter.proofs.Common.{RefusedAt, Promised, StandsAfter, State}

@@ -1,6 +1,6 @@
 -- What a dump and the stream's end come to on an unopened emitter.
 use Rattle.yaml_caller.proofs.Common.{if◌then◌else◌, ◌==◌, OnOk, None, Result, Err, Ok, length, Bool, false, ◌||◌, List, [], ◌++◌, ◌∷◌, ◌≡◌, append-nil, inl}
-use Rattle.yaml_caller.proofs.Common.{append_assoc, inr, ap, subst, sym, ◌∙◌, All-nil, All-cons, Event, stream_start, stream_end, AreDumped, IsWholeGraph}
+use Rattle.yaml_caller.proofs.Common.{append_assoc, inr, ap, subst, sym, ◌∙◌, All-nil, All-cons, Event, stream_start, stream_end, IsDumpOf, IsWholeGraph}
 use Rattle.yaml_caller.proofs.Common.{Settings, Graph, document_event_list, graph_events, opening_unless, closing_unless, Dumps, StandsAfter, State}
 use Rattle.yaml_base.specs.declared.errors.yaml_error_t.{yaml_error_t}
 use Rattle.yaml_dump.proofs.{Emissions.closing_move, Emissions.closing_promised, Emissions.fails_error, Emissions.fails_promised}
@@ -10,7 +10,7 @@ use Rattle.yaml_caller.specs.Alone.{DumpsAlone, IsUnopened}
 use Rattle.yaml_pen.proofs.Writing.{none_from_result, some_from_result}
 
 -- the events are those of one dumped document
-pub one_dumped : (graph : Graph) → IsWholeGraph graph → AreDumped (graph ∷ []) (graph_events graph)
+pub one_dumped : (graph : Graph) → IsWholeGraph graph → IsDumpOf (graph ∷ []) (graph_events graph)
 one_dumped graph is =
     record {
       encoding = None;

@@ -2,7 +2,7 @@
 pub use Rattle.yaml_base.proofs.Common.{suc, zero, ℕ, ◌%◌, ◌+◌, ◌-◌, ◌/◌, ◌<◌, ◌≤◌, if◌then◌else◌, ◌==◌, unwrap_or, option_map, Option, None, Some, nat_le}
 pub use Rattle.yaml_base.proofs.Common.{drop, length, replicate, slice_index_or, take, Bool, cond, false, not, true, ◌&&◌, ◌||◌, List, [], map, ◌++◌, ◌∷◌}
 pub use Rattle.yaml_base.proofs.Common.{refl, ◌≡◌, eq-eqb, length-append, append-nil, append_assoc, inl, inr, ap, subst, sym, ◌∙◌, arith, false≢true}
-pub use Rattle.yaml_base.proofs.Common.{nat_tests, length-map, map-append, list_all, list_any, Text, Event, stream_end, document_start, Settings, AreDumped}
+pub use Rattle.yaml_base.proofs.Common.{nat_tests, length-map, map-append, list_all, list_any, Text, Event, stream_end, document_start, Settings, IsDumpOf}
 pub use Rattle.yaml_base.proofs.Common.{GraphNode, Graph, children, is_whole, Step, enters, leaves, meets_again, is_entry_of, steps_from, numbered_name}
 pub use Rattle.yaml_base.proofs.Common.{opening_events, step_events, document_event_list, DocumentTree}
 pub use Rattle.yaml_emitter.proofs.Common.{Promised, StandsAfter, State}

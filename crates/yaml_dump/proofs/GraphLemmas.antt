@@ -1,7 +1,7 @@
 -- A document's events unfold its graph, and so do their bytes as they are read.
 use Rattle.yaml_dump.proofs.Common.{ℕ, ◌==◌, if◌then◌else◌, Option, None, Some, Result, Err, Ok, Vec, drop, length, Bool, false, true, List, [], map, ◌++◌, ◌∷◌}
 use Rattle.yaml_dump.proofs.Common.{refl, ◌≡◌, ap, subst, sym, ◌∙◌, false≢true, dumped_stream, document_unfolds, Event, stream_end, seen_event, length-map}
-use Rattle.yaml_dump.proofs.Common.{is_numbered, seen_step, seen_events, Settings, AreDumped, Graph, graph_steps, document_event_list, DocumentTree, Promised}
+use Rattle.yaml_dump.proofs.Common.{is_numbered, seen_step, seen_events, Settings, IsDumpOf, Graph, graph_steps, document_event_list, DocumentTree, Promised}
 use Rattle.yaml_dump.proofs.Common.{StandsAfter, State, append_assoc, none_from_result}
 use Rattle.yaml_base.proofs.Common.{written, IsWholeGraph, agrees, stream_trees}
 use Rattle.std.{proofs.Math.Seq.drop-length, specs.Prelude.IfOk}
@@ -39,7 +39,7 @@ events_unfold graph (Err error) is same = tt
 
 -- documents that were dumped and closed without an error are written whole
 pub written_whole : (given : Settings) (before : List Event) (graphs : List Graph) (state : State) → Promised given (before ++ stream_end ∷ []) state
-    → state.error ≡ None → AreDumped graphs (before ++ stream_end ∷ []) → IsWritten given (before ++ stream_end ∷ []) state
+    → state.error ≡ None → IsDumpOf graphs (before ++ stream_end ∷ []) → IsWritten given (before ++ stream_end ∷ []) state
 written_whole given before graphs state promised none dumped =
     let all = before ++ stream_end ∷ [] in
     let read = dumped_stream graphs all dumped in
@@ -50,7 +50,7 @@ written_whole given before graphs state promised none dumped =
 
 -- graphs that were dumped whole in canonical mode are read back
 pub graphs_read : (given : Settings) (before : List Event) (graphs : List Graph) (state : State) → Promised given (before ++ stream_end ∷ []) state
-    → state.error ≡ None → given.canonical ≡ true → AreDumped graphs (before ++ stream_end ∷ []) → GraphsRead given.breaks12 graphs state.page.output
+    → state.error ≡ None → given.canonical ≡ true → IsDumpOf graphs (before ++ stream_end ∷ []) → GraphsRead given.breaks12 graphs state.page.output
 graphs_read given before graphs state promised none canonical dumped =
     let read = dumped_stream graphs (before ++ stream_end ∷ []) dumped in
     record {
@@ -61,7 +61,7 @@ graphs_read given before graphs state promised none canonical dumped =
 
 -- the documents read of dumped graphs
 read_back : (given : Settings) (graphs : List Graph) (events : List Event) (bytes : List ℕ) (read : Option (List DocumentTree))
-    → AreDumped graphs events → stream_trees given.breaks12 bytes ≡ read → agrees given.canonical events read ≡ true
+    → IsDumpOf graphs events → stream_trees given.breaks12 bytes ≡ read → agrees given.canonical events read ≡ true
     → GraphsReadBack given.breaks12 graphs bytes
 read_back given graphs events bytes None dumped is agree = absurd (false≢true agree)
 read_back given graphs events bytes (Some documents) dumped is agree =

@@ -1,7 +1,7 @@
 -- Documents that agree with the events of dumped graphs unfold the graphs.
 use Rattle.yaml_dump.proofs.Common.{if◌then◌else◌, ◌==◌, flat_map, unwrap_or, option_map, Option, None, Some, length, Bool, false, not, true, ◌&&◌, ◌||◌}
 use Rattle.yaml_dump.proofs.Common.{List, [], map, ◌++◌, ◌∷◌, refl, ◌≡◌, ap, subst, sym, ◌∙◌, false≢true, map-append, list_all, dumped_stream, Text, Event}
-use Rattle.yaml_dump.proofs.Common.{stream_end, document_start, AreDumped, ContentsUnfold, GraphNode, Graph, Step, enters, leaves, meets_again, graph_steps}
+use Rattle.yaml_dump.proofs.Common.{stream_end, document_start, IsDumpOf, ContentsUnfold, GraphNode, Graph, Step, enters, leaves, meets_again, graph_steps}
 use Rattle.yaml_dump.proofs.Common.{opening_events, step_events, document_event_list, content_shape, DocumentTree, tree_shape, TreesUnfold}
 use Rattle.yaml_base.proofs.Common.{⊤, bytes_eq, ℤ, and_parts, and_from, Decides-int_eq, list_all-append, bytes_eq-Decides, Version, TagDirective, Scalar}
 use Rattle.yaml_base.proofs.Common.{document_end, scalar, sequence_start, sequence_end, mapping_start, mapping_end, scalar_tag, collection_tag, Node}
@@ -110,7 +110,7 @@ graph_keeps canonical graph = by (length graph.nodes == 0)
     by false =
         keep_both canonical (flat_map (step_events graph (graph_steps graph)) (graph_steps graph)) (document_end graph.end_implicit ∷ []) inside_keeps refl
 
-pub dumped_keep : (canonical : Bool) (graphs : List Graph) (events : List Event) → AreDumped graphs events → all_keep canonical events
+pub dumped_keep : (canonical : Bool) (graphs : List Graph) (events : List Event) → IsDumpOf graphs events → all_keep canonical events
 dumped_keep canonical graphs events dumped =
     subst (all_keep canonical) dumped.parts
     (keep_both canonical (flat_map document_event_list graphs) (stream_end ∷ [])

@@ -1,6 +1,6 @@
 -- Documents that were dumped with their types read back as their graphs with all tags.
 use Rattle.yaml_dump.proofs.Common.{unwrap_or, Option, None, Some, drop, length, false, true, List, [], map, ◌∷◌, refl, ◌≡◌, ap, subst, sym, ◌∙◌, false≢true}
-use Rattle.yaml_dump.proofs.Common.{list_all, dumped_stream, Text, Event, Settings, AreDumped, Graph, DocumentTree, Promised, StandsAfter, State}
+use Rattle.yaml_dump.proofs.Common.{list_all, dumped_stream, Text, Event, Settings, IsDumpOf, Graph, DocumentTree, Promised, StandsAfter, State}
 use Rattle.yaml_base.proofs.Common.{ℕ, option_map, is_some, and_parts, and_from, scalar, sequence_start, mapping_start, scalar_tag, Stream, stream_events}
 use Rattle.yaml_base.proofs.Common.{stream_start, documents_events, written, IsAccepted, agrees, stream_trees, bytes_written, list_layout, encoding_asked}
 use Rattle.yaml_base.proofs.Common.{settings_for, resolved_by_core, resolved_by_11, reads_alike}
@@ -34,7 +34,7 @@ all_say (event ∷ events) h =
 -- ---- the events that were given are written whole
 
 module _ (promised : (given : Settings) (all : List Event) (state : State) → StandsAfter given all state → Promised given all state)
-    (given : Settings) (graphs : List Graph) (events : List Event) (state : State) (dumped : AreDumped graphs events)
+    (given : Settings) (graphs : List Graph) (events : List Event) (state : State) (dumped : IsDumpOf graphs events)
     (stands : StandsAfter given (map typed_event events) state) (none : state.error ≡ None)
     (alike : reads_alike given.portable given.canonical (map typed_event events) ≡ true) where
   abbrev typed : List Event

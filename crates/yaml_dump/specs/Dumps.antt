@@ -3,7 +3,7 @@ use Rattle.std.specs.Prelude.{◌≡◌, ◌⊎◌, ◌==◌, ◌||◌, Bool, tr
 use Rattle.yaml_base.specs.Settings.{Settings}
 use Rattle.yaml_base.specs.Event.{Event, stream_start, stream_end}
 use Rattle.yaml_base.specs.graphs.Meetings.{Graph, document_event_list}
-use Rattle.yaml_base.specs.graphs.Dumped.{AreDumped, GraphsRead}
+use Rattle.yaml_base.specs.graphs.Dumped.{IsDumpOf, GraphsRead}
 use Rattle.yaml_base.specs.declared.errors.yaml_error_t.{yaml_error_t}
 use Rattle.yaml_base.specs.declared.errors.yaml_error_t.TheVariants.{Memory}
 use Rattle.yaml_emitter.specs.State.{State}
@@ -82,4 +82,4 @@ Dumps graph before answer after = DumpsEvents (length graph.nodes == 0) (documen
 -- if these events are dumps of graphs in canonical mode, the canonical reader finds contents in their output that unfold the graphs
 abbrev pub ReadsGraphs : Settings → List Event → State → Type 0
 ReadsGraphs given events after =
-    (graphs : List Graph) → given.canonical ≡ true → AreDumped graphs events → GraphsRead given.breaks12 graphs after.page.output
+    (graphs : List Graph) → given.canonical ≡ true → IsDumpOf graphs events → GraphsRead given.breaks12 graphs after.page.output

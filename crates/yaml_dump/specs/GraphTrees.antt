@@ -6,7 +6,7 @@ use Rattle.yaml_base.specs.Settings.{Settings}
 use Rattle.yaml_base.specs.Event.{Event}
 use Rattle.yaml_base.specs.graphs.Meetings.{Graph, string_tag, sequence_tag, mapping_tag}
 use Rattle.yaml_base.specs.graphs.Unfolding.{scalar_kind, sequence_kind, mapping_kind, Shape, alias_shape, node_shape, Shapes, no_shapes, shapes_and, Unfolds}
-use Rattle.yaml_base.specs.graphs.Dumped.{AreDumped}
+use Rattle.yaml_base.specs.graphs.Dumped.{IsDumpOf}
 use Rattle.yaml_base.specs.streams.StreamContent.{Tagging, with_tag, without_tag, Tree, alias_tree, scalar_tree, sequence_tree, mapping_tree, Trees, no_trees}
 use Rattle.yaml_base.specs.streams.StreamContent.{trees_and, TreePairs, no_tree_pairs, tree_pairs_and, DocumentTree, agrees}
 use Rattle.yaml_base.specs.StreamLaw.{reads_alike}
@@ -60,11 +60,11 @@ pub record GraphsReadBack (breaks12 : Bool) (graphs : List Graph) (bytes : List 
 -- mode for all events, in other modes for those that lose no document and have no flow indicator in a tag
 abbrev pub ReadsTrees : Settings → List Event → State → Type 0
 ReadsTrees given events after =
-    (graphs : List Graph) → reads_alike given.portable given.canonical events ≡ true → AreDumped graphs events
+    (graphs : List Graph) → reads_alike given.portable given.canonical events ≡ true → IsDumpOf graphs events
     → GraphsReadBack given.breaks12 graphs after.page.output
 
 -- documents that agree with the events of dumped graphs unfold the graphs
 abbrev pub DumpedTreesUnfold : Type 0
 DumpedTreesUnfold =
-    (canonical : Bool) (graphs : List Graph) (events : List Event) (documents : List DocumentTree) → AreDumped graphs events
+    (canonical : Bool) (graphs : List Graph) (events : List Event) (documents : List DocumentTree) → IsDumpOf graphs events
     → agrees canonical events (Some documents) ≡ true → TreesUnfold graphs documents

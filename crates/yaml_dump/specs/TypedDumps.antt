@@ -3,7 +3,7 @@ use Rattle.std.specs.Prelude.{◌≡◌, ◌==◌, ℕ, Bool, true, None, Some, 
 use Rattle.yaml_base.specs.Settings.{Settings}
 use Rattle.yaml_base.specs.Event.{Event}
 use Rattle.yaml_base.specs.graphs.Meetings.{Graph, document_event_list}
-use Rattle.yaml_base.specs.graphs.Dumped.{AreDumped}
+use Rattle.yaml_base.specs.graphs.Dumped.{IsDumpOf}
 use Rattle.yaml_base.specs.declared.errors.yaml_error_t.{yaml_error_t}
 use Rattle.yaml_base.specs.streams.StreamContent.{DocumentTree}
 use Rattle.yaml_base.specs.StreamLaw.{reads_alike}
@@ -36,7 +36,7 @@ pub record TypesReadBack (breaks12 : Bool) (graphs : List Graph) (bytes : List �
 -- modes for those that lose no document and have no flow indicator in a tag
 abbrev pub TypedDumpsReadBack : Type 0
 TypedDumpsReadBack =
-    (given : Settings) (graphs : List Graph) (events : List Event) (state : State) → AreDumped graphs events
+    (given : Settings) (graphs : List Graph) (events : List Event) (state : State) → IsDumpOf graphs events
     → StandsAfter given (map typed_event events) state → state.error ≡ None
     → reads_alike given.portable given.canonical (map typed_event events) ≡ true
     → TypesReadBack given.breaks12 graphs state.page.output

@@ -32,7 +32,7 @@ pub use Rattle.yaml_base.specs.scalars.Analysis.{begins_with, is_gap, ends_word,
 pub use Rattle.yaml_base.specs.scalars.Analysis.{bars_single_quoted, allows_plain, allows_single_quoted}
 pub use Rattle.yaml_base.specs.scalars.BlockHeader.{Ending, without_break, one_break, more_breaks, begins_blank, render_hints, render_lines, block_body}
 pub use Rattle.yaml_base.specs.scalars.BlockHeader.{Encloses}
-pub use Rattle.yaml_base.specs.scalars.DoubleQuoted.{quote, ShortEscape, is_other, may_fold, space_kept, double_fold, double_character}
+pub use Rattle.yaml_base.specs.scalars.DoubleQuoted.{quote, ShortEscape, is_some_non_space, may_fold, space_kept, double_fold, double_character}
 pub use Rattle.yaml_base.specs.Characters.{backslash}
 pub use Rattle.yaml_base.specs.scalars.DoubleQuoted.{double_quoted_body, render_double_quoted}
 pub use Rattle.yaml_base.specs.scalars.Folded.{is_past_limit, folds, cut_from, cut_line, next_line_unindented, folded_body, render_folded}

@@ -6,7 +6,7 @@ use Rattle.yaml_scalar.proofs.Common.{Text, line_feed, carriage_return, next_lin
 use Rattle.yaml_scalar.proofs.Common.{is_printable, Cursor, Rendered, render_then, column_after, render_text, breaks_line, is_past_width, with_breaks_written}
 use Rattle.yaml_scalar.proofs.Common.{with_line_breaks_read, is_read_break, is_rendered_text, is_indented_text, LineBreak, between, with_unit, quoted_from}
 use Rattle.yaml_scalar.proofs.Common.{read_double, FoldUnit, literal_blank, literal_break, itself, FoldState, fold_state_text, prepend_unit, fold_state_of}
-use Rattle.yaml_scalar.proofs.Common.{folding_read, quote, backslash, escape_text, needs_escape, character_text, is_other, may_fold, space_kept, double_fold}
+use Rattle.yaml_scalar.proofs.Common.{folding_read, quote, backslash, escape_text, needs_escape, character_text, is_some_non_space, may_fold, space_kept, double_fold}
 use Rattle.yaml_scalar.proofs.Common.{double_inside, render_quote, double_quoted_body}
 use Rattle.yaml_base.specs.reading.ReadDouble.{QuotedReading, double_quoted_prefix, value_alone}
 use Rattle.yaml_scalar.proofs.{EscapesRead.escape-reads, Unbroken.is_unbroken, Unbroken.unbroken-replicate, Unbroken.unbroken-column}
@@ -103,19 +103,19 @@ blank-kept : (c : ℕ) (blanks breaks rest : Text) → breaks ≡ []
 blank-kept c blanks breaks rest e = rw e
 
 -- a fold follows a character that is no space
-pub may-fold-other : (before : Option ℕ) (rest : Text) → may_fold before rest ≡ true → is_other before ≡ true
+pub may-fold-other : (before : Option ℕ) (rest : Text) → may_fold before rest ≡ true → is_some_non_space before ≡ true
 may-fold-other before [] h = cc
 may-fold-other before (c ∷ rest) h = h
 
 -- after such a character the column is past the indentation
 abbrev pub margin : Option ℕ → ℕ
-margin before = if is_other before then 1 else 0
+margin before = if is_some_non_space before then 1 else 0
 
 -- a fold here breaks the line: the cursor isn't at an indentation, or is past its own
 abbrev pub Fits : (indent : ℕ) → (before : Option ℕ) → Cursor → Type 0
 Fits indent before cursor = (cursor.indention ≡ false) ⊎ (indent + margin before ≤ cursor.column)
 
-pub fits-breaks : (indent : ℕ) (before : Option ℕ) (cursor : Cursor) → is_other before ≡ true → Fits indent before cursor
+pub fits-breaks : (indent : ℕ) (before : Option ℕ) (cursor : Cursor) → is_some_non_space before ≡ true → Fits indent before cursor
     → breaks_line indent cursor ≡ true
 fits-breaks indent before cursor h (inl e) = rw e
 fits-breaks indent before cursor h (inr le) = grind (arith, or_left, or_right, lt-ltb)
@@ -125,8 +125,8 @@ record Inside (breaks12 : Bool) (tail : Text) (before : Option ℕ) (value text 
   pub prefix : FoldState
   pub seen : SeenAs breaks12 text tail prefix
   pub value_is : fold_state_text prefix ≡ value
-  pub no_breaks : is_other before ≡ false → prefix.breaks ≡ []
-  pub kept : is_other before ≡ false → SeenAs breaks12 (space_kept value ++ text) tail (fold_state_at value)
+  pub no_breaks : is_some_non_space before ≡ false → prefix.breaks ≡ []
+  pub kept : is_some_non_space before ≡ false → SeenAs breaks12 (space_kept value ++ text) tail (fold_state_at value)
   pub rendered : is_rendered_text text ≡ true
   pub indented : is_indented_text (text ++ quote ∷ []) ≡ true
 
@@ -189,7 +189,7 @@ kept-unbroken (c ∷ rest) = grind (arith)
 
 -- a space that is folded
 inside-fold : (breaks12 : Bool) (tail : Text) (before : Option ℕ) (indent : ℕ) (rest text : Text)
-    → 2 ≤ indent → is_other before ≡ true
+    → 2 ≤ indent → is_some_non_space before ≡ true
     → Inside breaks12 tail (Some space) rest text
     → Inside breaks12 tail before (space ∷ rest) ((line_feed ∷ replicate indent space ++ space_kept rest) ++ text)
 inside-fold breaks12 tail before indent rest text wide other ih =
@@ -235,7 +235,7 @@ module _ (breaks12 unicode : Bool) (limit : Option ℕ) (indent : ℕ) (wide : 2
   Goes before rest rendered c =
       Follows c rest → Inside breaks12 tail before (c ∷ rest) (render_then rendered (double_inside unicode limit indent (Some c) rest)).text
 
-  space-folded : (before : Option ℕ) (rest : Text) (cursor : Cursor) → is_other before ≡ true → breaks_line indent cursor ≡ true
+  space-folded : (before : Option ℕ) (rest : Text) (cursor : Cursor) → is_some_non_space before ≡ true → breaks_line indent cursor ≡ true
       → Goes before rest (double_fold indent rest cursor) space
   space-folded before rest cursor other breaks ih = grind (arith, kept-column, inside-fold)
 

@@ -3,7 +3,7 @@
 use Rattle.yaml_scalar.proofs.Common.{ℕ, ◌≤◌, if◌then◌else◌, ◌==◌, Option, None, Some, replicate, Bool, false, true, ◌&&◌, [], ◌++◌, ◌∷◌, refl, ◌≡◌, eqb-true}
 use Rattle.yaml_scalar.proofs.Common.{true≢false, append_assoc, inl, inr, ap, subst, sym, ◌∙◌, arith, and_parts, and_right, nat_tests, list_all, Text}
 use Rattle.yaml_scalar.proofs.Common.{line_feed, space, tab, is_space, Cursor, Rendered, render_then, render_text, breaks_line, is_past_width, is_read_break}
-use Rattle.yaml_scalar.proofs.Common.{begins_with_break, quote, backslash, escape_text, needs_escape, character_text, is_other, may_fold, space_kept}
+use Rattle.yaml_scalar.proofs.Common.{begins_with_break, quote, backslash, escape_text, needs_escape, character_text, is_some_non_space, may_fold, space_kept}
 use Rattle.yaml_scalar.proofs.Common.{double_fold, double_inside, double_quoted_body}
 use Rattle.yaml_scalar.proofs.{LineFolds.unlike, Sparing.is_graph, Sparing.escape_graph, Unbroken.unescaped}
 use Rattle.yaml_scalar.proofs.DeepLines.{Ink, BeginsInk, AllInk, space_unbroken, ink_unbroken, IsEven, even_ink, even_space, even_line, even_nothing}
@@ -56,9 +56,9 @@ module _ (breaks12 unicode : Bool) (count indent : ℕ) (enough : count ≤ inde
   -- facts about a value's text from some character on, up to the closing quote
   record QuotedEven (before : Option ℕ) (value text : Text) : Type 0 where
     pub begins_unindented : IsEven breaks12 count text
-    pub unbroken : is_other before ≡ false → begins_with_break breaks12 text ≡ false
-    pub kept_even : is_other before ≡ false → IsEven breaks12 count (space_kept value ++ text)
-    pub kept : is_other before ≡ false → BeginsInk breaks12 (space_kept value ++ text)
+    pub unbroken : is_some_non_space before ≡ false → begins_with_break breaks12 text ≡ false
+    pub kept_even : is_some_non_space before ≡ false → IsEven breaks12 count (space_kept value ++ text)
+    pub kept : is_some_non_space before ≡ false → BeginsInk breaks12 (space_kept value ++ text)
 
   -- the closing quote
   quoted_end : (before : Option ℕ) → QuotedEven before [] (quote ∷ [])
@@ -82,7 +82,7 @@ module _ (breaks12 unicode : Bool) (count indent : ℕ) (enough : count ≤ inde
   quoted_space before rest text ih = grind (arith, even_space, graph_ink, space_unbroken, even_ink)
 
   -- a space that is folded
-  quoted_fold : (before : Option ℕ) (rest text : Text) → is_other before ≡ true → QuotedEven (Some space) rest text
+  quoted_fold : (before : Option ℕ) (rest text : Text) → is_some_non_space before ≡ true → QuotedEven (Some space) rest text
       → QuotedEven before (space ∷ rest) (((line_feed ∷ replicate indent space) ++ space_kept rest) ++ text)
   quoted_fold before rest text other ih =
       let spaces = replicate indent space in
@@ -107,7 +107,7 @@ module _ (breaks12 unicode : Bool) (count indent : ℕ) (enough : count ≤ inde
         → QuotedEven before (c ∷ rest) ((render_then rendered (double_inside unicode limit indent (Some c) rest)).text ++ quote ∷ [])
 
     -- a fold
-    fold_goes : (before : Option ℕ) (rest : Text) (cursor : Cursor) → is_other before ≡ true → breaks_line indent cursor ≡ true
+    fold_goes : (before : Option ℕ) (rest : Text) (cursor : Cursor) → is_some_non_space before ≡ true → breaks_line indent cursor ≡ true
         → Goes before rest (double_fold indent rest cursor) space
     fold_goes before rest cursor other breaks ih =
         let next : Cursor = (double_fold indent rest cursor).cursor in
