@@ -15,6 +15,7 @@ pub mod GivenAndTaken
 pub mod MissingNodes
 pub mod Finishing
 pub mod GivenLemmas
+pub mod OpenLevels
 pub mod WholeStreams
 pub mod WaitingStarts
 pub mod PlainLemmas

@@ -1,7 +1,7 @@
--- What a writer was given by several calls, whatever its emitter's error is, and what was taken of its output meanwhile.
-use Rattle.std.specs.Prelude.{◌≡◌, ℕ, Bool, true, Option, None, List, [], ◌∷◌, ◌++◌, length}
+-- The events that several calls gave to a writer, whatever its emitter's error is, and the bytes of its output that were taken meanwhile.
+use Rattle.std.specs.Prelude.{◌≡◌, ℕ, ◌-◌, Bool, true, Option, None, List, [], ◌∷◌, ◌++◌, length, take}
 use Rattle.std.specs.Io.KnownBytes.{Appends}
-use Rattle.yaml_base.specs.Event.{Event, document_end, mapping_start, sequence_start}
+use Rattle.yaml_base.specs.Event.{Event, document_end, mapping_end, mapping_start, sequence_end, sequence_start}
 use Rattle.yaml_base.specs.Settings.{Settings}
 use Rattle.yaml_base.specs.Sinks.{AppendsFirst}
 use Rattle.yaml_base.specs.declared.kinds.CollectionKind.{CollectionKind}
@@ -14,8 +14,8 @@ use Rattle.yaml_writer.specs.Writing.{AddsEvents, StandsTaken, WriterState, plai
 abbrev pub IsBare : WriterState → Type 0
 IsBare writer = (writer.anchor ≡ None) × (writer.tag ≡ None)
 
--- these events were given, wherever the writer's emitter stood; these collections are open then, and the next node has no anchor and no
--- tag
+-- These events were given to the writer's emitter after those before. Then these collections are open, the writer's form is unchanged, and
+-- the next node has no anchor and no tag.
 pub record GivenLeaving (before : WriterState) (events : List Event) (opened : List CollectionKind) (after : WriterState) : Type 0 where
   pub adds : AddsEvents before.emitter events after.emitter
   pub canonical : after.canonical ≡ before.canonical
@@ -26,6 +26,28 @@ pub record GivenLeaving (before : WriterState) (events : List Event) (opened : L
 abbrev pub WasGiven : WriterState → List Event → WriterState → Type 0
 WasGiven before events after = GivenLeaving before events before.levels after
 
+-- ---- the collections that some events leave open
+
+-- The collections that are open after an event, by those that are open before it, the innermost last.
+abbrev pub levels_after_event : Event → List CollectionKind → List CollectionKind
+levels_after_event (sequence_start start) levels = levels ++ Sequence ∷ []
+levels_after_event (mapping_start start) levels = levels ++ Mapping ∷ []
+levels_after_event sequence_end levels = take (length levels - 1) levels
+levels_after_event mapping_end levels = take (length levels - 1) levels
+levels_after_event _ levels = levels
+
+-- The collections that are open after some events, by those that are open before them.
+abbrev pub levels_after : List Event → List CollectionKind → List CollectionKind
+levels_after [] levels = levels
+levels_after (event ∷ events) levels = levels_after events (levels_after_event event levels)
+
+-- These events were given to the writer's emitter, after those before, whatever its error is. The writer's form is unchanged, those
+-- collections are open that the events leave open, and the next node has no anchor and no tag.
+abbrev pub GaveEvents : WriterState → List Event → WriterState → Type 0
+GaveEvents before events after = GivenLeaving before events (levels_after events before.levels) after
+
+-- ---- one event
+
 -- one event was given
 abbrev pub WroteEvent : WriterState → Event → WriterState → Type 0
 WroteEvent before event after = WasGiven before (event ∷ []) after
@@ -35,13 +57,13 @@ abbrev pub start_event : (in_flow : Bool) → CollectionKind → Event
 start_event in_flow Sequence = sequence_start (collection_in in_flow)
 start_event in_flow Mapping = mapping_start (collection_in in_flow)
 
--- what separates two documents
+-- The events between two documents.
 abbrev pub between : List Event
 between = document_end true ∷ plain_start ∷ []
 
--- ---- what was given and taken
+-- ---- events given, and bytes taken
 
--- wherever the emitter stood, it stands after these events more, and these bytes are taken more
+-- After the events that were given before, the emitter was given these, and after the bytes that were taken before, these were taken.
 abbrev pub AddsTaking : State → List Event → List ℕ → State → Type 0
 AddsTaking before events bytes after =
     (given : Settings) (all : List Event) (sent : List ℕ) → StandsTaken given all sent before → StandsTaken given (all ++ events) (sent ++ bytes) after
