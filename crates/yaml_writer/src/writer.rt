@@ -1,4 +1,4 @@
-//! The writer: what it holds, and how it begins.
+//! The writer: its state, its start, its output and its end.
 ghost use Rattle.std.specs.Prelude.{◌≡◌, IfOk, IfErr, OnErr, OnOk, [], None, Err, true, false, chars};
 ghost use Rattle.std.specs.Io.KnownBytes.{Appends};
 ghost use Rattle.yaml_base.specs.Seen.{seen_scalar_style};
@@ -64,7 +64,7 @@ impl<A: Allocator + Copy> Writer<A> {
     /// Makes a writer at the start of its first document.
     ///
     /// # Errors
-    /// `Memory` where an allocation of the writer fails. An error of its emitter comes with the next call.
+    /// `Memory` if an allocation of the writer fails. An error of its emitter comes with the next call.
     pub fn new(alloc: A, settings: Settings) -> Result<Self, yaml_error_t>
         ensures stands { IfOk result (λ writer. StandsTaken (seen_settings settings) opening [] writer.emitter) }
         ensures canonical { IfOk result (λ writer. writer.canonical ≡ settings.canonical) }
@@ -90,7 +90,7 @@ impl<A: Allocator + Copy> Writer<A> {
     }
 
     /// Makes a writer that goes on with an emitter, whose next event is its next node. `into_emitter` returns the emitter. The
-    /// documents of the stream are left to the emitter, with what the writer opens within them.
+    /// documents of the stream, and the collections that the writer opens in them, are left to the emitter.
     pub fn over(alloc: A, emitter: yaml_emitter_t<A>) -> Self
         requires { emitter.has_output ≡ true }
         ensures { result ≡ writer_over emitter }
@@ -106,7 +106,7 @@ impl<A: Allocator + Copy> Writer<A> {
         }
     }
 
-    /// Returns the emitter, where it stands. An anchor and a tag whose node wasn't given are dropped.
+    /// Returns the emitter in its present state. An anchor and a tag whose node wasn't given are dropped.
     pub fn into_emitter(self) -> yaml_emitter_t<A>
         ensures value { result ≡ self.emitter }
         ensures output { result.has_output ≡ true }
@@ -122,8 +122,8 @@ impl<A: Allocator + Copy> Writer<A> {
         emitter
     }
 
-    /// Gives a scalar to the emitter, with the properties of the next node, and this tag where none was given. Where it has no
-    /// tag, none need be written. Where it has to wait and there is no memory to copy it, nothing changes.
+    /// Gives a scalar to the emitter, with the properties of the next node, and this tag if none was given. If it has no tag,
+    /// none need be written. If it has to wait and there is no memory to copy it, nothing changes.
     pub(crate) fn scalar<'a>(
         &mut self,
         own: Option<&'a str>,
@@ -148,7 +148,7 @@ impl<A: Allocator + Copy> Writer<A> {
         yaml_emitter_emit_scalar(&mut self.emitter, &content).into_result()
     }
 
-    /// Does what `scalar` does where an anchor or a tag awaits its node. Out of line, so that `scalar` is inlined.
+    /// Does the same as `scalar` if an anchor or a tag awaits its node. Out of line, so that `scalar` is inlined.
     #[inline(never)]
     fn scalar_with_properties(
         &mut self,
@@ -184,11 +184,11 @@ impl<A: Allocator + Copy> Writer<A> {
     }
 
     /// Returns the bytes of the stream that were flushed so far and not taken before, so that a stream of any length can
-    /// be sent onwards while it is written: what these calls return, one after another, and then `finish`, is together the
+    /// be sent onwards while it is written: the bytes that these calls return, and then those of `finish`, are together the
     /// stream. A document's bytes are flushed at its end at the latest, by `next_document` or `finish`.
     ///
     /// It may be called at any time, also after an error, and takes no memory. All else stays: the collections that are open,
-    /// the anchor and the tag of the next node, and the emitter's error. The limit counts what was taken, too.
+    /// the anchor and the tag of the next node, and the emitter's error. The limit counts the bytes that were taken, too.
     pub fn take_output(&mut self) -> Vec<u8, A>
         ensures takes { TakesBytes self.old.emitter result.items self.new.emitter }
         ensures left { result.items ≡ output_left self.old.emitter.page }
@@ -198,13 +198,13 @@ impl<A: Allocator + Copy> Writer<A> {
     }
 
     /// Hands the bytes that `take_output` would return on to a sink; they are then taken, too. So a stream of any length is
-    /// written in the memory of 16,384 bytes, of the longest text and of what is open: send after each document, or, as its
+    /// written in the memory of 16,384 bytes, of the longest text and of the open collections: send after each document, or, as its
     /// bytes are flushed 16,384 at a time, after each call.
     ///
     /// All else of the writer stays.
     ///
     /// # Errors
-    /// That of the sink, but for `Interrupted`, after which the write is tried again; `WriteZero` where it takes no byte. Then nothing
+    /// That of the sink, but for `Interrupted`, after which the write is tried again; `WriteZero` if it takes no byte. Then nothing
     /// of the writer changes: all these bytes are left, and the sink has a beginning of them, which may be empty.
     pub fn send<W: io::Write>(&mut self, sink: &mut W) -> io::Result<()>
         ensures sent { OnOk result (Appends (W.contents sink.old) (W.contents sink.new) (output_left self.old.emitter.page)) }
@@ -226,22 +226,21 @@ impl<A: Allocator + Copy> Writer<A> {
     /// documents than one comes by `next_document`.
     ///
     /// # Errors
-    /// `ExpectedNode` where an anchor or a tag awaits its node. Else the first error of the emitter, as `ExpectedNode` where a
-    /// document has no root, or a collection is still open. `WriteError` where the bytes pass the limit. `Memory` where an
-    /// allocation fails.
+    /// `ExpectedNode` if an anchor or a tag awaits its node. Else the first error of the emitter, as `ExpectedNode` if a document
+    /// has no root, or a collection is still open. `WriteError` if the bytes pass the limit. `Memory` if an allocation fails.
     pub fn finish(self) -> Result<Vec<u8, A>, yaml_error_t>
         ensures awaited { awaits_node self ≡ true → result ≡ Err yaml_error_t.ExpectedNode }
         ensures finishes { IfOk result (λ bytes. Finishes self.emitter bytes.items) }
         ensures unfinished { awaits_node self ≡ false → IfErr result (λ error. IsUnfinished self.emitter error) }
     {
-        self.finish_after(DocumentEnd::Implicit)
+        self.finish_with(DocumentEnd::Implicit)
     }
 
-    /// Returns what `finish` returns, where the document's end is asked for as `...`.
+    /// Does the same as `finish`, but writes the document's end as `...` if that is asked for.
     ///
     /// # Errors
     /// Those of `finish`.
-    pub fn finish_after(self, end: DocumentEnd) -> Result<Vec<u8, A>, yaml_error_t>
+    pub fn finish_with(self, end: DocumentEnd) -> Result<Vec<u8, A>, yaml_error_t>
         ensures awaited { awaits_node self ≡ true → result ≡ Err yaml_error_t.ExpectedNode }
         ensures finishes { IfOk result (λ bytes. FinishesBy (is_implicit end) self.emitter bytes.items) }
         ensures unfinished { awaits_node self ≡ false → IfErr result (λ error. IsUnfinishedBy (is_implicit end) self.emitter error) }

@@ -163,7 +163,7 @@ fn check_call(
         }
         Call::FinishAfterEnd(text) => {
             let ended = ended(rt, alloc, settings, writer);
-            answers(rt, ended.finish_after(DocumentEnd::Explicit), &Ok(text));
+            answers(rt, ended.finish_with(DocumentEnd::Explicit), &Ok(text));
         }
         Call::Taken(text) => same(rt, writer.take_output().as_slice(), text),
         Call::Refused(call, error) => {

@@ -41,7 +41,7 @@ fn ended(mut writer: Writer<Global>) -> Result<Vec<u8>, yaml_error_t> {
     for _ in 0..writer.depth() {
         writer.end()?;
     }
-    writer.finish_after(DocumentEnd::Explicit)
+    writer.finish_with(DocumentEnd::Explicit)
 }
 
 /// Gives a mapping of a text with an anchor and a tag, and of an alias for it.

@@ -1,5 +1,5 @@
 use Rattle.yaml_writer.proofs.Common.{subst, sym, State, is_implicit, FinishesBy}
-use Rattle.yaml_writer.proofs.writer.Writer.finish_after.Goals as goal
+use Rattle.yaml_writer.proofs.writer.Writer.finish_with.Goals as goal
 
 pub returns-in-Ok-clause-finishes : goal.returns-in-Ok-clause-finishes
 returns-in-Ok-clause-finishes g c =
