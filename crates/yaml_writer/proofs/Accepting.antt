@@ -1,4 +1,4 @@
--- What crates that write values need, so that the events of a stream of one value are an accepted list.
+-- The events of a stream of one value are an accepted list: lemmas for the crates that write values.
 use Rattle.yaml_writer.proofs.Common.{ℕ, ◌≤◌, if◌then◌else◌, Bool, false, true, List, ◌++◌, ◌∷◌, refl, ◌≡◌, arith, and_from, Text, Event, scalar}
 use Rattle.yaml_writer.proofs.Common.{sequence_start, mapping_start, int_tag, float_tag}
 use Rattle.yaml_base.proofs.Common.{is_sound}
@@ -53,7 +53,7 @@ stream_of_sound canonical events value =
 
 -- ---- how many collections are open
 
--- what ends a stream opens none, and what begins it
+-- The events that begin or end a stream open no collection.
 pub closing_stays : (most : ℕ) → Stays most 0 closing
 closing_stays most = let few : 0 ≤ most = omega arith in (few, (few, few))
 

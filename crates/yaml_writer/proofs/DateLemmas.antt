@@ -26,7 +26,7 @@ two_say number small = agree_below_at (λ n. says 2 (two_digits n) n) (λ _. tru
 four_say : (number : ℕ) → number < 10000 → says 4 (four_digits number) number ≡ true
 four_say number small = agree_below_at (λ n. says 4 (four_digits n) n) (λ _. true) 10000 number refl small
 
--- what they come to
+-- The value of these digits.
 pub record Says (count : ℕ) (digits : Text) (number : ℕ) : Type 0 where
   pub counted : counted_digits count count digits ≡ true
   pub decimal : list_all is_decimal digits ≡ true
@@ -63,7 +63,7 @@ date_says date h =
 
 -- ---- characters
 
--- what all digits pass and the hyphen, all characters of such a text do
+-- If all digits and the hyphen pass a test, so do all characters of such a text.
 pub all_pass : (test : ℕ → Bool) → ((c : ℕ) → is_decimal c ≡ true → test c ≡ true) → (digits : Text) → list_all is_decimal digits ≡ true
     → list_all test digits ≡ true
 all_pass test passes [] h = refl
@@ -94,7 +94,7 @@ digit_in_date c digit = ap (λ x. x || is_hyphen c) digit
 digit_no_hyphen : (c : ℕ) → is_decimal c ≡ true → is_hyphen c ≡ false
 digit_no_hyphen c digit = digit_unlike c 0x2D refl digit
 
--- a text whose characters pass a test, before what begins with none that does: it is the part that passes
+-- If all characters of a text pass a test, and the first after the text fails it, the text is the part that passes.
 pub splits : (test : ℕ → Bool) (text rest : Text) → list_all test text ≡ true → first_meets test rest ≡ false
     → (take_while test (text ++ rest) ≡ text) × (past test (text ++ rest) ≡ rest)
 splits test [] [] h ends = (refl, refl)
@@ -125,16 +125,16 @@ cut date parts =
     ∙ ap (λ rest. year ∷ rest) (slice_split_at is_hyphen month 0x2D day (hyphen_free month parts.month.decimal) refl
     ∙ ap (λ rest. month ∷ rest) (uncut is_hyphen digit_no_hyphen day parts.day.decimal))
 
--- what a date and what follows it come to
+-- The date and the text after it, as they are read.
 abbrev pub stamp : List Text → Text → Option Resolved
 stamp date rest = some_if ((is_date 2 date && length rest == 0) || (is_date 1 date && is_time_after_date rest)) meant_timestamp
 
--- a date, and what can't stand in one behind it
+-- A date, and after it a text that can't continue a date.
 pub before : (date : CalendarDate) → DateSays date → (rest : Text) → first_meets in_date rest ≡ false
     → (take_while in_date (date_text date ++ rest) ≡ date_text date) × (past in_date (date_text date ++ rest) ≡ rest)
 before date parts rest ends = splits in_date (date_text date) rest (date_passes in_date digit_in_date refl date parts) ends
 
--- a date's text behind its first digit
+-- A date's text after its first digit.
 abbrev pub behind_first : CalendarDate → Text
 behind_first date =
     (0x30 + date.year / 100 % 10) ∷ (two_digits date.year ++ codes "-" ++ two_digits date.month ++ codes "-" ++ two_digits date.day)
@@ -142,7 +142,7 @@ behind_first date =
 pub first_digit : (date : CalendarDate) → DateSays date → is_decimal (0x30 + date.year / 1000 % 10) ≡ true
 first_digit date parts = (and_parts (is_decimal (0x30 + date.year / 1000 % 10)) _ parts.year.decimal).0
 
--- a date and what follows it are a timestamp, where together they come to one
+-- A date and the text after it are a timestamp if together they are read as one.
 pub reads_before : (date : CalendarDate) → DateSays date → (rest : Text) → first_meets in_date rest ≡ false
     → stamp (date_digits date) rest ≡ Some meant_timestamp → resolved_by_11 (date_text date ++ rest) ≡ meant_timestamp
 reads_before date parts rest ends fits =

@@ -84,7 +84,7 @@ unbased (c ∷ rest) h =
     no_zero true e other = absurd (true≢false (sym (ap is_decimal (eqb-true c 0x30 e)) ∙ other))
     no_zero false e other = refl
 
--- what is no such number is neither in a base nor numeric
+-- A text that is no such number is neither in a base nor numeric.
 pub no_form : (text : Text) → first_meets begins_number text ≡ false → (is_based text || is_numeric text) ≡ false
 no_form text h =
     or_from (is_based text) (is_numeric text) (unbased text h)

@@ -1,4 +1,4 @@
--- What it comes to that a document and its stream are ended.
+-- The end of a document and of its stream.
 use Rattle.yaml_writer.proofs.Common.{ℕ, ◌<◌, ◌≤◌, is_some, Option, None, Some, length, Bool, false, true, ◌||◌, List, [], ◌++◌, ◌∷◌, refl, ◌≡◌, append_assoc}
 use Rattle.yaml_writer.proofs.Common.{ap, ap₂, subst, sym, ◌∙◌, arith, nil_from_length, Text, Event, stream_end, document_end, IsAccepted, Settings, ends_last}
 use Rattle.yaml_writer.proofs.Common.{IsRefusal, HasRoomAndMemory, Promised, StandsAfter, State, output_left, RefusesOne, IsUnfinishedBy, WriterState}
@@ -9,7 +9,7 @@ use Rattle.yaml_base.specs.declared.errors.yaml_error_t.{yaml_error_t}
 use Rattle.yaml_writer.proofs.{MissingNodes.misses, Overflow.overflowed, Taken.taken_and_left}
 use Rattle.yaml_writer.specs.Writing.{awaits_node, IsStream}
 
--- no node is awaited where there is neither an anchor nor a tag
+-- No node is awaited if there is neither an anchor nor a tag.
 pub nothing_awaited : (writer : WriterState) → writer.anchor ≡ None → writer.tag ≡ None → awaits_node writer ≡ false
 nothing_awaited writer anchor tag = ap₂ (λ (a t : Option Text). is_some a || is_some t) anchor tag
 
@@ -33,7 +33,7 @@ error_kept before after error kept is = ap (λ (s : State). s.error) (kept (ap i
 pub same_error : (a b : yaml_error_t) → Some a ≡ Some b → a ≡ b
 same_error a b is = ap (λ o. unwrap_or o a) is
 
--- what the number of events that wait says
+-- The meaning of the number of events that wait.
 pub some_waits : (count : ℕ) (held : List Event) → 0 < count → count ≡ length held → held ≡ [] → ⊥
 some_waits count held some is none = let empty = ap length none in omega (arith, some, is, empty)
 
@@ -41,7 +41,7 @@ pub none_waits : (count : ℕ) (held : List Event) → count ≤ 0 → count ≡
 none_waits count held none is = nil_from_length held (omega (arith, none, is))
 
 module _ (implicit : Bool) where
-  -- what ends the stream
+  -- The events that end the stream.
   abbrev closing : List Event
   closing = closing_by implicit
 
@@ -68,7 +68,7 @@ module _ (implicit : Bool) where
       let accepted = (promised.ends (closing_ends all) room).1 (none, held) in
       record { accepted = accepted; state = state; written = promised.whole none accepted; output = refl }
 
-  -- where an event was refused, the events are no stream
+  -- If an event was refused, the events are no stream.
   refused_unaccepted : (given : Settings) (all : List Event) (error : yaml_error_t) (state : State) → Promised given (all ++ closing) state
       → state.error ≡ Some error → IsRefusal error → IsAccepted given.canonical (all ++ closing) → ⊥
   refused_unaccepted given all error state promised some refusal accepted =
@@ -77,13 +77,13 @@ module _ (implicit : Bool) where
       apart : None ≡ Some error → ⊥
       apart is = cc
 
-  -- nor where an event waits
+  -- Nor are they if an event waits.
   pub waiting_unaccepted : (given : Settings) (all : List Event) (state : State) → Promised given (all ++ closing) state → state.error ≡ None
       → (state.held ≡ [] → ⊥) → IsAccepted given.canonical (all ++ closing) → ⊥
   waiting_unaccepted given all state promised none some accepted =
       some ((promised.ends (closing_ends all) (subst HasRoomAndMemory (sym none) tt)).0 accepted).1
 
-  -- what an error of the emitter comes to, once document and stream were ended
+  -- The meaning of an error of the emitter once document and stream were ended.
   pub failed_unfinished : (before after : State) (error : yaml_error_t) → ((earlier : yaml_error_t) → before.error ≡ Some earlier → after.error ≡ Some earlier)
       → ((given : Settings) (all : List Event) → StandsAfter given all before
       → StandsAfter given (all ++ closing) after × Promised given (all ++ closing) after)
@@ -108,7 +108,7 @@ module _ (implicit : Bool) where
           → RefusesOne given.canonical (all ++ closing) error
       refused_one given all promised refusal = refuses_one given (all ++ closing) error after (promised.refused error is refusal)
 
-  -- what was taken and what is left then are the stream
+  -- The bytes that were taken and those that are left then are the stream.
   pub rest_finished : (given : Settings) (all more : List Event) (sent : List ℕ) (state : State) → StandsTaken given more sent state
       → Promised given (all ++ closing) state → state.error ≡ None → state.held ≡ []
       → IsStream given (all ++ closing) (sent ++ output_left state.page)

@@ -1,4 +1,4 @@
--- How floats are given, and what is read of those that are no numbers.
+-- How floats are given, and how those that are no numbers are read.
 use Rattle.yaml_writer.proofs.Common.{refl, Result, true, false, ◌≡◌, true≢false, subst, sym, if◌then◌else◌, JsonNumber, WriterState}
 use Rattle.std.specs.Float.{float_is_finite, float_zero}
 use Rattle.std.specs.Float.Ieee.{Float, Format, nan, inf, fin, lt}

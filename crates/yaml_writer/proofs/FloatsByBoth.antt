@@ -1,4 +1,4 @@
--- What both schemas read as a float has the shape of one.
+-- A text that both schemas read as a float has the shape of one.
 use Rattle.yaml_writer.proofs.Common.{ℕ, if◌then◌else◌, ◌==◌, Option, None, Some, length, Bool, false, not, true, ◌&&◌, List, [], ◌++◌, ◌∷◌, refl, ◌≡◌}
 use Rattle.yaml_writer.proofs.Common.{eqb-true, true≢false, append-nil, ap, sym, ◌∙◌, and_parts, and_from, and_left, not_from_false, not-true, list_all-append}
 use Rattle.yaml_writer.proofs.Common.{list_all, Text, is_decimal, first_meets, are_digits, digit_unlike, float_tag}

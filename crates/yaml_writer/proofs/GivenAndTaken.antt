@@ -1,4 +1,4 @@
--- What several calls gave to a writer and took from it.
+-- The events that several calls gave to a writer, and the bytes that they took from it.
 use Rattle.yaml_writer.proofs.Common.{ℕ, Option, Err, Ok, length, List, [], ◌++◌, refl, ◌≡◌, append-nil, append_assoc, inr, ap, subst, sym, ◌∙◌, Event, State}
 use Rattle.yaml_writer.proofs.Common.{output_left, none_from_result, some_from_result, AddsEvents, PassedEvents, StandsTaken, TakesBytes, WriterState}
 use Rattle.std.specs.Io.KnownBytes.{Appends}

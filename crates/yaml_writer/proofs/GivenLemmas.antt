@@ -1,4 +1,4 @@
--- What a writer was given, call by call.
+-- The events that a writer was given, call by call.
 use Rattle.yaml_writer.proofs.Common.{ℕ, is_none, IfErr, OnOk, Option, Result, Err, Ok, Bool, false, List, [], ◌++◌, ◌∷◌, refl, ◌≡◌, inr, ap, ap₂}
 use Rattle.yaml_writer.proofs.Common.{subst, sym, ◌∙◌, Text, plain, Event, scalar, JsonNumber, yaml_number, State}
 use Rattle.yaml_writer.proofs.Common.{IsNumber, WriterState, end_event, AddsEvents, GaveEvent}
@@ -17,7 +17,7 @@ use Rattle.yaml_writer.proofs.Taken.{adds_nothing, moves_add}
 pub bare_awaits_none : (writer : WriterState) → IsBare writer → awaits_node writer ≡ false
 bare_awaits_none writer bare = nothing_awaited writer bare.0 bare.1
 
--- what follows where a call succeeds
+-- The result if a call succeeds.
 pub on_ok : {A E P Q : Type 0} (answer : Result A E) → (P → Q) → OnOk answer P → OnOk answer Q
 on_ok (Ok value) follows held = follows held
 on_ok (Err error) follows held = tt
@@ -26,7 +26,7 @@ pub always : {A E P : Type 0} (answer : Result A E) → P → OnOk answer P
 always (Ok value) held = held
 always (Err error) held = tt
 
--- or where it fails
+-- The result if it fails.
 pub on_err : {A E : Type 0} {P Q : E → Type 0} (answer : Result A E) → ((error : E) → P error → Q error) → IfErr answer P → IfErr answer Q
 on_err (Ok value) follows held = tt
 on_err (Err error) follows held = follows error held
@@ -83,7 +83,7 @@ wrote_event before after event same is gave =
       bare = (gave.no_anchor, gave.no_tag);
     }
 
--- The events of calls where the next node has neither anchor nor tag
+-- The events of calls if the next node has neither anchor nor tag
 
 abbrev scalar_by : Text → ScalarStyle → Option Text → Option Text → Event
 scalar_by value style anchor tag =
@@ -105,7 +105,7 @@ number_event_is writer text parts is bare =
 
 -- Collections
 
--- what is open past the innermost, and the innermost
+-- The open collections but the innermost, and the innermost.
 pub none_more : (outer : List CollectionKind) (kind : CollectionKind) → outer ++ kind ∷ [] ≡ [] → ⊥
 none_more [] kind is = cc
 none_more (first ∷ outer) kind is = cc

@@ -17,7 +17,7 @@ use Rattle.yaml_writer.specs.declared.headings.LineSpot.TheVariants.{Start, With
 
 -- ---- the lines that were written are passed over
 
--- a character of a comment breaks its line where it is LF
+-- A character of a comment breaks its line if it is LF.
 breaks_alike : (breaks12 : Bool) (c : ℕ) → is_read_break breaks12 (in_comment c) ≡ (c == line_feed)
 breaks_alike breaks12 c = grind (arith, nat_tests)
 
@@ -54,7 +54,7 @@ passes breaks12 (c ∷ rest) Within text =
     ∙ ap (λ (w : Bool). after_comments breaks12 w (commented (spot_after c) rest ++ text)) (sym (within_after (c == line_feed)))
     ∙ passes breaks12 rest (spot_after c) text
 
--- ---- they may stand in any stream, and each of their breaks is LF
+-- ---- each is a character of streams, and each of their breaks is LF
 
 shown_by : (c : ℕ) (feed printable broken : Bool) → (c == line_feed) ≡ feed → is_printable c ≡ printable
     → is_shown (if feed || (printable && not broken) then c else space) ≡ true
@@ -92,7 +92,7 @@ breaks_read_behind (c ∷ rest) text is =
     let parts = rendered-cons c rest is in
     grind (arith, nat_tests, and-false, breaks_read_behind rest text parts.2)
 
--- ---- so a stream behind them is read as by itself
+-- ---- so a stream after them is read as by itself
 
 trees_behind : (breaks12 : Bool) (heading text : Text) → text_trees breaks12 (comment_lines heading ++ text) ≡ text_trees breaks12 text
 trees_behind breaks12 heading text =
@@ -108,7 +108,7 @@ read_alone : (bytes : List ℕ) → IsUtf8 bytes → characters_read bytes ≡ S
 read_alone bytes is =
     ap characters_read (sym (text_bytes-utf8 (chars bytes) ∙ encodes-chars bytes is)) ∙ characters_back utf8 (chars bytes) (scalars-chars bytes is)
 
--- the characters of a heading's bytes and of those behind it
+-- The characters of a heading's bytes and of the bytes after it.
 read_behind : (heading : Text) (bytes : List ℕ) → IsUtf8 (encode_utf8_all heading) → IsUtf8 bytes
     → characters_read (encode_utf8_all heading ++ bytes) ≡ Some (heading ++ chars bytes)
 read_behind heading bytes first is =

@@ -1,4 +1,4 @@
--- Only where a node is missing is an event refused as such.
+-- An event is refused for a missing node only if a node is missing.
 use Rattle.yaml_base.proofs.Common.{if◌then◌else◌, ◌==◌, is_some, is_none, option_and_then, Option, None, Some, nat_lt, length, Bool, false, not, true, ◌&&◌}
 use Rattle.yaml_base.proofs.Common.{◌||◌, List, [], ◌++◌, ◌∷◌, refl, ◌≡◌, ap, sym, ◌∙◌, list_all, option_or, Text, is_alpha, Version, TagDirective, Event}
 use Rattle.yaml_base.proofs.Common.{document_start, alias, scalar, sequence_start, mapping_start, scalar_tag, collection_tag, Partial, before_stream}
@@ -25,7 +25,7 @@ chosen : (x : Bool) (first second : Option yaml_error_t) → NamesNone first →
 chosen true first second one other = one
 chosen false first second one other = other
 
--- a fault where a test fails, and one where it holds
+-- A fault if a test fails, and another if it holds.
 unless : (x : Bool) (error : yaml_error_t) → NamesNone (Some error) → NamesNone (if x then None else Some error)
 unless true error none is = cc
 unless false error none is = none is
@@ -127,7 +127,7 @@ open_place (within_document encoding before start levels) is = refl
 open_place (after_root encoding before start root) is = cc
 open_place (after_stream stream) is = cc
 
--- a place that names one is open, and the event can't stand there
+-- A place with such an error is open, and the event can't come there.
 at_place : (partial : Partial) (next : Option Partial) → some_if (is_none next) (expected partial) ≡ Some ExpectedNode
     → (awaits_more (Some partial) ≡ true) × (next ≡ None)
 at_place partial None is = (open_place partial is, refl)

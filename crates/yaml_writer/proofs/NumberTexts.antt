@@ -1,4 +1,4 @@
--- Texts that are numbers of JSON: what is printed of integers and of finite floats.
+-- Texts that are numbers of JSON: those of integers and of finite floats.
 use Rattle.yaml_base.proofs.Common.{ℕ, ◌<◌, ◌≤◌, Option, None, Some, pos, length, Bool, false, true, [], ◌++◌, ◌∷◌, refl, ◌≡◌, append-nil, append_assoc, ap}
 use Rattle.yaml_base.proofs.Common.{sym, ◌∙◌, arith, Text}
 use mir.Syntax.{w128}
@@ -24,7 +24,7 @@ are_some : (digits : Text) → 0 < length digits → AllDigits 10 digits → are
 are_some [] some h = absurd (omega arith)
 are_some (c ∷ digits) some h = some_digits c digits (digits_pass (c ∷ digits) h)
 
--- digits of which the first is `0` only where it is alone
+-- Digits of which the first is `0` only if it is alone.
 whole_is : (digits : Text) → 0 < length digits → AllDigits 10 digits → (slice_index digits 0 ≡ 48 → length digits ≡ 1) → is_whole_part digits ≡ true
 whole_is [] some h lone = absurd (omega arith)
 whole_is (c ∷ rest) some h lone =

@@ -1,4 +1,4 @@
--- The limit gives out only where the bytes of the events pass it.
+-- The limit is exceeded only if the bytes of the events pass it.
 use Rattle.yaml_writer.proofs.Common.{ℕ, ◌<◌, Option, Some, length, take, List, [], ◌++◌, ◌∷◌, ◌≡◌, append-nil, ap, subst, sym, arith, Event, settings_for}
 use Rattle.yaml_writer.proofs.Common.{list_layout, written, IsAccepted, Settings, Effective, State, PassesLimit}
 use Rattle.yaml_base.proofs.Common.{Piece}

@@ -12,7 +12,7 @@ use Rattle.yaml_writer.specs.NumberParts.{HasNumber}
 
 -- Cuts
 
--- a sign stands nowhere in a text
+-- A text lacks a sign.
 abbrev pub lacks : ℕ → Text → Bool
 lacks sign text = list_all (λ c. not (c == sign)) text
 
@@ -53,7 +53,7 @@ cut_joins sign (c ∷ rest) = by (c == sign) refl (cut_at_first sign rest) (cut_
     by false e None ih = tt
     by false e (Some parts) ih = ap (λ text. c ∷ text) ih
 
--- where no place holds a sign, it lacks it
+-- A text lacks a sign if none of its places holds it.
 pub lacks_each : (sign : ℕ) (text : Text) → ((i : ℕ) → i < length text → get_or text i 0 ≡ sign → ⊥) → lacks sign text ≡ true
 lacks_each sign [] h = refl
 lacks_each sign (c ∷ rest) h =
@@ -83,7 +83,7 @@ fraction_joins text = by (cut_at_first 0x2E text) (cut_joins 0x2E text)
     by None h = append-nil text
     by (Some parts) h = sym h
 
--- an exponent's text is its letter and what follows
+-- An exponent's text is its letter and the text after it.
 exponent_joins : (capital : Bool) (text : Text) → exponent_text (Some (exponent_in capital text)) ≡ (if capital then 0x45 else 0x65) ∷ text
 exponent_joins true [] = refl
 exponent_joins false [] = refl
@@ -304,11 +304,11 @@ number_in_text text (number, is) = subst (IsNumber text) (sym (ap number_in is.t
 
 -- Both ways
 
--- where the number that is cut out of a text is valid, the text is that number
+-- If the number that is cut out of a text is valid, the text is that number.
 pub text_is_number : (text : Text) (number : JsonNumber) → number ≡ number_in text → is_json_number number ≡ true → IsNumber text number
 text_is_number text number e h = record { valid = h; text_is = sym (ap json_text e ∙ parts_join text) }
 
--- where it isn't, the text is no number
+-- If it isn't, the text is no number.
 pub text_is_none : (text : Text) (number : JsonNumber) → number ≡ number_in text → is_json_number number ≡ false → IsNoNumber text
 text_is_none text number e h other is =
     true≢false (sym is.valid ∙ ap is_json_number (sym (number_found other is.valid) ∙ ap number_in (sym is.text_is) ∙ sym e) ∙ h)

@@ -1,4 +1,4 @@
--- How the code cuts a number: at the place of a sign, and not where it holds no letter.
+-- How the code cuts a number: at the place of a sign, and not at all if it holds no letter.
 use Rattle.yaml_writer.proofs.Common.{suc, ℕ, ◌<◌, ◌≤◌, ◌==◌, option_map, None, Some, length, take, Bool, false, not, true, [], ◌++◌, ◌∷◌, refl}
 use Rattle.yaml_writer.proofs.Common.{◌≡◌, true≢false, ap, subst, sym, ◌∙◌, arith, and_parts, list_all, Text}
 use Rattle.yaml_base.proofs.Common.{nat_tests, if◌then◌else◌, nat_lt, slice_index_or as get_or, eq-eqb, eqb-true}
@@ -9,7 +9,7 @@ use Rattle.std.specs.List.{prefix_len}
 use Rattle.yaml_writer.proofs.PartLemmas.{lacks, cut_none, cut_found, lacks_each}
 use Rattle.yaml_writer.specs.NumberParts.{cut_at_first, around, exponent_cut}
 
--- how many characters stand before the first that is a sign
+-- The number of characters before the first that is a sign.
 abbrev before : ℕ → Text → ℕ
 before sign text = prefix_len (λ c. not (c == sign)) text
 
@@ -23,7 +23,7 @@ lacks_before sign text = lacks_each sign (take (before sign text) text) none
         let same : (get_or text i 0 == sign) ≡ true = eq-eqb _ _ (sym (get_or-take (before sign text) text i 0 early) ∙ is) in
         true≢false (sym (prefix_len_passes (λ c. not (c == sign)) text i 0 early) ∙ ap not same)
 
--- and it stands there
+-- The sign is at that place.
 sign_found : (sign : ℕ) (text : Text) → before sign text < length text → get_or text (before sign text) 0 ≡ sign
 sign_found sign text within = eqb-true _ _ (by _ (prefix_len_stops (λ c. not (c == sign)) text 0 within))
   where
@@ -51,7 +51,7 @@ cut_by_place sign text place is =
           ∙ cut_found sign (take (before sign text) text) (drop (before sign text + 1) text) (lacks_before sign text),
     ))
 
--- there is none where the whole text stands before it
+-- There is none if the whole text precedes it.
 pub uncut_by_place : (sign : ℕ) (text : Text) (place : ℕ) → place ≡ prefix_len (λ c. not (c == sign)) text → place ≡ length text
     → cut_at_first sign text ≡ None
 uncut_by_place sign text place is whole =

@@ -1,4 +1,4 @@
--- Where the texts of a writer stand plain.
+-- When the texts of a writer are plain.
 use Rattle.yaml_base.proofs.Common.{if◌then◌else◌, Bool, false, not, true, ◌&&◌, ◌||◌, refl, ◌≡◌, ap, sym, ◌∙◌, list_any, Text, is_break, ScalarStyle}
 use Rattle.yaml_base.proofs.Common.{any_style, plain, single_quoted, double_quoted, literal, folded, Allowances, requested_style, fitting_style, fits_plain}
 use Rattle.yaml_base.{proofs.SurelyTexts.surely_text, specs.values.SurelyText.is_surely_text}

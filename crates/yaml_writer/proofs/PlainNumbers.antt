@@ -18,7 +18,7 @@ use Rattle.yaml_writer.specs.ReadNumbers.{WrittenNumbersAreRead}
 abbrev pub narrowest : Charset
 narrowest = record { unicode = false; breaks12 = true }
 
--- a character that may stand anywhere in plain text, whatever follows it
+-- True if a character may be anywhere in plain text, whatever follows it.
 abbrev pub is_harmless : ℕ → Bool
 is_harmless c = not (is_special narrowest c || is_break c || is_space c || c == 58 || is_gap c || is_among (codes ",?:[]{}") c)
 
@@ -26,7 +26,7 @@ is_harmless c = not (is_special narrowest c || is_break c || is_space c || c == 
 abbrev begins_plain : ℕ → Bool
 begins_plain c = not (is_space c || (c == 45 || c == 46) || is_indicator c || is_among (codes "?:-") c)
 
--- what ten digits pass, each does
+-- A test that ten digits pass holds for each digit.
 pub digits_pass : (test : ℕ → Bool) → agree_below (λ c. not (is_decimal c) || test c) (λ _. true) 58 ≡ true → (c : ℕ) → is_decimal c ≡ true → test c ≡ true
 digits_pass test all c digit =
     let within = digit_from_value c (ltb-true (digit_value c) 10 digit) in
@@ -38,7 +38,7 @@ digit_harmless c digit = digits_pass is_harmless refl c digit
 harmless_passes : PassesNumbers is_harmless
 harmless_passes = record { digit = digit_harmless; minus_sign = refl; plus_sign = refl; point = refl; small = refl; capital = refl }
 
--- what such a character isn't
+-- The characters that such a character isn't.
 pub record Harmless (c : ℕ) : Type 0 where
   pub special : is_special narrowest c ≡ false
   pub breaks : is_break c ≡ false
@@ -56,7 +56,7 @@ no_harm c h =
     let breaks = or_parts (is_special narrowest c) (is_break c) spaces.0 in
     record { special = breaks.0; breaks = breaks.1; space = spaces.1; colon = colons.1; gap = gaps.1; sign = signs.1 }
 
--- what is special in no set of characters
+-- The characters that are special in no set of characters.
 pub never_special : (charset : Charset) (c : ℕ) → is_special narrowest c ≡ false → is_special charset c ≡ false
 never_special charset c h =
     or_from (not (is_printable c) || (not charset.unicode && not (is_ascii c))) (charset.breaks12 && (c == line_separator || c == paragraph_separator))
@@ -127,7 +127,7 @@ begins_as_plain false c rest digit =
     marks : (is_space c ≡ false) × ((c == 45 || c == 46) ≡ false)
     marks = or_parts (is_space c) (c == 45 || c == 46) indicators.0
 
--- what begins with digits, past a minus, isn't empty and begins as plain text may
+-- A text that begins with digits, after a minus or none, isn't empty and begins as plain text may.
 begins_digits : (negative : Bool) (whole rest : Text) → are_digits 10 whole ≡ true
     → (is_empty (minus negative ++ whole ++ rest) ≡ false) × (begins_unlike_plain (minus negative ++ whole ++ rest) ≡ false)
 begins_digits negative [] rest h = absurd (true≢false (sym h))
@@ -141,7 +141,7 @@ begins_digits negative (c ∷ whole) rest h = by negative
     by true = (refl, begins_as_plain true c (whole ++ rest) digit)
     by false = (refl, begins_as_plain false c (whole ++ rest) digit)
 
--- a text before what holds nothing that bars plain text
+-- A text before one that has no bar to plain text.
 pub harmless_before : (charset : Charset) (flow : Bool) (text rest : Text) → list_all is_harmless text ≡ true
     → somewhere (bars_plain charset flow) rest ≡ false → somewhere (bars_plain charset flow) (text ++ rest) ≡ false
 harmless_before charset flow [] rest h free = free

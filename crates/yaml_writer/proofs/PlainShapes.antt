@@ -16,7 +16,7 @@ use Rattle.yaml_writer.specs.PlainTags.{are_integer_digits, is_hexadecimal, is_p
 
 -- ---- cuts
 
--- a text that is cut at signs, by its first part: all of it, or what stands before a sign
+-- a text that is cut at signs, by its first part: all of it, or the text before a sign
 pub data Cut (sign : ℕ → Bool) (text first : Text) (others : List Text) : Type 0 where
   uncut : text ≡ first → others ≡ [] → Cut sign text first others
   cut : (c : ℕ) (more : Text) → text ≡ first ++ (c ∷ more) → sign c ≡ true → slice_split sign more ≡ others → Cut sign text first others
@@ -47,7 +47,7 @@ cut_of sign (c ∷ rest) first others e = by (sign c) (slice_split sign rest) re
         later (cut d more text_is at others_are) =
             let all : c ∷ rest ≡ first ++ (d ∷ more) = cc in let same : slice_split sign more ≡ others = cc in cut d more all at same
 
--- what all parts pass, the text passes where the signs do
+-- If all parts and the signs pass a test, the text passes it.
 onto_passes : (test : ℕ → Bool) (c : ℕ) (parts : List Text)
     → list_all (λ part. list_all test part) (onto_first c parts) ≡ (test c && list_all (λ part. list_all test part) parts)
 onto_passes test c [] = grind (arith)
@@ -216,7 +216,7 @@ mantissa_parts text h = by (slice_split is_point text) refl h
         found (cut c more text_is at others) =
             last more (text_is ∙ ap (λ d. whole ++ (d ∷ more)) (eqb-true c 0x2E at)) (cut_of is_point more fraction [] others)
 
--- such digits, and what follows them
+-- Such digits, and the text after them.
 pub record Pointed (text : Text) : Type 0 where
   pub whole : Text
   pub fraction : Text
@@ -249,7 +249,7 @@ pointed_parts text h = by (slice_split is_exponent_letter text) refl h
         (cut_of is_exponent_letter text mantissa (exponent ∷ []) is)
     by (a ∷ b ∷ c ∷ rest) is h = absurd (true≢false (sym h))
 
--- a digit stands first behind a sign or none, or behind a point there
+-- A digit comes first after a sign or none, or after a point there.
 pub data Begins (text : Text) : Type 0 where
   by_digit : (c : ℕ) (rest : Text) → past_sign text ≡ c ∷ rest → is_decimal c ≡ true → Begins text
   by_point : (c : ℕ) (rest : Text) → past_sign text ≡ 0x2E ∷ c ∷ rest → is_decimal c ≡ true → Begins text

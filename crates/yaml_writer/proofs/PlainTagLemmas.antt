@@ -1,4 +1,4 @@
--- Texts that have a plain tag: where they stand, and how they are read.
+-- Texts that have a plain tag: their places, and how they are read.
 use Rattle.yaml_writer.proofs.Common.{if◌then◌else◌, Option, None, Some, option_map, option_or, codes, Bool, false, not, true, ◌&&◌, ◌||◌, List, [], map, ◌++◌}
 use Rattle.yaml_writer.proofs.Common.{◌∷◌, refl, ◌≡◌, ℕ, chars, ap, sym, ◌∙◌, and_parts, and_from, not_from_false, not-true, list_all, list_any, IsUtf8, Text}
 use Rattle.yaml_writer.proofs.Common.{is_word, is_space, float_tag, encode_utf8_all, encodes-chars}
@@ -27,7 +27,7 @@ none_some {A} {P} {a} h = absurd (by h)
 
 -- ---- words
 
--- what may stand plain everywhere
+-- The texts that may be plain everywhere.
 abbrev is_harmless_text : Text → Bool
 is_harmless_text text = list_all is_harmless text && not (is_empty text) && not (begins_unlike_plain text)
 
@@ -192,7 +192,7 @@ word_tag bytes nothing truth float utf8 a b c =
 
 -- ---- code that compares texts
 
--- they are equal by bytes where they are by characters
+-- They are equal by bytes if they are by characters.
 pub same_bytes : (a b : List ℕ) → IsUtf8 a → IsUtf8 b → bytes_eq a b ≡ bytes_eq (chars a) (chars b)
 same_bytes a b first second = by (bytes_eq a b) (bytes_eq (chars a) (chars b)) refl refl
   where

@@ -2,11 +2,11 @@
 use Rattle.yaml_writer.proofs.Common.{ℕ, Result, Ok, Err, List, ◌++◌, ◌≡◌, append_assoc, ap, ◌∙◌}
 use Rattle.std.specs.Prelude.{IfOk}
 
--- two texts, one behind the other
+-- Two texts, one after the other.
 pub pushed : (old before after first second : List ℕ) → before ≡ old ++ first → after ≡ before ++ second → after ≡ old ++ (first ++ second)
 pushed old before after first second was is = is ∙ ap (λ (text : List ℕ). text ++ second) was ∙ append_assoc old first second
 
--- the last of them, where there was memory for it
+-- The last of them, if there was memory for it.
 pub pushed_last : {T E : Type 0} (result : Result T E) (old before after first second : List ℕ) → before ≡ old ++ first
     → IfOk result (λ done. after ≡ before ++ second) → IfOk result (λ done. after ≡ old ++ (first ++ second))
 pushed_last (Ok done) old before after first second was is = pushed old before after first second was is

@@ -8,7 +8,7 @@ use Rattle.yaml_base.proofs.Common.{bytes_eq}
 abbrev lowered : Text → Text
 lowered text = map to_ascii_lowercase text
 
--- the first bytes of a text, more than a word has, are the word just where the text's ASCII start is
+-- the first bytes of a text, more than a word has, are the word if and only if the text's ASCII start is
 short_word : (n : ℕ) (text word : Text) → length word < n
     → bytes_eq (lowered (take_while is_ascii (take n text))) word ≡ bytes_eq (lowered (take_while is_ascii text)) word
 short_word zero text word h = absurd (omega (arith, h))

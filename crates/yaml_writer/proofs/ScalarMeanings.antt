@@ -1,4 +1,4 @@
--- What both schemas read of the scalars that a writer is given, wherever each stands.
+-- How both schemas read the scalars that a writer is given, at every place.
 use Rattle.yaml_writer.proofs.Common.{ℕ, if◌then◌else◌, is_some, None, codes, Bool, false, true, ◌&&◌, List, refl, ◌≡◌, ap, ◌∙◌, and_parts, chars, Text}
 use Rattle.yaml_writer.proofs.Common.{plain, Effective, JsonNumber, is_json_number, fraction_or_default, is_json_integer, yaml_number, int_tag}
 use Rattle.yaml_writer.proofs.Common.{float_tag, not, Allowances, requested_style, fitting_style, fits_plain, IsNumber}
@@ -20,14 +20,14 @@ use Rattle.yaml_writer.specs.Writing.{number_tag, text_style}
 
 -- ---- schemas
 
--- a text in the style that a writer gives it is written plain only where the schema takes it for a text
+-- a text in the style that a writer gives it is written plain only if the schema takes it for a text
 abbrev pub TextsOf : Schema → Type 0
 TextsOf schema =
     (text : Text) (allowed : Allowances) (empty tag_written plain_implicit quoted_implicit flow simple_key canonical : Bool)
     → (chosen allowed (text_style text) empty tag_written plain_implicit quoted_implicit flow simple_key canonical).style ≡ plain
     → schema text ≡ meant_text
 
--- what both schemas read of nothing, booleans, numbers and texts
+-- How both schemas read nothing, booleans, numbers and texts.
 pub record ReadsScalars (schema : Schema) : Type 0 where
   pub nothing : schema (codes "null") ≡ meant_null
   pub flags : (flag : Bool) → schema (bool_text flag) ≡ meant_boolean flag
@@ -72,7 +72,7 @@ pick : (test : Bool → Bool) → both test ≡ true → (x : Bool) → test x �
 pick test h true = (and_parts (test true) (test false) h).0
 pick test h false = (and_parts (test true) (test false) h).1
 
--- a word is written plain, whichever characters may stand as themselves, in flow or in a block, as a key or not
+-- a word is written plain, whichever characters are written as themselves, in flow or in a block, as a key or not
 abbrev pub stands_plain : Text → (unicode breaks12 flow simple : Bool) → Bool
 stands_plain word unicode breaks12 flow simple =
     is_plain (chosen (allowances (record { unicode = unicode; breaks12 = breaks12 }) word) plain (is_empty word) false true true flow simple false).style
@@ -108,7 +108,7 @@ module _ (schema : Schema) (s : Effective) (place : Place) (simple : Bool) where
   abbrev tagging_by : Scalar → Bool → Tagging
   tagging_by content canonical = tagging_in (scalar_tag canonical content) (style_by content canonical)
 
-  -- with its reading's tag a scalar means what the schema says
+  -- With its reading's tag a scalar has the schema's meaning.
   with_own_tag : (own word : Text) (meant : Resolved) → schema word ≡ meant → own ≡ canonical_tag meant → scalar_meant schema (with_tag own) word ≡ meant
   with_own_tag own word meant reads is =
       ap (λ (found : Resolved). if bytes_eq own (canonical_tag found) then found else meant_by_nobody) reads

@@ -39,7 +39,7 @@ split_by_cut sign (c ∷ rest) = by (c == sign) (cut_at_first sign rest) (split_
 pub no_point_cut : (text : Text) → cut_at_first 0x2E text ≡ None → is_pointed (slice_split is_point text) ≡ false
 no_point_cut text none = ap is_pointed (split_by_cut 0x2E text ∙ ap (λ o. cut_then_split 0x2E o text) none)
 
--- where more points follow, not all is digits
+-- If more points follow, not all is digits.
 pub point_cut : (text whole fraction : Text) → cut_at_first 0x2E text ≡ Some (whole, fraction)
     → is_pointed (slice_split is_point text) ≡ are_digits 10 (whole ++ fraction)
 point_cut text whole fraction found =
@@ -137,7 +137,7 @@ signed_within (c ∷ rest) h =
     and_from (in_mantissa c) (list_all in_mantissa rest) (or_left (is_decimal c || is_plus_or_minus c) _ (or_right (is_decimal c) _ both.0))
     (digits_within rest (all_digits 10 rest digits))
 
--- a sign stands first
+-- A sign comes first.
 sign_there : (text : Text) → is_some (sign_of text) ≡ first_meets is_plus_or_minus text
 sign_there [] = refl
 sign_there (c ∷ rest) = by (c == 0x2D) (c == 0x2B)
@@ -288,7 +288,7 @@ number_tag_by_chars bytes whole pointed utf8 h g =
     ap (λ x. option_or (some_if x int_tag) (some_if (is_plain_float (chars bytes)) float_tag)) (sym (integer_by_chars bytes utf8) ∙ h)
     ∙ ap (λ x. option_or (some_if whole int_tag) (some_if x float_tag)) (sym (float_by_chars bytes utf8) ∙ g)
 
--- ---- behind `0` and `x`
+-- ---- after `0` and `x`
 
 pub no_zero_begins : (text : Text) → ((rest : Text) → text ≢ 0x30 ∷ rest) → is_hexadecimal text ≡ false
 no_zero_begins [] h = refl

@@ -1,4 +1,4 @@
--- What both schemas read alike, other than texts, is a word or a number of these shapes.
+-- A text that both schemas read alike, and not as a text, is a word or a number of these shapes.
 use Rattle.yaml_writer.proofs.Common.{ℕ, if◌then◌else◌, ◌==◌, option_map, option_or, Option, None, Some, codes, length, Bool, false, not, true, ◌&&◌, ◌||◌}
 use Rattle.yaml_writer.proofs.Common.{List, [], ◌∷◌, refl, ◌≡◌, eqb-true, true≢false, ap, sym, ◌∙◌, and_parts, and_from, and_left, and_right, or_from}
 use Rattle.yaml_writer.proofs.Common.{not_from_false, list_all, list_any, Text, is_word, is_decimal, first_meets, are_digits, is_whole_part}
@@ -95,7 +95,7 @@ digits_text negative (c ∷ digits) decimal other =
 
 -- ---- `0o` and digits
 
--- what is no digit stands second in no group of digits
+-- The second of a group of digits is a digit.
 grouped_none : (test : ℕ → Bool) (a b : ℕ) (text : Text) → (is_decimal b || is_underscore b) ≡ false → begins_grouped test (a ∷ b ∷ text) ≡ false
 grouped_none test a b text other =
     and_right (test a) (are_grouped 10 (a ∷ b ∷ text))
@@ -154,7 +154,7 @@ octal_text digits =
     later : Text
     later = first_part (slice_split is_exponent_letter digits)
 
--- ---- parts of what the core schema reads
+-- ---- parts of the texts that the core schema reads
 
 none_is : (meant : Resolved) → None ≡ Some meant → ⊥
 none_is meant e = cc
@@ -238,14 +238,14 @@ no_hexadecimal (c ∷ d ∷ digits) e = by (c == 0x30 && d == 0x78 && are_digits
 
 module _ (text tag : Text) (filled_text : is_empty text ≡ false) (other : bytes_eq tag string_tag ≡ false)
     (by_11 : canonical_tag (resolved_by_11 text) ≡ tag) (by_core : canonical_tag (resolved_by_core text) ≡ tag) where
-  -- what a word of both means has its tag
+  -- The meaning of a word of both schemas has its tag.
   a_word : (meant : Resolved) → named words_of_core text ≡ Some meant → plain_tag text ≡ Some tag
   a_word meant e =
       ap (λ (word : Option Resolved). option_or (option_map canonical_tag word) (plain_number_tag text))
       (ap (λ x. if x then None else named words_of_core text) filled_text ∙ e)
       ∙ ap (λ (t : Text). Some t) (sym (ap canonical_tag (found _ _ meant e)) ∙ by_core)
 
-  -- what is none has the tag of a number
+  -- A text that is no such word has the tag of a number.
   no_word_there : named words_of_core text ≡ None → plain_tag text ≡ plain_number_tag text
   no_word_there e =
       ap (λ (word : Option Resolved). option_or (option_map canonical_tag word) (plain_number_tag text))

@@ -41,7 +41,7 @@ pub no_word_of : (table : List (Text × Resolved)) (text : Text) → list_all (�
     → list_any is_decimal text ≡ true → named table text ≡ None
 no_word_of table text all digit = named_unlike (λ text. not (list_any is_decimal text)) table text all (ap not digit)
 
--- digits behind a sign or none, and then what stands in no date
+-- Digits after a sign or none, and then a character that is in no date.
 pub no_date : (text digits rest : Text) → past_sign text ≡ digits ++ rest → list_all is_decimal digits ≡ true → first_meets in_date rest ≡ false
     → timestamp_11 text ≡ None
 no_date [] digits rest is h other = refl
@@ -112,7 +112,7 @@ two_in_part sign a b text first second =
     ap first_part (slice_split-cons_no sign a (b ∷ text) first) ∙ onto_first_part a (slice_split sign (b ∷ text))
     ∙ ap (λ t. a ∷ first_part t) (slice_split-cons_no sign b text second) ∙ ap (λ t. a ∷ t) (onto_first_part b (slice_split sign text))
 
--- what is no digit stands second in no mantissa
+-- The second character of a mantissa is a digit.
 pub mantissa_none : (negative : Bool) (a b : ℕ) (text : Text) (parts : List Text) → first_part parts ≡ a ∷ b ∷ text
     → (is_decimal b || is_underscore b) ≡ false → mantissa_11 negative parts ≡ None
 mantissa_none negative a b text [] is other = refl
@@ -241,7 +241,7 @@ core_decimal_given text h =
     (λ m pointed. core_mantissa_given (is_negative text) (slice_split is_point m) pointed) exponent_given
     (slice_split is_exponent_letter (past_sign text)) h
 
--- ---- what the core schema reads before floats
+-- ---- the types that the core schema tries before floats
 
 -- `0` and a letter
 abbrev pub begins_based_by : ℕ → Text → Bool
@@ -340,7 +340,7 @@ float_by_both text h = (
     unbased letter other point =
         ap (begins_based_by letter) parts.text_is ∙ pointed_not_based letter parts.whole (parts.fraction ++ parts.rest) other point whole
 
--- so they read what has the tag of a number
+-- So they read a value with the tag of a number.
 pub numbers_by_both : (text tag : Text) → plain_number_tag text ≡ Some tag → Shaped text × BothRead text tag
 numbers_by_both text tag e = by (are_integer_digits (past_sign text)) (is_hexadecimal text) (is_plain_float text) refl refl refl e
   where

@@ -1,5 +1,5 @@
--- Which characters stand in a number's text and in its spelling: ASCII, so by bytes and by characters they are the same; and
--- when both are the same.
+-- The characters of a number's text and of its spelling are ASCII, so by bytes and by characters they are the same; and when text and
+-- spelling are the same.
 use Rattle.yaml_writer.proofs.Common.{ℕ, if◌then◌else◌, ◌==◌, is_some, Option, None, Some, codes, nat_lt, length, Bool, false, not, true, ◌&&◌, ◌||◌, List, []}
 use Rattle.yaml_writer.proofs.Common.{◌++◌, ◌∷◌, refl, ◌≡◌, ltb-true, true≢false, append-nil, append_assoc, ap, sym, ◌∙◌, arith, and_parts, and_from, list_all}
 use Rattle.yaml_writer.proofs.Common.{list_all-append, encodes-chars, digit_from_value, digit_value, IsUtf8, encode_utf8_all, Text, is_word, JsonExponent}
@@ -189,6 +189,6 @@ same_parts negative whole None None h = by (negative && is_word whole (codes "0"
     by true g = absurd (true≢false (sym g))
     by false g = sym (append-nil (minus negative ++ whole ++ []))
 
--- a number that stands as it is spelled is its own spelling
+-- A number that is in its spelling is its own spelling.
 pub same_spelling : (number : JsonNumber) → is_spelled number ≡ true → yaml_number number ≡ json_text number
 same_spelling number h = same_parts number.negative number.whole number.fraction number.exponent h

@@ -8,7 +8,7 @@ use Rattle.yaml_base.{proofs.Completions.pushed-append, proofs.Completions.prefi
 use Rattle.yaml_base.specs.Refusal.{IsAcceptedPrefix}
 use Rattle.yaml_base.{specs.declared.errors.yaml_error_t.yaml_error_t, specs.declared.errors.yaml_error_t.TheVariants.TooDeep}
 
--- ---- a fault that is returned is that of the depth, where there is no other
+-- ---- a fault that is returned is that of the depth, if there is no other
 
 last_fault : (name place content last : Option yaml_error_t) (error : yaml_error_t) → name ≡ None → place ≡ None → content ≡ None
     → option_or name (option_or place (option_or content last)) ≡ Some error → last ≡ Some error
@@ -38,7 +38,7 @@ module _ (canonical : Bool) (all : List Event) (tree : Stream) (flat : stream_ev
       and_parts (list_all (is_sound canonical) prefix) (list_all (is_sound canonical) rest)
       (sym (list_all-append (is_sound canonical) prefix rest) ∙ ap (list_all (is_sound canonical)) parts ∙ in_order)
 
-  -- an accepted one, where it doesn't leave too many collections open
+  -- An accepted one, if it doesn't leave too many collections open.
   pub begins_if_shallow : (prefix rest : List Event) → prefix ++ rest ≡ all
       → ((first later : List Event) → first ++ later ≡ prefix → open_count first ≤ most_open) → IsAcceptedPrefix canonical prefix
   begins_if_shallow prefix rest parts shallow =

@@ -1,4 +1,4 @@
--- What the calls of a writer come to for what its caller has taken, and what is left.
+-- The bytes that the caller of a writer has taken, and those that are left, after its calls.
 use Rattle.yaml_writer.proofs.Common.{ℕ, IfErr, OnOk, Option, None, Some, Result, Err, Ok, drop, length, Bool, true, List, [], ◌++◌, ◌∷◌, refl, ◌≡◌, ap, subst}
 use Rattle.yaml_writer.proofs.Common.{sym, inr, ◌∙◌, prefix_then, Text, Event, Settings, StandsAfter, State, output_left, Grows, WriterState, StandsTaken}
 use Rattle.yaml_writer.proofs.Common.{AddsEvents, PassedEvents, GaveEvent, option_or}
@@ -12,19 +12,19 @@ use Rattle.yaml_base.{proofs.Prefixes.prefix_same, specs.declared.errors.yaml_er
 use Rattle.yaml_writer.specs.Writing.{Begins, Failed, Gives, tag_or_default, with_collection}
 use Rattle.yaml_base.specs.{declared.kinds.CollectionKind.CollectionKind, declared.errors.yaml_error_t.TheVariants.Memory}
 
--- a call of the emitter keeps what was taken
+-- A call of the emitter keeps the number of bytes taken.
 pub still_taken : (given : Settings) (all more : List Event) (sent : List ℕ) (before after : State) → StandsTaken given all sent before
     → KeepsSet (record before { started = true }) after → Grows before.page after.page → StandsAfter given more after
     → StandsTaken given more sent after
 still_taken given all more sent before after was set grows stands =
     record { stands = stands; taken = set.taken ∙ was.taken; begins = prefix_then was.begins grows.output }
 
--- past a list's own elements stands what follows it
+-- Past a list's own elements is the list after it.
 drop_past : {A : Type 0} (first rest : List A) → drop (length first) (first ++ rest) ≡ rest
 drop_past [] rest = refl
 drop_past (x ∷ first) rest = drop_past first rest
 
--- what was taken and what is left are the output
+-- The bytes that were taken and those that are left are the output.
 pub taken_and_left : (given : Settings) (all : List Event) (sent : List ℕ) (state : State) → StandsTaken given all sent state
     → sent ++ output_left state.page ≡ state.page.output
 taken_and_left given all sent state was =
@@ -61,7 +61,7 @@ adds_nothing state =
       answered = refl;
     }
 
--- what was taken stays taken as events are given
+-- Bytes that were taken stay taken as events are given.
 pub moves_taken : {before after : State} {events : List Event} {answer : Result (Unit {0}) yaml_error_t} → Moves before events answer after
     → (given : Settings) (all : List Event) (sent : List ℕ) → StandsTaken given all sent before → StandsTaken given (all ++ events) sent after
 moves_taken moves given all sent stands =
@@ -120,7 +120,7 @@ pub gave_untaken : (inside before : WriterState) (emitter : State) (event : Even
 gave_untaken inside before emitter event view failed =
     inr (refl, ap (λ (e : State). record inside { emitter = e }) failed.unchanged ∙ view)
 
--- a scalar that the next node's properties say nothing of, where there are none: all of them stay none
+-- If the next node has no properties, it has none after a scalar either.
 pub gave_bare : (inside before : WriterState) (emitter : State) (event : Event) (answer : ScalarAnswer) → inside ≡ before
     → EmitsScalar inside.emitter event answer emitter → inside.anchor ≡ None → inside.tag ≡ None
     → Gives before event (result_of_answer answer) (record inside { emitter = emitter })
@@ -133,7 +133,7 @@ pub given_as : {given event : Event} (before after : WriterState) (answer : Resu
     → Gives before given answer after → Gives before event answer after
 given_as before after answer is = subst (λ (e : Event). Gives before e answer after) is
 
--- what a call gave, and why one failed
+-- The event that a call gave, and why a call failed.
 pub gives_ok : (before after : WriterState) (event : Event) (answer : Result (Unit {0}) yaml_error_t) → Gives before event answer after
     → OnOk answer (GaveEvent before event (Ok tt) after)
 gives_ok before after event (Ok done) gave = gave
@@ -144,7 +144,7 @@ pub gives_err : (before after : WriterState) (event : Event) (answer : Result (U
 gives_err before after event (Ok done) gave = tt
 gives_err before after event (Err error) failed = failed
 
--- and so where it begins a collection
+-- The same if it begins a collection.
 pub begins_ok : (kind : CollectionKind) (before after : WriterState) (event : Event) (answer : Result (Unit {0}) yaml_error_t)
     → Begins kind before event answer after → OnOk answer (GaveEvent (with_collection before kind) event (Ok tt) after)
 begins_ok kind before after event (Ok done) gave = gave

@@ -82,7 +82,7 @@ not_within c h =
     (or_from (c == 0x20) _ (unlike 0x20 c refl h) (unlike 0x9 c refl h)))
     (not_among (codes "+-._:,") c refl h)
 
--- ---- what is looked at
+-- ---- the bytes that are looked at
 
 first_alike : (test : ℕ → Bool) → ((c : ℕ) → is_ascii c ≡ false → test c ≡ false) → (text : Text) (bytes : List ℕ) → Alike text bytes
     → first_meets test text ≡ first_meets test bytes
@@ -168,7 +168,7 @@ doubtful_alike text bytes a =
     ∙ ap (λ x. is_reserved bytes || is_symbol bytes || x || is_numeric text) (based_alike text bytes a)
     ∙ ap (λ x. is_reserved bytes || is_symbol bytes || is_based bytes || x) (numeric_alike text bytes a)
 
--- a text is doubtful where its bytes are
+-- A text is doubtful if its bytes are.
 pub doubtful_by_bytes : (bytes : List ℕ) → IsUtf8 bytes → is_doubtful (chars bytes) ≡ is_doubtful bytes
 doubtful_by_bytes bytes is =
     doubtful_alike (chars bytes) bytes (subst (Alike (chars bytes)) (encodes-chars bytes is) (alike_bytes (chars bytes)))

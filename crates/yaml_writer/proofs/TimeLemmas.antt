@@ -24,7 +24,7 @@ use Rattle.yaml_writer.specs.Times.{seconds_text, three_digits, time_in, time_of
 three_say : (number : ℕ) → number < 1000 → Says 3 (three_digits number) number
 three_say number small = says_so 3 (three_digits number) number (agree_below_at (λ n. says 3 (three_digits n) n) (λ _. true) 1000 number refl small)
 
--- three digits behind others
+-- Three digits after others.
 three_more : (before number : ℕ) → number < 1000 → digits_value_after 10 before (three_digits number) ≡ before * 1000 + number
 three_more before number small = omega (arith, (three_say number small).value)
 
@@ -38,7 +38,7 @@ module _ (n : ℕ) (small : n < 1000000000) where
   third : Says 3 (three_digits (n % 1000)) (n % 1000)
   third = three_say (n % 1000) (omega arith)
 
-  -- its decimals by what is left behind the first three and the first six of them
+  -- Its decimals by the texts after the first three and the first six of them.
   abbrev parts : (x y : Bool) → Text
   parts x y = three_digits (n / 1000000) ++ (if x then [] else three_digits (n / 1000 % 1000) ++ (if y then [] else three_digits (n % 1000)))
 
@@ -75,7 +75,7 @@ module _ (n : ℕ) (small : n < 1000000000) where
 pub two : (number : ℕ) → number < 100 → Says 2 (two_digits number) number
 two number small = says_so 2 (two_digits number) number (two_say number small)
 
--- what the parts of a time say
+-- The meaning of the parts of a time.
 pub record TimeSays (time : ClockTime) : Type 0 where
   pub hour : Says 2 (two_digits time.hour) time.hour
   pub minute : Says 2 (two_digits time.minute) time.minute
@@ -130,7 +130,7 @@ clock_passes test passes time parts =
 digit_no_colon : (c : ℕ) → is_decimal c ≡ true → is_colon c ≡ false
 digit_no_colon c digit = digit_unlike c 0x3A refl digit
 
--- what holds no colon
+-- Texts without a colon.
 free : (text : Text) → list_all (λ c. not (is_colon c)) text ≡ true → All (λ c. is_colon c ≡ false) text
 free text h k d within = not-true _ (AllPass-from_list_all (λ c. not (is_colon c)) text h k d within)
 
@@ -150,7 +150,7 @@ cut_clock time parts =
 
 -- ---- seconds
 
--- seconds by what stands on the two sides of their point
+-- Seconds by the texts before and after their point.
 record SecondsSay (second nanosecond : ℕ) : Type 0 where
   are : are_seconds (slice_split is_point (seconds_text second nanosecond)) ≡ true
   value : seconds_of (slice_split is_point (seconds_text second nanosecond)) ≡ Some (second, nanosecond)
@@ -243,7 +243,7 @@ clock_value time parts =
 in_times : PassesTimes in_clock
 in_times = record { digit = λ c digit. ap (λ x. x || is_colon c || is_point c) digit; colon = refl; point = refl }
 
--- how a time behind a date is read
+-- How a time after a date is read.
 record Reads (time : Option ClockTime) : Type 0 where
   ends : first_meets in_date (time_text time) ≡ false
   fits : (date : CalendarDate) → DateSays date → stamp (date_digits date) (time_text time) ≡ Some meant_timestamp

@@ -1,4 +1,4 @@
--- What is read of typed events has the tags of the events.
+-- The tree that is read of typed events has the tags of the events.
 use Rattle.yaml_writer.proofs.Common.{if◌then◌else◌, is_some, option_map, Option, None, Some, Bool, false, not, true, ◌&&◌, ◌||◌, List, [], map, ◌++◌, ◌∷◌, ◌≡◌}
 use Rattle.yaml_writer.proofs.Common.{refl, ap, sym, ◌∙◌, and_parts, and_from, list_all-append, list_all, Text, Event, stream_end, document_end, sequence_start}
 use Rattle.yaml_writer.proofs.Common.{mapping_start, Effective, surely_text}
@@ -132,7 +132,7 @@ collection_kept canonical start own h = by canonical
     by true = ap (λ (tag : Option Text). is_same_text tag (Some (unwrap_or tag own))) (sym is) ∙ same_text said
     by false = ap (λ (tag : Option Text). is_same_text tag (Some said)) (sym is) ∙ same_text said
 
--- what a schema reads of texts that may stand plain
+-- How a schema reads texts that may be plain.
 pub record ReadsPlain (schema : Schema) : Type 0 where
   pub text : (text : Text) → is_surely_text text ≡ true → schema text ≡ meant_text
   pub tag : (text tag : Text) → plain_tag text ≡ Some tag → canonical_tag (schema text) ≡ tag
@@ -200,7 +200,7 @@ module _ (schema : Schema) (reads : ReadsPlain schema) (s : Effective) (directiv
         by false e =
             text_read implied content text (scalar_tag s.canonical now) (tagging_at now) (ap (λ x. scalar_tag x now) e ∙ none implied) agree ∙ sym is
 
-    -- a scalar of another type that stands plain
+    -- A plain scalar of another type.
     plain_kept : (content : Scalar) (tag : Text) → content.tag ≡ Some tag → IsWrittenPlain content.value → canonical_tag (schema content.value) ≡ tag
         → tag_meant schema (tagging_at (typed_by false true content)) content.value ≡ tag
     plain_kept content tag has plainly read = by s.canonical

@@ -1,4 +1,4 @@
--- A number's text is its spelling only where it stands as it is spelled.
+-- A number's text is its spelling only if the number is in its spelling.
 use Rattle.yaml_writer.proofs.Common.{ℕ, if◌then◌else◌, Option, None, Some, codes, length, Bool, false, not, true, ◌&&◌, ◌||◌, [], ◌++◌, ◌∷◌, refl, ◌≡◌, inr}
 use Rattle.yaml_writer.proofs.Common.{length-append, true≢false, append_assoc, ap, ◌∙◌, arith, Text, is_word, JsonExponent, JsonNumber, minus, json_text, ◌==◌}
 use Rattle.yaml_writer.proofs.Common.{yaml_number, is_spelled, list_all, nat_lt, and_parts}
@@ -7,7 +7,7 @@ use Rattle.yaml_writer.proofs.PlaceCuts.{no_letter_uncut}
 use Rattle.yaml_writer.specs.NumberParts.{around_point, cut_at_first, exponent_cut, fraction_cut, number_in}
 use Rattle.std.{proofs.Common.inl, proofs.Common.⊎_elim, proofs.lemmas.List.append_cancel_left, specs.Prelude.◌+◌, specs.Prelude.◌⊎◌}
 
--- what is put together otherwise, but to the same, has the same length
+-- Texts with the same parts have the same length, however they are put together.
 same_length : (prefix point after less rest : Text) → prefix ++ (point ++ after) ≡ prefix ++ less ++ rest
     → length point + length after ≡ length less + length rest
 same_length prefix point after less rest e =
@@ -80,7 +80,7 @@ apart negative whole None None e = by (negative && is_word whole (codes "0")) e
     by false g = refl
     by true g = absurd (omega (arith, same_length (minus negative ++ whole) (codes "." ++ codes "0") [] [] [] g))
 
--- a number whose text is its spelling stands as it is spelled
+-- A number whose text is its spelling is in its spelling.
 pub stands_as_spelled : (number : JsonNumber) → yaml_number number ≡ json_text number → is_spelled number ≡ true
 stands_as_spelled number e = apart number.negative number.whole number.fraction number.exponent e
 

@@ -9,7 +9,7 @@ use Rattle.yaml_emitter.proofs.standing.{Standing.settings_grown, StandingEnds.w
 use Rattle.yaml_emitter.specs.Promises.{begins_with_start}
 use Rattle.yaml_writer.proofs.{Finishing.refuses_one, MissingNodes.misses, Overflow.overflowed}
 
--- a list that ends behind another's last element but one
+-- A list that ends after another's last element but one.
 shorter : {A : Type 0} (prefix later all : List A) (last : A) → prefix ++ later ≡ all ++ last ∷ [] → (later ≡ [] → ⊥)
     → (rest : List A) × (prefix ++ rest ≡ all)
 shorter [] later all last parts some = (all, refl)
@@ -36,15 +36,15 @@ third_ok after (Ok done) is ends = ends (none_from_result after.error is)
 third_ok after (Err error) is ends = tt
 
 module _ (implicit : Bool) where
-  -- what ends the stream
+  -- The events that end the stream.
   abbrev closing : List Event
   closing = closing_by implicit
 
-  -- what stands at the end, once a third event was given
+  -- The last event, once a third event was given.
   abbrev closed_twice : List Event
   closed_twice = document_end implicit ∷ stream_end ∷ stream_end ∷ []
 
-  -- no start stands at the end
+  -- The last event is no start.
   tail_none : (n : ℕ) → begins_with_start (drop n closed_twice) ≡ true → drop n closed_twice ≡ []
   tail_none zero starts = cc
   tail_none (suc zero) starts = cc
@@ -59,7 +59,7 @@ module _ (implicit : Bool) where
   few_none (event ∷ all) (suc n) starts few = few_none all n starts few
 
   module _ (canonical : Bool) (all : List Event) (unaccepted : IsAccepted canonical (all ++ closing) → ⊥) where
-    -- where the events are no stream, no stream begins with them
+    -- If the events are no stream, no stream begins with them.
     begins_none : IsAcceptedPrefix canonical (all ++ closing) → ⊥
     begins_none begins =
         unaccepted
@@ -168,7 +168,7 @@ module _ (implicit : Bool) where
           let few : length (drop n (all ++ closed_twice)) ≤ 3 = omega (arith, waits.few, most_few state.held, ap length is) in
           is ∙ few_none all n (ap begins_with_start (sym is) ∙ waits.starts) few
 
-  -- what its error comes to
+  -- The meaning of its error.
   pub third_unfinished : (before after : State) (error : yaml_error_t) → ((earlier : yaml_error_t) → before.error ≡ Some earlier → ⊥)
       → ((given : Settings) (all : List Event) → StandsAfter given all before → (IsAccepted given.canonical (all ++ closing) → ⊥)
       × StandsAfter given ((all ++ closing) ++ stream_end ∷ []) after × Promised given ((all ++ closing) ++ stream_end ∷ []) after)

@@ -28,7 +28,7 @@ fails_by depth over_limit deeper error full refused = by_kind (which error)
     by_kind (inr (inl same)) = inr (inl (same, full same))
     by_kind (inr (inr refusal)) = inr (inr (refused refusal))
 
--- where the limit gave out, the bytes pass it, whatever else is given
+-- If the limit is exceeded, the bytes pass it, whatever else is given.
 pub overflowed_more : (given : Settings) (more all : List Event) (state : State) → StateStands given all state → state.error ≡ Some WriteError
     → PassesLimit given (all ++ more)
 overflowed_more given [] all state stands is = subst (PassesLimit given) (sym (append-nil all)) (overflowed given all state stands is)

@@ -10,10 +10,10 @@ use Rattle.yaml_writer.specs.Writing.{WriterState, scalar_event, tag_or_default,
 abbrev pub binary_tag : Text
 binary_tag = codes "tag:yaml.org,2002:binary"
 
--- the text of bytes: their base64 by the standard alphabet, with padding
+-- The text of bytes: their base64 by the standard alphabet, with padding.
 abbrev pub binary_text : List ℕ → Text
 binary_text bytes = chars (encode_of standard bytes)
 
--- bytes, with their tag where none was given
+-- The event of bytes, with their tag if none was given.
 abbrev pub bytes_event : WriterState → List ℕ → Event
 bytes_event writer bytes = scalar_event writer (tag_or_default writer.tag true binary_tag) (binary_text bytes) (text_style (binary_text bytes))

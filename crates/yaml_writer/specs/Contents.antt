@@ -1,4 +1,4 @@
--- What the events of a value hold, where it has no anchor, and no tag but its type's.
+-- The contents of the events of a value that has no anchor, and no tag but its type's.
 use Rattle.std.specs.Prelude.{Bool, true, Option, None, Some, codes, is_none, if◌then◌else◌}
 use Rattle.yaml_base.specs.Characters.{Text}
 use Rattle.yaml_base.specs.Event.{Collection, CollectionStyle, block, flow, Scalar, ScalarStyle, plain}
@@ -6,12 +6,12 @@ use Rattle.yaml_base.specs.values.JsonNumbers.{JsonNumber, yaml_number}
 use Rattle.yaml_base.specs.values.TypedValues.{null_tag, bool_tag, bool_text}
 use Rattle.yaml_writer.specs.Writing.{number_tag, text_style}
 
--- a scalar without an anchor; a tag is written where there is one
+-- A scalar without an anchor; a tag is written if there is one.
 abbrev pub content_with : Option Text → Text → ScalarStyle → Scalar
 content_with tag value style =
     record { anchor = None; tag = tag; value = value; plain_implicit = is_none tag; quoted_implicit = is_none tag; style = style }
 
--- a word that stands plain, with its type's tag in canonical form
+-- A plain word, with its type's tag in canonical form.
 abbrev pub word_content : (canonical : Bool) → (tag word : Text) → Scalar
 word_content canonical tag word = content_with (if canonical then Some tag else None) word plain
 
@@ -27,7 +27,7 @@ bool_content canonical flag = word_content canonical bool_tag (bool_text flag)
 abbrev pub number_content : (canonical : Bool) → JsonNumber → Scalar
 number_content canonical parts = word_content canonical (number_tag parts) (yaml_number parts)
 
--- a text, plain only where both schemas of YAML read it as a text
+-- A text, plain only if both schemas of YAML read it as a text.
 abbrev pub text_content : Text → Scalar
 text_content text = content_with None text (text_style text)
 

@@ -1,4 +1,4 @@
--- Dates, how they are written, and what the type repository of YAML 1.1 reads (yaml.org/type/timestamp: the short form).
+-- Dates, how they are written, and how the type repository of YAML 1.1 reads them (yaml.org/type/timestamp: the short form).
 use Rattle.std.specs.Prelude.{◌≡◌, ℕ, Bool, true, false, Option, None, Some, List, [], ◌∷◌, ◌++◌, ◌==◌, ◌||◌, ◌&&◌, ◌+◌, ◌/◌, ◌%◌, not, nat_le, codes}
 use Rattle.std.specs.Prelude.{if◌then◌else◌}
 use Rattle.std.specs.List.{slice_split}
@@ -56,7 +56,7 @@ four_digits number = last_digit (number / 1000) ∷ last_digit (number / 100) �
 abbrev pub date_text : CalendarDate → Text
 date_text date = four_digits date.year ++ codes "-" ++ two_digits date.month ++ codes "-" ++ two_digits date.day
 
--- ---- what is read
+-- ---- reading
 
 -- the date whose parts these digits are
 abbrev pub date_of_parts : List Text → Option CalendarDate
@@ -73,8 +73,8 @@ DatesAreRead =
     (date : CalendarDate) → is_calendar_date date ≡ true
     → (resolved_by_11 (date_text date) ≡ meant_timestamp) × (date_in (date_text date) ≡ Some date)
 
--- wherever a date stands outside canonical form, and whichever characters may stand as themselves: with a tag that is written or
--- the flag for plain text it is written plain
+-- A date is written plain at every place outside canonical form, whichever characters are written as themselves, if its tag is written
+-- or its flag for plain text is set.
 abbrev pub WrittenDatesArePlain : Type 0
 WrittenDatesArePlain =
     (date : CalendarDate) (charset : Charset) (tag_written plain_implicit quoted_implicit flow simple_key : Bool)

@@ -20,7 +20,7 @@ special_text Infinity = codes ".inf"
 special_text NegativeInfinity = codes "-.inf"
 special_text NotANumber = codes ".nan"
 
--- what each is
+-- The float of each word.
 abbrev pub special_meaning : SpecialFloat → Resolved
 special_meaning Infinity = meant_infinity false
 special_meaning NegativeInfinity = meant_infinity true

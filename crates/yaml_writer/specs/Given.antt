@@ -1,4 +1,4 @@
--- What values are written by, where nothing else is asked for.
+-- The settings for values, if no others are asked for.
 use Rattle.std.specs.Prelude.{true, Some, negsuc}
 use Rattle.yaml_base.specs.Settings.{Settings, nothing_given}
 

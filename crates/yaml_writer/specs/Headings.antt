@@ -1,4 +1,4 @@
--- Headings: lines of comments before a stream, and how a stream is read behind them.
+-- Headings: lines of comments before a stream, and how a stream after them is read.
 use Rattle.std.specs.Prelude.{◌≡◌, ℕ, Bool, List, [], ◌∷◌, ◌++◌, ◌==◌, ◌||◌, ◌&&◌, not, codes, encode_utf8, encode_utf8_all}
 use Rattle.std.specs.Prelude.{IsUtf8, if◌then◌else◌}
 use Rattle.yaml_base.specs.Characters.{Text, is_break, is_printable, line_feed, space}
@@ -8,14 +8,14 @@ use Rattle.yaml_writer.specs.declared.headings.LineSpot.TheVariants.{Start, With
 
 -- ---- written
 
--- LF ends a line of a comment; what a line can't hold becomes a space
+-- LF ends a line of a comment. A character that a line can't hold becomes a space.
 abbrev pub in_comment : ℕ → ℕ
 in_comment c = if c == line_feed || (is_printable c && not (is_break c)) then c else space
 
 abbrev pub spot_after : ℕ → LineSpot
 spot_after c = if c == line_feed then Start else Within
 
--- what stands before a character; a line without any is `#` alone
+-- The text before a character; a line without characters is `#` alone.
 abbrev pub comment_start : LineSpot → ℕ → Text
 comment_start Start c = if c == line_feed then codes "#" else codes "# "
 comment_start Within c = []
@@ -32,13 +32,13 @@ commented spot (c ∷ rest) = comment_start spot c ++ in_comment c ∷ commented
 abbrev pub comment_lines : Text → Text
 comment_lines text = commented Start text
 
--- a character and what stands before it, in UTF-8
+-- A character and the text before it, in UTF-8.
 abbrev pub commented_bytes : LineSpot → ℕ → List ℕ
 commented_bytes spot c = comment_start spot c ++ encode_utf8 (in_comment c)
 
 -- ---- read
 
--- lines of comments before a stream change nothing of what is read of it: neither of its characters, nor of its bytes in UTF-8
+-- A stream after lines of comments is read as the stream alone, by its characters and by its bytes in UTF-8.
 pub record HeadingsArePassedOver : Type 0 where
   pub passed : (breaks12 : Bool) (heading text : Text) → text_trees breaks12 (comment_lines heading ++ text) ≡ text_trees breaks12 text
   pub bytes :

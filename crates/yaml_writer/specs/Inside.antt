@@ -1,4 +1,4 @@
--- What contracts see of a writer.
+-- The view of a writer in contracts.
 use Rattle.std.specs.Prelude.{◌≡◌, true, option_map}
 use Rattle.yaml_base.specs.Seen.{seen_text}
 use Rattle.yaml_writer.specs.Writing.{WriterState}

@@ -1,4 +1,4 @@
--- What a tree that was read means by a schema. This names no writer and no event.
+-- The meaning of a tree that was read, by a schema. No writer and no event is named here.
 pub use Rattle.yaml_base.specs.values.CanonicalTags.{Schema, canonical_tag, scalar_meant}
 use Rattle.std.specs.Prelude.{◌≡◌, ℕ, true, None, List, [], ◌∷◌, ◌++◌}
 use Rattle.std.specs.Str.{chars}

@@ -1,10 +1,10 @@
--- How a text is cut into the parts of a number of JSON, and what its spelling says of it.
+-- How a text is cut into the parts of a number of JSON, and how it is spelled.
 use Rattle.std.specs.Prelude.{◌≡◌, ℕ, Bool, true, false, Option, None, Some, [], ◌∷◌, ◌==◌, option_map, if◌then◌else◌}
 use Rattle.yaml_base.specs.Characters.{Text}
 use Rattle.yaml_base.specs.values.Resolved.{is_negative, past_sign, are_digits}
 use Rattle.yaml_base.specs.values.JsonNumbers.{JsonNumber, JsonExponent, is_json_number, json_text}
 
--- what stands before and after the first of a sign
+-- The texts before and after the first of a sign.
 abbrev pub cut_at_first : ℕ → Text → Option (Text × Text)
 cut_at_first sign [] = None
 cut_at_first sign (c ∷ rest) = if c == sign then Some ([], rest) else option_map (λ parts. (c ∷ parts.0, parts.1)) (cut_at_first sign rest)
@@ -19,11 +19,11 @@ abbrev pub sign_of : Text → Option Bool
 sign_of [] = None
 sign_of (c ∷ rest) = if c == 0x2D then Some true else (if c == 0x2B then Some false else None)
 
--- an exponent by what follows its letter
+-- An exponent by the text after its letter.
 abbrev pub exponent_in : (capital : Bool) → Text → JsonExponent
 exponent_in capital text = record { capital = capital; sign = sign_of text; digits = past_sign text }
 
--- the parts that stand round an exponent's letter; all, where there is none
+-- The parts before and after an exponent's letter; without one, the whole text is the first.
 abbrev pub around : (capital : Bool) → Option (Text × Text) → (Text × Option JsonExponent) → Text × Option JsonExponent
 around capital (Some parts) none = (parts.0, Some (exponent_in capital parts.1))
 around capital None none = none
@@ -32,7 +32,7 @@ around capital None none = none
 abbrev pub exponent_cut : Text → Text × Option JsonExponent
 exponent_cut text = around false (cut_at_first 0x65 text) (around true (cut_at_first 0x45 text) (text, None))
 
--- the parts before and after a point; all, where there is none
+-- The parts before and after a point; without one, the whole text is the first.
 abbrev pub around_point : Option (Text × Text) → Text → Text × Option Text
 around_point (Some parts) text = (parts.0, Some parts.1)
 around_point None text = (text, None)

@@ -1,4 +1,4 @@
--- Where in a text an error is.
+-- The places of errors in a text.
 use Rattle.std.specs.Prelude.{◌≡◌, ℕ, List}
 use Rattle.yaml_base.specs.values.LinesAndColumns.{column_of, line_of}
 

@@ -1,4 +1,4 @@
--- The tags that texts have where they stand plain, whichever schema reads them: those of null, booleans, integers and floats.
+-- The tags of plain texts, whichever schema reads them: those of null, booleans, integers and floats.
 use Rattle.std.specs.Prelude.{◌≡◌, Bool, true, false, Option, None, Some, List, [], ◌∷◌, ◌++◌, ◌==◌, ◌||◌, ◌&&◌, bytes_eq, is_some, codes, option_map}
 use Rattle.std.specs.Prelude.{if◌then◌else◌}
 use Rattle.std.specs.List.{slice_split}
@@ -20,7 +20,7 @@ use Rattle.yaml_base.specs.values.SurelyText.{is_surely_text}
 use Rattle.yaml_base.specs.values.TypedValues.{int_tag}
 use Rattle.yaml_writer.specs.Writing.{float_tag}
 
--- what a word of both schemas means; the empty text, which can't stand plain everywhere, is none
+-- The meaning of a word of both schemas. The empty text, which can't be plain everywhere, is none.
 abbrev pub word_meant : Text → Option Resolved
 word_meant text = if is_empty text then None else named words_of_core text
 
@@ -43,7 +43,7 @@ is_pointed _ = false
 abbrev pub is_signed : Text → Bool
 is_signed text = first_meets is_plus_or_minus text && are_digits 10 (past_sign text)
 
--- the same of an exponent that was cut off, where there is one
+-- True if this exponent was cut off and is such, or none was.
 abbrev pub is_signed_exponent : Option JsonExponent → Bool
 is_signed_exponent None = true
 is_signed_exponent (Some exponent) = is_some exponent.sign && are_digits 10 exponent.digits
@@ -58,7 +58,7 @@ is_float_cut _ = false
 abbrev pub is_plain_integer : Text → Bool
 is_plain_integer text = are_integer_digits (past_sign text) || is_hexadecimal text
 
--- a float: a sign or none, such digits, and an exponent behind `e` or `E` or none
+-- A float: a sign or none, such digits, and an exponent after `e` or `E` or none.
 abbrev pub is_plain_float : Text → Bool
 is_plain_float text = is_float_cut (slice_split is_exponent_letter (past_sign text))
 
@@ -94,7 +94,7 @@ float_words = codes ".inf .Inf .INF +.inf +.Inf +.INF -.inf -.Inf -.INF .nan .Na
 
 -- ---- the law
 
--- a text is written plain wherever it stands outside canonical form, and whichever characters may stand as themselves
+-- A text is written plain at every place outside canonical form, whichever characters are written as themselves.
 abbrev pub IsWrittenPlain : Text → Type 0
 IsWrittenPlain text =
     (charset : Charset) (flow simple_key : Bool)
@@ -106,7 +106,7 @@ PlainTagsAreRead =
     (text tag : Text) → plain_tag text ≡ Some tag
     → IsWrittenPlain text × (canonical_tag (resolved_by_11 text) ≡ tag) × (canonical_tag (resolved_by_core text) ≡ tag)
 
--- there are no others: both schemas give a text the same tag, other than that of texts, only where it is the plain tag
+-- There are no others: if both schemas give a text the same tag, other than that of texts, it is the plain tag.
 abbrev pub PlainTagsAreAll : Type 0
 PlainTagsAreAll =
     (text tag : Text) → is_empty text ≡ false → bytes_eq tag string_tag ≡ false

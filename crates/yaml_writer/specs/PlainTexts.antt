@@ -9,8 +9,7 @@ use Rattle.yaml_base.specs.values.SchemaOf11.{resolved_by_11}
 use Rattle.yaml_base.specs.scalars.Style.{chosen}
 use Rattle.yaml_writer.specs.Writing.{style_asked}
 
--- wherever a text stands, whatever it allows, and whichever style was asked for: where it is written plain, it means a text by both
--- schemas
+-- If a text is written plain, it means a text by both schemas, at every place, whatever it allows and whichever style was asked for.
 abbrev pub PlainTextsAreTexts : Type 0
 PlainTextsAreTexts =
     (asked : ScalarStyle) (text : Text) (allowed : Allowances) (empty tag_written plain_implicit quoted_implicit flow simple_key canonical : Bool)

@@ -7,8 +7,8 @@ use Rattle.yaml_base.specs.values.SchemaCore.{resolved_by_core}
 use Rattle.yaml_base.specs.values.SchemaOf11.{resolved_by_11}
 use Rattle.yaml_base.specs.scalars.Style.{chosen}
 
--- wherever a number of JSON stands outside canonical form, and whichever characters may stand as themselves: with a tag that is
--- written or the flag for plain text it is written plain, and its text is exactly that number by both schemas
+-- A number of JSON is written plain at every place outside canonical form, whichever characters are written as themselves, if its tag is
+-- written or its flag for plain text is set; and its text is exactly that number by both schemas.
 abbrev pub WrittenNumbersAreRead : Type 0
 WrittenNumbersAreRead =
     (number : JsonNumber) (charset : Charset) (tag_written plain_implicit quoted_implicit flow simple_key : Bool)

@@ -1,4 +1,4 @@
--- What contracts see of a date: its parts.
+-- The view of a date in contracts: its parts.
 use Rattle.yaml_writer.specs.Dates.{CalendarDate, calendar_date}
 use Rattle.yaml_writer.specs.declared.dates.Date.{Date}
 

@@ -1,4 +1,4 @@
--- What contracts see of a number of JSON: its parts.
+-- The view of a number of JSON in contracts: its parts.
 use Rattle.std.specs.Prelude.{Bool, true, false, option_map}
 use Rattle.yaml_base.specs.values.JsonNumbers.{JsonNumber, JsonExponent}
 use Rattle.yaml_writer.specs.declared.numbers.Sign.{Sign}

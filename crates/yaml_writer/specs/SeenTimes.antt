@@ -1,4 +1,4 @@
--- What contracts see of a timestamp: its parts.
+-- The view of a timestamp in contracts: its parts.
 use Rattle.std.specs.Prelude.{ℕ, option_map}
 use Rattle.yaml_writer.specs.SeenDates.{seen_date}
 use Rattle.yaml_writer.specs.SeenNumbers.{is_minus}

@@ -13,12 +13,12 @@ pub record Spells (text spelling : Text) : Type 0 where
   pub is_number : IsNumber text number
   pub spelled : spelling ≡ yaml_number number
 
--- an exponent stands as it is spelled: with `e` and a sign
+-- True if an exponent is in its spelling: with `e` and a sign.
 abbrev pub is_spelled_exponent : Option JsonExponent → Bool
 is_spelled_exponent None = true
 is_spelled_exponent (Some exponent) = not exponent.capital && is_some exponent.sign
 
--- a number stands as it is spelled: an integer, or one with a point and such an exponent
+-- True if a number is in its spelling: an integer, or one with a point and such an exponent.
 abbrev pub is_spelled : JsonNumber → Bool
 is_spelled number = is_json_integer number || (is_some number.fraction && is_spelled_exponent number.exponent)
 

@@ -1,4 +1,4 @@
--- Times of day beside dates, how they are written, and what the type repository of YAML 1.1 reads (yaml.org/type/timestamp).
+-- Times of day with dates, how they are written, and how the type repository of YAML 1.1 reads them (yaml.org/type/timestamp).
 use Rattle.std.specs.Prelude.{◌≡◌, ℕ, Bool, false, true, ◌||◌, Option, None, Some, List, [], ◌∷◌, ◌++◌, ◌==◌, ◌&&◌, ◌*◌, ◌-◌, ◌/◌, ◌%◌, ◌^◌, nat_le}
 use Rattle.std.specs.Prelude.{codes, length, option_map, if◌then◌else◌}
 use Rattle.std.specs.List.{slice_split, take_while}
@@ -70,14 +70,14 @@ is_moment moment = is_calendar_date moment.date && is_time_or_none moment.time
 abbrev pub three_digits : ℕ → Text
 three_digits number = last_digit (number / 100) ∷ two_digits number
 
--- nanoseconds as decimals of a second: in thousandths, in millionths where that isn't all, and else in billionths
+-- Nanoseconds as decimals of a second: in thousandths if that is exact, else in millionths if that is, else in billionths.
 abbrev pub decimals : ℕ → Text
 decimals nanosecond =
     three_digits (nanosecond / 1000000)
     ++ (if nanosecond % 1000000 == 0 then []
     else three_digits (nanosecond / 1000 % 1000) ++ (if nanosecond % 1000 == 0 then [] else three_digits (nanosecond % 1000)))
 
--- a point and the decimals, where there are any
+-- A point and the decimals, if there are any.
 abbrev pub fraction_text : ℕ → Text
 fraction_text nanosecond = if nanosecond == 0 then [] else codes "." ++ decimals nanosecond
 
@@ -99,17 +99,17 @@ abbrev pub time_text : Option ClockTime → Text
 time_text None = []
 time_text (Some time) = codes "T" ++ clock_text time ++ zone_text time.offset
 
--- a date, and the time behind it
+-- A date, and the time after it.
 abbrev pub timestamp_text : Moment → Text
 timestamp_text moment = date_text moment.date ++ time_text moment.time
 
--- ---- what is read
+-- ---- reading
 
--- decimals of a second in nanoseconds, where they are at most nine
+-- Decimals of a second in nanoseconds, if they are at most nine.
 abbrev pub nanoseconds_in : Text → ℕ
 nanoseconds_in digits = digits_value 10 digits * 10 ^ (9 - length digits)
 
--- seconds and nanoseconds by what stands before and behind the point
+-- Seconds and nanoseconds by the texts before and after the point.
 abbrev pub seconds_of : List Text → Option (ℕ × ℕ)
 seconds_of (seconds ∷ []) = Some (digits_value 10 seconds, 0)
 seconds_of (seconds ∷ digits ∷ []) = Some (digits_value 10 seconds, nanoseconds_in digits)
@@ -133,12 +133,12 @@ time_of_parts hour minute (Some seconds) (Some offset) =
     Some (Some (clock_time (digits_value 10 hour) (digits_value 10 minute) seconds.0 seconds.1 offset))
 time_of_parts hour minute _ _ = None
 
--- a time by what stands between the colons
+-- A time by the texts between the colons.
 abbrev pub clock_of : List Text → Option (Option ClockOffset) → Option (Option ClockTime)
 clock_of (hour ∷ minute ∷ seconds ∷ []) offset = time_of_parts hour minute (seconds_of (slice_split is_point seconds)) offset
 clock_of _ offset = None
 
--- the time that stands behind a date and a letter or blanks; none where nothing does
+-- The time after a date and a letter or blanks; none if nothing follows.
 abbrev pub time_in : Text → Option (Option ClockTime)
 time_in [] = Some None
 time_in (c ∷ rest) =
@@ -159,8 +159,8 @@ TimestampsAreRead =
     (moment : Moment) → is_moment moment ≡ true
     → (resolved_by_11 (timestamp_text moment) ≡ meant_timestamp) × (moment_in (timestamp_text moment) ≡ Some moment)
 
--- in block, where a time of day holds `:`, a timestamp is written plain, too, whichever characters may stand as themselves: with a
--- tag that is written or the flag for plain text, and outside canonical form
+-- In blocks, in which a plain text may hold `:`, a timestamp is written plain outside canonical form, whichever characters are written as
+-- themselves, if its tag is written or its flag for plain text is set.
 abbrev pub WrittenTimestampsArePlain : Type 0
 WrittenTimestampsArePlain =
     (moment : Moment) (charset : Charset) (tag_written plain_implicit quoted_implicit simple_key : Bool)

@@ -50,7 +50,7 @@ moment_by date _ _ = None
 abbrev pub moment_of : Datetime → Option Moment
 moment_of datetime = option_and_then (λ date. moment_by date datetime.time datetime.offset) (option_and_then date_of datetime.date)
 
--- the event of a date or a time: a timestamp where YAML 1.1 has it, else a text, spelled as in TOML
+-- The event of a date or a time: a timestamp if YAML 1.1 has it, else a text, spelled as in TOML.
 abbrev pub moment_event : WriterState → Datetime → Option Moment → Event
 moment_event writer datetime (Some moment) = timestamp_event writer moment
 moment_event writer datetime None = text_event writer (chars (datetime_text datetime))

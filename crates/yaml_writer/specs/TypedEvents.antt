@@ -1,4 +1,4 @@
--- Events that keep their nodes' tags: a tag is left out only where both schemas give it to what is written without it.
+-- Events that keep their nodes' tags: a tag is left out only if both schemas give it to the node that is written without it.
 use Rattle.std.specs.Prelude.{◌≡◌, Bool, true, false, Option, None, Some, List, ◌&&◌, bytes_eq, is_some, map, not, option_map, unwrap_or, if◌then◌else◌}
 use Rattle.std.specs.List.{list_all}
 use Rattle.yaml_base.specs.Characters.{Text}
@@ -21,8 +21,8 @@ use Rattle.yaml_writer.specs.PlainTags.{implies_tag}
 
 -- ---- writing
 
--- a scalar whose value implies this tag or not: the tag is left out where it does, and of a text in quotes; what is no text stands
--- plain then
+-- A scalar whose value implies this tag or doesn't: the tag is left out if the value implies it, and of a text in quotes. A scalar without
+-- its tag that is no text is plain.
 abbrev pub typed_by : (is_text implied : Bool) → Scalar → Scalar
 typed_by is_text implied content =
     record content {
@@ -72,14 +72,14 @@ document_by schema document = record document { root = tree_by schema document.r
 
 -- ---- the law
 
--- an event says its node's tag: a scalar has one, and a collection's is left out only where it is that of its kind
+-- True if an event says its node's tag: a scalar has one, and a collection's is left out only if it is that of its kind.
 abbrev pub says_tag : Event → Bool
 says_tag (scalar content) = is_some content.tag
 says_tag (sequence_start start) = is_same_text (Some (unwrap_or (collection_tag false start) sequence_tag)) start.tag
 says_tag (mapping_start start) = is_same_text (Some (unwrap_or (collection_tag false start) mapping_tag)) start.tag
 says_tag event = true
 
--- what is read of the bytes of events that were typed has all tags of the events, where each says one
+-- If each event says its tag, the tree that is read of the bytes of the typed events has all these tags.
 abbrev pub ReadsTags : Schema → Type 0
 ReadsTags schema =
     (given : Settings) (encoding : Option Encoding) (stream : Stream) (typed : List Event) → map typed_event (stream_events stream) ≡ typed

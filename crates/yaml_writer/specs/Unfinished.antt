@@ -23,7 +23,7 @@ pub record RefusesOne (canonical : Bool) (all : List Event) (error : yaml_error_
   pub begins : IsAcceptedPrefix canonical prefix
   pub refusal : refusal canonical prefix event ≡ Some error
 
--- a document is open, and its root, or what comes next in its innermost collection, is missing
+-- True if a document is open, and its root, or the next node of its innermost collection, is missing.
 abbrev pub awaits_more : Option Partial → Bool
 awaits_more (Some (within_document encoding before start levels)) = true
 awaits_more _ = false
@@ -37,14 +37,14 @@ pub record MissesNode (all : List Event) : Type 0 where
   pub awaits : awaits_more (partial_of prefix) ≡ true
   pub none : partial_of (prefix ++ event ∷ []) ≡ None
 
--- the events are no stream: one of them is refused with this error; a node is missing where the error says so
+-- The events are no stream: one of them is refused with this error. If the error says that a node is missing, one is.
 pub record IsNoStream (canonical : Bool) (all : List Event) (error : yaml_error_t) : Type 0 where
   pub unaccepted : IsAccepted canonical all → ⊥
   pub named : RefusesOne canonical all error
   pub missing : error ≡ ExpectedNode → MissesNode all
 
--- the bytes of the events pass the limit: already those of the first of them, in a stream that begins so; and where all are a
--- stream, its bytes do
+-- The bytes of the events pass the limit: already those of the first of them, in a stream that begins so; and if all are a stream, its
+-- bytes do.
 pub record PassesLimit (given : Settings) (all : List Event) : Type 0 where
   pub prefix : List Event
   pub later : List Event
@@ -56,22 +56,22 @@ pub record PassesLimit (given : Settings) (all : List Event) : Type 0 where
       given.limit < length (bytes_written s (take (length prefix) (list_layout s (prefix ++ more))))
   pub whole : IsAccepted given.canonical all → IsUncut given all → ⊥
 
--- the stream of an emitter couldn't be finished with this error, by an end that is written or isn't: its first error stays; the
--- limit gave out only where the bytes pass it; an error of events comes only where they are no stream
+-- The stream of an emitter can't be finished, for this error, by an end that is written or isn't: the emitter's first error stays; the
+-- limit is exceeded only if the bytes pass it; an error of events comes only if they are no stream.
 pub record IsUnfinishedBy (implicit : Bool) (emitter : State) (error : yaml_error_t) : Type 0 where
   pub first : (earlier : yaml_error_t) → emitter.error ≡ Some earlier → error ≡ earlier
   pub full : error ≡ WriteError → (given : Settings) (all : List Event) → StandsAfter given all emitter → PassesLimit given (all ++ closing_by implicit)
   pub refused : IsRefusal error → (given : Settings) (all : List Event) → StandsAfter given all emitter
       → IsNoStream given.canonical (all ++ closing_by implicit) error
 
--- and so where the document's end isn't written
+-- The same with an end of the document that isn't written.
 abbrev pub IsUnfinished : State → yaml_error_t → Type 0
 IsUnfinished = IsUnfinishedBy true
 
 -- ---- why a value has no stream
 
--- an allocation failed; the limit gave out, of which this is said; or more levels are allowed than may be open, and the value has more, of
--- which this is said
+-- An allocation failed; or the limit is exceeded, of which this holds; or more levels are allowed than may be open, the value has more, and
+-- of it that holds.
 abbrev pub FailsBy : (depth : ℕ) → (over_limit deeper : Type 0) → yaml_error_t → Type 0
 FailsBy depth over_limit deeper error =
     (error ≡ Memory) ⊎ (((error ≡ WriteError) × over_limit) ⊎ ((error ≡ TooDeep) × ((most_open < depth) × deeper)))

@@ -1,4 +1,4 @@
--- What the calls of a writer give to its emitter.
+-- The events that the calls of a writer give to its emitter.
 use Rattle.std.specs.Prelude.{◌≡◌, ◌⊎◌, ℕ, ℤ, Bool, true, false, Option, None, Some, Result}
 use Rattle.std.specs.Prelude.{Ok, Err, List, [], ◌∷◌, ◌++◌, ◌||◌, codes, is_none, is_some, length}
 use Rattle.std.specs.Prelude.{if◌then◌else◌}
@@ -48,7 +48,7 @@ writer_over emitter = record { emitter = emitter; canonical = emitter.given.cano
 abbrev pub plain_start : Event
 plain_start = document_start (record { version = None; directives = []; implicit = true })
 
--- what a new writer has given
+-- The events that a new writer has given.
 abbrev pub opening : List Event
 opening = stream_start None ∷ plain_start ∷ []
 
@@ -57,26 +57,26 @@ abbrev pub is_implicit : DocumentEnd → Bool
 is_implicit Implicit = true
 is_implicit Explicit = false
 
--- what ends a stream within a document, by an end that is written or isn't
+-- The events that end a stream within a document, by an end that is written or isn't.
 abbrev pub closing_by : (implicit : Bool) → List Event
 closing_by implicit = document_end implicit ∷ stream_end ∷ []
 
--- what ends a stream within a document
+-- The events that end a stream within a document.
 abbrev pub closing : List Event
 closing = closing_by true
 
--- a tag that was given, else this one in canonical form, where each scalar stands in quotes
+-- A tag that was given, else this one in canonical form, in which each scalar is in quotes.
 abbrev pub tag_or_default : Option Text → Bool → Text → Option Text
 tag_or_default (Some tag) canonical own = Some tag
 tag_or_default None canonical own = if canonical then Some own else None
 
--- a scalar with the anchor of the next node; a tag is written where there is one
+-- A scalar with the anchor of the next node; a tag is written if there is one.
 abbrev pub scalar_event : WriterState → Option Text → Text → ScalarStyle → Event
 scalar_event writer tag value style =
     scalar
     (record { anchor = writer.anchor; tag = tag; value = value; plain_implicit = is_none tag; quoted_implicit = is_none tag; style = style })
 
--- a word that stands plain, with its type's tag in canonical form
+-- A plain word, with its type's tag in canonical form.
 abbrev pub word_event : WriterState → Text → Text → Event
 word_event writer own word = scalar_event writer (tag_or_default writer.tag writer.canonical own) word plain
 
@@ -108,16 +108,16 @@ number_event writer number = word_event writer (number_tag number) (yaml_number 
 abbrev pub timestamp_tag : Text
 timestamp_tag = codes "tag:yaml.org,2002:timestamp"
 
--- a timestamp; one with a time of day has its tag everywhere, since a `:` keeps it from standing plain in flow
+-- A timestamp. One with a time of day has its tag everywhere, since a `:` keeps it from being plain in flow.
 abbrev pub timestamp_event : WriterState → Moment → Event
 timestamp_event writer moment =
     scalar_event writer (tag_or_default writer.tag (writer.canonical || is_some moment.time) timestamp_tag) (timestamp_text moment) plain
 
--- a text of several lines stands literally, where it may; any other stands plain only where it is surely read as a text
+-- A text of several lines is literal; any other is plain only if it is surely read as a text.
 abbrev pub text_style : Text → ScalarStyle
 text_style text = if list_any is_break text then literal else (if is_surely_text text then any_style else single_quoted)
 
--- the style that is asked for, where any is the writer's own; plain only for what is surely read as a text, else single quotes
+-- The style that is asked for, of which any is the writer's own; plain only for a text that is surely read as one, else single quotes.
 abbrev pub style_asked : ScalarStyle → Text → ScalarStyle
 style_asked any_style text = text_style text
 style_asked plain text = if is_surely_text text then plain else single_quoted
@@ -131,7 +131,7 @@ styled_event writer asked text = scalar_event writer writer.tag text (style_aske
 abbrev pub text_event : WriterState → Text → Event
 text_event writer text = styled_event writer any_style text
 
--- the start of a collection with the properties of the next node; its tag is written where there is one
+-- The start of a collection with the properties of the next node; its tag is written if there is one.
 abbrev pub next_collection : WriterState → CollectionStyle → Collection
 next_collection writer style = record { anchor = writer.anchor; tag = writer.tag; implicit = is_none writer.tag; style = style }
 
@@ -171,7 +171,7 @@ awaits_node writer = is_some writer.anchor || is_some writer.tag
 abbrev pub NodeExpected : WriterState → Result (Unit {0}) yaml_error_t → WriterState → Type 0
 NodeExpected before answer after = (answer ≡ Err ExpectedNode) × (after ≡ before)
 
--- the emitter stands after these events, and its caller has taken these bytes, with which the output begins
+-- The emitter was given these events, and its caller has taken these bytes, with which the output begins.
 pub record StandsTaken (given : Settings) (all : List Event) (sent : List ℕ) (emitter : State) : Type 0 where
   pub stands : StandsAfter given all emitter
   pub taken : emitter.page.taken ≡ length sent
@@ -181,7 +181,7 @@ pub record StandsTaken (given : Settings) (all : List Event) (sent : List ℕ) (
 abbrev pub AddsEvents : State → List Event → State → Type 0
 AddsEvents before events after = Moves before events (result_of_error after.error) after
 
--- wherever the emitter stood, it stands there still, and these bytes are taken more
+-- The emitter is where it was, and after the bytes that were taken before, these were taken.
 abbrev pub TakesBytes : State → List ℕ → State → Type 0
 TakesBytes before bytes after =
     (given : Settings) (all : List Event) (sent : List ℕ) → StandsTaken given all sent before → StandsTaken given all (sent ++ bytes) after
@@ -234,11 +234,11 @@ pub record IsStream (given : Settings) (all : List Event) (bytes : List ℕ) : T
   pub written : IsWritten given all state
   pub output : bytes ≡ state.page.output
 
--- wherever the emitter stood, what was taken and then these bytes are the output of its events and the stream's end
+-- The bytes that were taken, and then these, are the output of the emitter's events and the stream's end.
 abbrev pub FinishesBy : (implicit : Bool) → State → List ℕ → Type 0
 FinishesBy implicit emitter bytes =
     (given : Settings) (all : List Event) (sent : List ℕ) → StandsTaken given all sent emitter → IsStream given (all ++ closing_by implicit) (sent ++ bytes)
 
--- and so where the end isn't written
+-- The same with an end that isn't written.
 abbrev pub Finishes : State → List ℕ → Type 0
 Finishes = FinishesBy true

@@ -10,8 +10,8 @@ use std::alloc::Allocator;
 use yaml_base::yaml_error_t;
 
 impl<A: Allocator + Copy> Writer<A> {
-    /// Writes bytes as `!!binary`: their base64 by the standard alphabet, with padding. A tag that was given stands in place of
-    /// that one.
+    /// Writes bytes as `!!binary`: their base64 by the standard alphabet, with padding. A tag that was given takes the
+    /// place of that one.
     ///
     /// # Errors
     /// Those of the emitter, and `Memory`.

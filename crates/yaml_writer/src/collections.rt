@@ -58,8 +58,8 @@ impl<A: Allocator + Copy> Writer<A> {
     /// Ends the innermost collection that is open.
     ///
     /// # Errors
-    /// `ExpectedNode` where an anchor or a tag awaits its node, and else `ExpectedDocumentEnd` where no collection is open;
-    /// nothing changes then. `ExpectedNode` where a key of a mapping has no value, and the other errors of the emitter.
+    /// `ExpectedNode` if an anchor or a tag awaits its node, and else `ExpectedDocumentEnd` if no collection is open; nothing
+    /// changes then. `ExpectedNode` if a key of a mapping has no value, and the other errors of the emitter.
     pub fn end(&mut self) -> Result<(), yaml_error_t>
         ensures awaited { awaits_node self.old ≡ true → NodeExpected self.old result self.new }
         ensures ended { awaits_node self.old ≡ false → EndsInnermost self.old result self.new }
@@ -85,7 +85,7 @@ impl<A: Allocator + Copy> Writer<A> {
         }
     }
 
-    /// Gives the start of a collection to the emitter, with the properties of the next node; where it has no tag, none need be
+    /// Gives the start of a collection to the emitter, with the properties of the next node. If it has no tag, none need be
     /// written.
     fn start(&mut self, start: CollectionStart) -> Result<(), yaml_error_t>
         ensures { GaveEvent self.old (collection_start_event self.old start) result self.new }

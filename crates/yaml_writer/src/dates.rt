@@ -52,7 +52,7 @@ impl Date {
     ghost use Rattle.std.specs.Prelude.{IfOk, MatchOption, string_bytes};
     ghost use Rattle.yaml_writer.specs.SeenDates.{seen_date};
 
-    /// Returns the date of these parts; `None` where the calendar has no such day, or the year isn't one of 1 to 9999.
+    /// Returns the date of these parts; `None` if the calendar has no such day, or the year isn't one of 1 to 9999.
     pub fn new(year: u16, month: u8, day: u8) -> Option<Date>
         ensures { MatchOption result (is_calendar_date (calendar_date year month day) ≡ false)
             (λ date. seen_date date ≡ calendar_date year month day) }

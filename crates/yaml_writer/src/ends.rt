@@ -5,7 +5,7 @@ ghost use Rattle.yaml_writer.specs.Writing as writing;
 /// The way in which the end of a document is written.
 #[derive(Clone, Copy, PartialEq, Eq, Debug)]
 pub enum DocumentEnd {
-    /// Not at all: what follows tells it, another document or the end of the stream.
+    /// Not at all: the next document or the end of the stream tells it.
     Implicit,
     /// As `...`, so that a reader knows it before anything follows.
     Explicit,

@@ -40,7 +40,7 @@ pub(crate) fn give<A: Allocator + Copy>(
     yaml_emitter_emit(emitter, event)
 }
 
-/// Returns a scalar, its texts borrowed: its anchor, a tag that was given or else its own, its value. Where it has no tag, none
+/// Returns a scalar, its texts borrowed: its anchor, a tag that was given or else its own, its value. If it has no tag, none
 /// need be written.
 pub(crate) fn scalar_content<'a, A: Allocator>(
     anchor: &'a Option<String<A>>,
@@ -96,7 +96,7 @@ pub(crate) fn end_stream<A: Allocator + Copy>(
     let _ = yaml_emitter_emit(emitter, YAML_DOCUMENT_END_EVENT { implicit });
     yaml_emitter_emit(emitter, YAML_STREAM_END_EVENT)?;
     if emitter.held() > 0 {
-        // The start of a mapping waits. One event more decides what is refused: it, or the document's end after it.
+        // The start of a mapping waits. One event more decides which is refused: that event, or the document's end after it.
         return yaml_emitter_emit(emitter, YAML_STREAM_END_EVENT);
     }
     Ok(())

@@ -5,14 +5,14 @@ ghost use Rattle.yaml_writer.specs.Headings as heading;
 use std::alloc::{AllocError, Allocator};
 use yaml_base::{is_break, is_printable};
 
-/// The place in a line where a character of a comment stands.
+/// The place in a line at which a character of a comment is written.
 #[derive(Clone, Copy)]
 enum LineSpot {
     Start,
     Within,
 }
 
-/// Returns a character of a comment; a space stands for what a line can't hold.
+/// Returns a character of a comment: a space in place of a character that a line can't hold.
 fn in_comment(character: char) -> char
     ensures { result ≡ heading.in_comment character }
 {
@@ -23,7 +23,7 @@ fn in_comment(character: char) -> char
     }
 }
 
-/// Appends a character of a comment, and what stands before it.
+/// Appends a character of a comment, and before it the start of a line if the character is the first there.
 fn push_commented<A: Allocator>(
     lines: &mut String<A>,
     spot: LineSpot,
@@ -50,11 +50,11 @@ fn push_end<A: Allocator>(lines: &mut String<A>, spot: LineSpot) -> Result<(), A
     }
 }
 
-/// Returns a text as lines of comments: each line of it behind `# `, an empty one as `#`. LF ends a line; for another line break and
-/// for what isn't printable stands a space. In UTF-8 they may stand before a stream: readers of YAML pass over them.
+/// Returns a text as lines of comments: `# ` and then the line, or `#` alone for an empty line. LF ends a line. Any other line break and
+/// any character that isn't printable becomes a space. In UTF-8 the lines may precede a stream: readers of YAML pass over them.
 ///
 /// # Errors
-/// Where an allocation fails.
+/// `AllocError` if an allocation fails.
 pub fn comment_lines<A: Allocator>(alloc: A, text: &str) -> Result<String<A>, AllocError>
     ensures { IfOk result (λ lines. string_bytes lines ≡ encode_utf8_all (heading.comment_lines (chars text.now))) }
 {

@@ -20,7 +20,7 @@ pub fn numbers_are_read()
     ensures { NumbersAreRead }
 {}
 
-/// States that a text in the style that a writer gives it, whichever was asked for, is written plain only where both schemas read
+/// States that a text in the style that a writer gives it, whichever was asked for, is written plain only if both schemas read
 /// it as a text.
 pub fn plain_texts_are_texts()
     ensures { PlainTextsAreTexts }
@@ -65,19 +65,19 @@ pub fn plain_tags_are_read()
 {}
 
 /// States that there are no other plain tags: a text to which both schemas give the same tag, other than that of texts, has it as its
-/// plain tag. The empty text is none of them: both read null, but it can't stand plain everywhere.
+/// plain tag. The empty text has none: both read null, but it can't be plain everywhere.
 pub fn plain_tags_are_all()
     ensures { PlainTagsAreAll }
 {}
 
-/// States that what is read of a stream of typed events has the tags of these events, whichever schema gives tags to what is read
-/// without one. So it is of each stream whose scalars have tags, and whose collections' tags are left out only where they are those
+/// States that the nodes that are read of a stream of typed events have the tags of these events, whichever schema gives tags to nodes
+/// without one. This holds for each stream whose scalars have tags, and whose collections' tags are left out only if they are the tags
 /// of their kinds.
 pub fn typed_events_are_read()
     ensures { TypedEventsAreRead }
 {}
 
-/// States that a text behind lines of comments is read as the text alone, and so are its bytes in UTF-8.
+/// States that a text after lines of comments is read as the text alone, and so are its bytes in UTF-8.
 pub fn headings_are_passed_over()
     ensures { HeadingsArePassedOver }
 {}

@@ -1,4 +1,4 @@
-//! Values, written as YAML, each by one call; which texts may stand plain, and how numbers are spelled.
+//! Values, written as YAML, each by one call; which texts may be plain, and how numbers are spelled.
 #![tactic(auto)]
 
 mod binary;

@@ -24,7 +24,7 @@ pub enum ExponentLetter {
     Capital,
 }
 
-/// An exponent, by what stands in it.
+/// An exponent, by its parts.
 #[derive(Clone, Copy)]
 pub struct Exponent<'a> {
     pub letter: ExponentLetter,
@@ -32,7 +32,7 @@ pub struct Exponent<'a> {
     pub digits: &'a str,
 }
 
-/// The parts of a text, which is a number where digits stand in each.
+/// The parts of a text, which is a number if each part has its digits.
 #[derive(Clone, Copy)]
 pub struct Parts<'a> {
     /// Whether it begins with `-`.
@@ -43,7 +43,7 @@ pub struct Parts<'a> {
     pub exponent: Option<Exponent<'a>>,
 }
 
-/// Returns how many bytes stand before the first that is a sign. A number is short, so they are looked at one by one.
+/// Returns the number of bytes before the first that is a sign. A number is short, so they are looked at one by one.
 fn length_before(sign: u8, text: &str) -> usize
     ensures value { result ≡ prefix_len (λ c. not (c == sign)) text.now }
     ensures few { result ≤ length text.now }
@@ -54,7 +54,7 @@ fn length_before(sign: u8, text: &str) -> usize
         .count()
 }
 
-/// Returns what stands before and after the first of a sign.
+/// Returns the texts before and after the first of a sign.
 pub(crate) fn cut_at(sign: u8, text: &str) -> Option<(&str, &str)>
     requires { sign < 128 }
     ensures { MatchOption result (parts.cut_at_first sign text.now ≡ None) (λ cut. parts.cut_at_first sign text.now ≡ Some (cut.0.now, cut.1.now)) }
@@ -86,7 +86,7 @@ pub(crate) fn sign_cut(text: &str) -> (Option<Sign>, &str)
     }
 }
 
-/// Returns an exponent, by its letter and what follows it.
+/// Returns an exponent, by its letter and the text after it.
 fn exponent_in(letter: ExponentLetter, text: &str) -> Exponent<'_>
     ensures { seen_exponent result ≡ parts.exponent_in (is_capital letter) text.now }
 {
@@ -222,7 +222,7 @@ impl<'a> Number<'a> {
     }
 }
 
-/// Returns the number that a text is; `None` where the text is no number of JSON. Needs no memory.
+/// Returns the number that a text is; `None` if the text is no number of JSON. Needs no memory.
 pub fn number_of(text: &str) -> Option<Number<'_>>
     ensures characters { MatchOption result (parts.IsNoNumber (chars text.now)) (λ number. parts.IsNumber (chars text.now) number) }
     ensures bytes { MatchOption result (parts.IsNoNumber text.now) (λ number. parts.IsNumber text.now number) }

@@ -1,4 +1,4 @@
-//! Numbers that both schemas read from a text which stands plain.
+//! Numbers that both schemas read from a plain text.
 ghost use Rattle.std.specs.Prelude.{◌≡◌, ◌++◌, chars, option_map};
 ghost use Rattle.std.specs.Char.{is_digit};
 ghost use Rattle.std.specs.List.{list_all, slice_split};
@@ -65,7 +65,7 @@ fn is_integer(text: &str) -> bool
     are_integer_digits(digits) || is_hexadecimal(text)
 }
 
-/// Returns whether what stands before and after a point is digits, one or more in all.
+/// Returns whether the texts before and after a point are digits, one or more in all.
 fn are_digits_together(whole: &str, fraction: &str) -> bool
     ensures { result ≡ schema.are_digits 10 (whole.now ++ fraction.now) }
 {
@@ -85,7 +85,7 @@ fn is_pointed(text: &str) -> bool
     }
 }
 
-/// Returns whether an exponent has a sign and digits, where there is one.
+/// Returns whether an exponent has a sign and digits, if there is an exponent.
 fn is_signed(exponent: Option<Exponent<'_>>) -> bool
     ensures { result ≡ plain.is_signed_exponent (option_map seen_exponent exponent.entry) }
 {

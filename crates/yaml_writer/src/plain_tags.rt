@@ -1,4 +1,4 @@
-//! The tags that texts have where they stand plain, whichever schema reads them.
+//! The tags of plain texts, whichever schema reads them.
 ghost use Rattle.std.specs.Prelude.{◌≡◌, bytes_eq, chars, option_map};
 ghost use Rattle.std.specs.List.{list_any};
 ghost use Rattle.yaml_base.specs.Words as tables;
@@ -14,7 +14,7 @@ const NULL_WORDS: &[&str] = &["~", "null", "Null", "NULL"];
 
 const BOOL_WORDS: &[&str] = &["true", "True", "TRUE", "false", "False", "FALSE"];
 
-/// Infinity and what is no number.
+/// Infinity and NaN.
 #[rattlefmt::skip]
 const FLOAT_WORDS: &[&str] = &[
     ".inf", ".Inf", ".INF", "+.inf", "+.Inf", "+.INF", "-.inf", "-.Inf", "-.INF", ".nan", ".NaN", ".NAN",
@@ -43,9 +43,9 @@ fn tag_of_word(text: &str) -> Option<&'static str>
     None
 }
 
-/// Returns the tag that both schemas, the type repository of YAML 1.1 and the core schema of YAML 1.2, give a text which stands
-/// plain: that of null, booleans, integers or floats. It is `None` for texts, for what the two read apart: `1e5`, `0b1`, `1_000`,
-/// `08`, and for the empty text, a null by both, which can't stand plain everywhere. Needs no memory.
+/// Returns the tag that both schemas, the type repository of YAML 1.1 and the core schema of YAML 1.2, give a plain text:
+/// that of null, booleans, integers or floats. It is `None` for texts, for plain texts that the two read differently (`1e5`, `0b1`,
+/// `1_000`, `08`), and for the empty text, a null by both, which can't be plain everywhere. Needs no memory.
 pub fn plain_tag(text: &str) -> Option<&'static str>
     ensures { option_map (λ tag. chars tag.now) result ≡ plain.plain_tag (chars text.now) }
 {
@@ -69,7 +69,7 @@ fn are_same(a: &str, b: &str) -> bool
     a == b
 }
 
-/// Returns whether a text that stands plain has a tag by both schemas. It has that of texts where it is surely one.
+/// Returns whether a plain text has a tag by both schemas. It has that of texts if it is surely one.
 pub(crate) fn implies_tag(text: &str, tag: &str) -> bool
     ensures { result ≡ plain.implies_tag (chars text.now) (chars tag.now) }
 {

@@ -12,7 +12,7 @@ use yaml_base::{YAML_ALIAS_EVENT, YAML_DOCUMENT_END_EVENT, yaml_error_t};
 use yaml_emitter::copied_text;
 
 impl<A: Allocator + Copy> Writer<A> {
-    /// Names the next node, so that aliases may stand for it.
+    /// Names the next node, so that aliases can repeat it.
     ///
     /// # Errors
     /// `Memory`; nothing changes then. A name that can't be written is refused with its node.
@@ -46,10 +46,10 @@ impl<A: Allocator + Copy> Writer<A> {
         }
     }
 
-    /// Writes an alias, which stands for the node of this name.
+    /// Writes an alias, which repeats the node of this name.
     ///
     /// # Errors
-    /// `ExpectedNode` where an anchor or a tag awaits its node, since an alias has neither; nothing changes then. Those of the
+    /// `ExpectedNode` if an anchor or a tag awaits its node, since an alias has neither; nothing changes then. Those of the
     /// emitter, and `Memory`.
     pub fn alias(&mut self, name: &str) -> Result<(), yaml_error_t>
         ensures awaited { awaits_node self.old ≡ true → NodeExpected self.old result self.new }
@@ -68,8 +68,8 @@ impl<A: Allocator + Copy> Writer<A> {
     /// Ends the document, and begins another.
     ///
     /// # Errors
-    /// `ExpectedNode` where an anchor or a tag awaits its node; nothing changes then. `ExpectedNode` where the document has no
-    /// root or a collection is open, and the other errors of the emitter.
+    /// `ExpectedNode` if an anchor or a tag awaits its node; nothing changes then. `ExpectedNode` if the document has no root or a
+    /// collection is open, and the other errors of the emitter.
     pub fn next_document(&mut self) -> Result<(), yaml_error_t>
         ensures awaited { awaits_node self.old ≡ true → NodeExpected self.old result self.new }
         ensures passed { awaits_node self.old ≡ false → PassedEvents self.old (event.document_end true ∷ writing.plain_start ∷ []) result self.new }
@@ -77,7 +77,7 @@ impl<A: Allocator + Copy> Writer<A> {
         self.next_document_after(DocumentEnd::Implicit)
     }
 
-    /// Ends the document, where asked by `...`, and begins another.
+    /// Ends the document, by `...` if asked, and begins another.
     ///
     /// # Errors
     /// Those of `next_document`.

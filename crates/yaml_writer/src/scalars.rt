@@ -17,7 +17,7 @@ use yaml_base::{
 };
 use yaml_emitter::holds_break;
 
-/// Returns the tag of a scalar's type, where one is written.
+/// Returns the tag of a scalar's type, if one is written.
 pub(crate) fn own_tag(is_written: bool, tag: &str) -> Option<&str>
     ensures { seen_name result ≡ tag_or_default None is_written (chars tag.now) }
 {
@@ -35,7 +35,7 @@ pub(crate) fn tag_of_number(number: &Number<'_>) -> &'static str
     }
 }
 
-/// Returns how a text is to stand.
+/// Returns the style of a text.
 pub(crate) fn style_of(text: &str) -> yaml_scalar_style_t
     ensures { seen_scalar_style result ≡ text_style (chars text.now) }
 {
@@ -90,7 +90,7 @@ impl<A: Allocator + Copy> Writer<A> {
         self.word(YAML_INT_TAG, itoa::Buffer::new().format(value))
     }
 
-    /// Writes a number of JSON, in the spelling that both schemas read as exactly that number: an integer as it stands, any
+    /// Writes a number of JSON, in the spelling that both schemas read as exactly that number: an integer unchanged, any
     /// other with a point and with a sign in its exponent.
     ///
     /// # Errors
@@ -109,7 +109,7 @@ impl<A: Allocator + Copy> Writer<A> {
         self.respelled_number(number)
     }
 
-    /// Does what `number` does where the spelling may be another text.
+    /// Does the same as `number` if the spelling may be another text.
     fn respelled_number(&mut self, number: &Number<'_>) -> Result<(), yaml_error_t>
         ensures { Gives self.old (number_event self.old number.now) result self.new }
     {
@@ -119,8 +119,8 @@ impl<A: Allocator + Copy> Writer<A> {
         }
     }
 
-    /// Writes a text, which no reader takes for another value: where it holds a line break, it stands literally, else plain
-    /// or in quotes. In portable mode a root that begins with a blank or a line break stands in quotes, too.
+    /// Writes a text, which no reader takes for another value. A text with a line break is literal, any other plain or in
+    /// quotes. In portable mode a root that begins with a blank or a line break is in quotes, too.
     ///
     /// # Errors
     /// Those of the emitter, and `Memory`.
@@ -130,10 +130,10 @@ impl<A: Allocator + Copy> Writer<A> {
         self.text_styled(YAML_ANY_SCALAR_STYLE, value)
     }
 
-    /// Writes a text in a style, which no reader takes for another value. A plain text that a reader could take for another
-    /// value, or that can't be plain, stands in quotes. A literal or folded one stands in double quotes as a key, in flow,
-    /// and in portable mode as a root that begins with a blank or a line break. What single quotes can't hold stands in double
-    /// quotes. ANY is the style of `text`.
+    /// Writes a text in a style, which no reader takes for another value. If plain was asked for, and a reader could take the
+    /// text for another value, or the text can't be plain, it is written in quotes. A literal or folded text is written in
+    /// double quotes as a key, in flow, and in portable mode as a root that begins with a blank or a line break. A text that
+    /// single quotes can't hold is written in double quotes. ANY is the style of `text`.
     ///
     /// # Errors
     /// Those of the emitter, and `Memory`.

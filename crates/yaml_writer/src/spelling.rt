@@ -115,7 +115,7 @@ impl<'a> Number<'a> {
     }
 
     /// Returns its spelling, which the type repository of YAML 1.1 and the core schema of YAML 1.2 read as exactly this
-    /// number: a float has a point and a sign in its exponent. Memory is needed only where the spelling is another text.
+    /// number: a float has a point and a sign in its exponent. Memory is needed only if the spelling is another text.
     ///
     /// # Errors
     /// `AllocError` if an allocation fails.
@@ -131,7 +131,7 @@ impl<'a> Number<'a> {
     }
 }
 
-/// Returns the spelling of the number of JSON that a text is; `None` where the text is no number of JSON.
+/// Returns the spelling of the number of JSON that a text is; `None` if the text is no number of JSON.
 ///
 /// # Errors
 /// `AllocError` if an allocation fails. A text that is its own spelling needs no memory.

@@ -24,7 +24,7 @@ fn head(text: &[u8]) -> &[u8]
     }
 }
 
-/// Returns how many bytes stand before the first that isn't ASCII.
+/// Returns the number of bytes before the first that isn't ASCII.
 fn ascii_length(text: &[u8]) -> usize
     ensures value { result ≡ prefix_len is_ascii text.now }
     ensures few { result ≤ length text.now }
@@ -87,7 +87,7 @@ fn is_reserved(text: &[u8]) -> bool
     }
 }
 
-/// Returns how many signs and underscores stand first.
+/// Returns the number of signs and underscores at the front of a text.
 fn sign_count(text: &[u8]) -> usize
     ensures value { result ≡ prefix_len surely.precedes_number text.now }
     ensures few { result ≤ length text.now }

@@ -4,7 +4,7 @@ ghost use Rattle.yaml_writer.specs.Times as times;
 
 use crate::numbers::Sign;
 
-/// The offset of a clock from that of UTC: less than a day. A plus is east of it, where a clock shows a later time.
+/// The offset of a clock from that of UTC: less than a day. A plus is east of UTC: a clock there shows a later time.
 #[derive(Clone, Copy, PartialEq, Eq, Debug)]
 pub struct Offset {
     pub sign: Sign,
@@ -17,7 +17,7 @@ impl Offset {
     ghost use Rattle.std.specs.Prelude.{MatchOption, false};
     ghost use Rattle.yaml_writer.specs.SeenTimes.{clock_offset, seen_offset};
 
-    /// Returns the offset of these parts; `None` where the hours pass 23 or the minutes 59.
+    /// Returns the offset of these parts; `None` if the hours pass 23 or the minutes 59.
     pub fn new(sign: Sign, hours: u8, minutes: u8) -> Option<Offset>
         ensures { MatchOption result (times.is_clock_offset hours minutes ≡ false) (λ offset. seen_offset offset ≡ clock_offset sign hours minutes) }
     {
@@ -49,7 +49,7 @@ impl Time {
     ghost use Rattle.std.specs.Prelude.{MatchOption, false, option_map};
     ghost use Rattle.yaml_writer.specs.SeenTimes.{seen_offset, seen_time};
 
-    /// Returns the time of these parts; `None` where the hour passes 23, the minute or the second 59, or the nanosecond
+    /// Returns the time of these parts; `None` if the hour passes 23, the minute or the second 59, or the nanosecond
     /// 999,999,999.
     pub fn new(
         hour: u8,

@@ -22,7 +22,7 @@ pub struct Timestamp {
     pub time: Option<Time>,
 }
 
-/// Appends a point and nanoseconds as decimals of a second, where there are any.
+/// Appends a point and nanoseconds as decimals of a second, if there are any.
 fn push_fraction<A: Allocator>(text: &mut String<A>, nanosecond: u32) -> Result<(), AllocError>
     ensures { IfOk result (λ _. string_bytes text.new ≡ string_bytes text.old ++ times.fraction_text nanosecond) }
 {
@@ -98,7 +98,7 @@ impl Timestamp {
 
 // (No method of `Writer`: each crate that names a writer would take in `jiff`, from which a date can be made.)
 /// Gives a writer a timestamp of YAML 1.1, in its `text`: a date plain, and one with a time of day with the tag
-/// `tag:yaml.org,2002:timestamp`, as in flow its `:` keeps it from standing plain.
+/// `tag:yaml.org,2002:timestamp`, as in flow its `:` keeps it from being plain.
 ///
 /// # Errors
 /// Those of the emitter, and `Memory`.

@@ -64,7 +64,7 @@ impl TryFrom<toml_datetime::Date> for Date {
     /// Returns the same date.
     ///
     /// # Errors
-    /// `NoTimestamp` where the calendar has no such day, or the year isn't one of 1 to 9999.
+    /// `NoTimestamp` if the calendar has no such day, or the year isn't one of 1 to 9999.
     fn try_from(date: toml_datetime::Date) -> Result<Date, NoTimestamp> {
         date_of(date).ok_or(NoTimestamp)
     }
@@ -83,7 +83,7 @@ impl TryFrom<Datetime> for Timestamp {
     /// Returns the same date, or the same date and time with its offset.
     ///
     /// # Errors
-    /// `NoTimestamp` for a time that has no offset or no date, and for what YAML 1.1 has no timestamp of: the year 0, and a second 60.
+    /// `NoTimestamp` for a time that has no offset or no date, for the year 0, and for a second 60: YAML 1.1 has no such timestamps.
     fn try_from(datetime: Datetime) -> Result<Timestamp, NoTimestamp> {
         let Some(date) = datetime.date else {
             return Err(NoTimestamp);
@@ -105,7 +105,7 @@ impl TryFrom<Datetime> for Timestamp {
     }
 }
 
-/// Gives a writer a date or a time of TOML: as `write_timestamp` does, where YAML 1.1 has such a timestamp, else as a text, spelled as in
+/// Gives a writer a date or a time of TOML: as `write_timestamp` does, if YAML 1.1 has such a timestamp, else as a text, spelled as in
 /// TOML. A time without a date and one without an offset are texts.
 ///
 /// # Errors

@@ -1,4 +1,4 @@
-//! Events that keep their nodes' tags, whichever schema reads what is written.
+//! Events that keep their nodes' tags, whichever schema reads the output.
 ghost use Rattle.std.specs.Prelude.{◌≡◌, Some, option_map, true};
 ghost use Rattle.yaml_base.specs.Event.{scalar};
 ghost use Rattle.yaml_base.specs.Seen.{seen_event, seen_scalar_style, seen_text};
@@ -43,10 +43,10 @@ fn typed_scalar<A: Allocator>(
     }
 }
 
-/// Returns an event with the flags that keep its scalar's tag: what is written has that tag by the type repository of YAML 1.1 and by
-/// the core schema of YAML 1.2. A text (`!!str`) may stand plain where it is surely one (`is_surely_text`), else in quotes, without its
-/// tag. A scalar of another type stands plain without its tag where `plain_tag` has that tag, else its tag is written. Flags that were
-/// set before are dropped. A scalar without a tag, and any other event, is returned as it is.
+/// Returns an event with the flags that keep its scalar's tag: the scalar has that tag by the type repository of YAML 1.1 and by the
+/// core schema of YAML 1.2. A text (`!!str`) is written without its tag: it may be plain if it is surely a text (`is_surely_text`), else
+/// it is in quotes. A scalar of another type is plain without its tag if `plain_tag` has that tag, else its tag is written. Flags that
+/// were set before are dropped. A scalar without a tag, and any other event, is returned as it is.
 pub fn typed_event<A: Allocator>(event: yaml_event_t<A>) -> yaml_event_t<A>
     ensures { seen_event result ≡ typed.typed_event (seen_event event) }
 {

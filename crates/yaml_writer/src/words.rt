@@ -5,7 +5,7 @@ ghost use Rattle.std.specs.List.{list_any};
 ghost use Rattle.yaml_base.specs.Words as tables;
 ghost use Rattle.yaml_writer.specs.Words as words;
 
-/// Null and booleans, those of YAML 1.1 alone, the merge key and the default value of YAML 1.1, infinity and what is no number.
+/// Null and booleans, those of YAML 1.1 alone, the merge key and the default value of YAML 1.1, infinity and NaN.
 #[rattlefmt::skip]
 const WORDS: &[&[u8]] = &[
     b"~", b"null", b"true", b"false", b"y", b"n", b"yes", b"no", b"on", b"off", b"<<", b"=",

@@ -1,4 +1,4 @@
--- Dates worked by hand: the short form of yaml.org/type/timestamp, and what is no date.
+-- Dates worked by hand: the short form of yaml.org/type/timestamp, and texts that are no date.
 use Rattle.yaml_writer.proofs.Common.{codes, Some, false, true, refl, ◌≡◌}
 use Rattle.yaml_writer.specs.Dates.{calendar_date, date_in, date_text, is_calendar_date}
 

@@ -16,7 +16,7 @@ its_events :
     ≡ begun
 its_events = refl
 
--- the emitter stood after the two documents and what followed, without an error
+-- The emitter was given the two documents and later events, and has no error.
 module _ (later : List Event) (sent : List ℕ) (before : WriterState) (stood : StandsTaken nothing_given (two ++ later) sent before.emitter)
     (none : before.emitter.error ≡ None) (after : WriterState) where
   stays : Grows before.emitter.page after.emitter.page → IsPrefix both after.emitter.page.output

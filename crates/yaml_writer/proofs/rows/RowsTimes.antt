@@ -1,4 +1,4 @@
--- Times of day worked by hand: the forms of yaml.org/type/timestamp, and what no clock shows.
+-- Times of day worked by hand: the forms of yaml.org/type/timestamp, and times that no clock shows.
 use Rattle.yaml_writer.proofs.Common.{codes, Option, None, Some, false, true, refl, ◌≡◌}
 use Rattle.yaml_writer.specs.Dates.{calendar_date}
 use Rattle.yaml_writer.specs.Times.{ClockOffset, ClockTime, Moment, clock_time, is_clock_offset, is_clock_reading, moment_in, timestamp_text}

@@ -23,7 +23,7 @@ floats_besides : (plain_tag (codes ".5") ≡ Some float_tag) × (plain_tag (code
     × (plain_tag (codes "+.5e-3") ≡ Some float_tag) × (plain_tag (codes "-1.e+0") ≡ Some float_tag) × (plain_tag (codes "08.5") ≡ Some float_tag)
 floats_besides = (refl, refl, refl, refl, refl, refl)
 
--- what only one schema reads so, or neither
+-- Texts that only one schema reads so, or neither.
 others : (plain_tag (codes "") ≡ None) × (plain_tag (codes "no") ≡ None) × (plain_tag (codes "nUll") ≡ None) × (plain_tag (codes "0o17") ≡ None)
     × (plain_tag (codes "1:30") ≡ None) × (plain_tag (codes "1e5") ≡ None) × (plain_tag (codes "1.5e3") ≡ None) × (plain_tag (codes "2001-12-14") ≡ None)
     × (plain_tag (codes "a: b") ≡ None)

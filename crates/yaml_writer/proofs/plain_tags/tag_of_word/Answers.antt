@@ -5,7 +5,7 @@ use Rattle.yaml_writer.specs.PlainTags.{bool_words, float_words}
 use Rattle.yaml_writer.specs.Words.{is_one_of}
 use Rattle.yaml_writer.proofs.plain_tags.tag_of_word.Goals as goal
 
--- whether a word of a group stands there
+-- True if the text is a word of the group.
 abbrev truth : List ℕ → Bool
 truth bytes = is_one_of bool_words bytes
 
