@@ -1,4 +1,6 @@
 //! The reasons why a text isn't written as YAML.
+ghost use Rattle.std.specs.Prelude.{◌≡◌};
+
 use crate::expecting::Expected;
 use std::io;
 use thiserror::Error;
@@ -38,6 +40,19 @@ pub enum JsonError {
     /// the emitter refuses what lies deeper than that (`TooDeep`).
     #[error("{0}")]
     Emitter(yaml_error_t),
+}
+
+/// The error of a writer, so that `?` converts it: calls of a writer and of this crate can be in one function.
+impl From<yaml_error_t> for JsonError {
+    ghost use Rattle.yaml_json.specs.declared.error.JsonError.TheVariants.{Emitter};
+
+    ghost from_gives = { λ error converted. converted ≡ Emitter error };
+
+    fn from(error: yaml_error_t) -> Self
+        ensures { result ≡ JsonError.Emitter error }
+    {
+        JsonError::Emitter(error)
+    }
 }
 
 /// The reason why JSON texts that come part by part aren't written as YAML to their end. Places count from the first byte that came.

@@ -3,7 +3,8 @@ use crate::tests::{equal, same};
 use std::alloc::Global;
 use std::io::{Read, Write};
 use yaml_json::{
-    JsonError, JsonSettings, StreamError, Writer, send_json_texts, value_settings, yaml_from_json,
+    JsonError, JsonSettings, StreamError, Writer, send_json_texts, value_settings, write_json,
+    yaml_error_t, yaml_from_json,
 };
 
 /// Returns the YAML of a JSON text, with an indent of 4.
@@ -25,6 +26,32 @@ fn send_texts<R: Read, W: Write>(
     let rest = writer.finish().map_err(refused)?;
     sink.write_all(rest.as_slice())
         .map_err(StreamError::WriteFailed)
+}
+
+/// Returns a stream of two documents: a JSON text, and a text. The errors of the writer are those of JSON.
+fn json_and_text(alloc: Global, json: &str, text: &str) -> Result<Vec<u8>, JsonError> {
+    let mut writer = Writer::new(alloc, value_settings())?;
+    write_json(alloc, &mut writer, json, JsonSettings::default())?;
+    writer.next_document()?;
+    writer.text(text)?;
+    Ok(writer.finish()?)
+}
+
+/// Names a node that isn't given.
+fn name_without_node(alloc: Global) -> Result<Vec<u8>, JsonError> {
+    let mut writer = Writer::new(alloc, value_settings())?;
+    writer.anchor("a")?;
+    Ok(writer.finish()?)
+}
+
+// `?` converts the error of a writer.
+#[test]
+fn errors_of_writers_are_converted(rt: HostRuntime) {
+    let yaml = json_and_text(rt.alloc(), "{\"a\": 1}", "no").expect(&rt, "JSON");
+    same(&rt, yaml.as_slice(), "---\na: 1\n--- 'no'\n");
+    let error = name_without_node(rt.alloc()).err();
+    let expected = JsonError::Emitter(yaml_error_t::ExpectedNode);
+    equal(&rt, &error, &Some(expected));
 }
 
 #[test]
