@@ -116,17 +116,13 @@ put-string p s ls e f = as_placed p (string s) ls ∙ put-text (begins_colon ls)
 
 -- ---- a word
 
+-- True if a token is that of a word: a number, a boolean or null, or bad.
 abbrev pub IsWord : Token → Type 0
-IsWord begin_object = ⊥
-IsWord end_object = ⊥
-IsWord begin_array = ⊥
-IsWord end_array = ⊥
-IsWord (key s) = ⊥
-IsWord (string s) = ⊥
-IsWord (number s) = Unit {0}
-IsWord (boolean b) = Unit {0}
+IsWord (number text) = Unit {0}
+IsWord (boolean flag) = Unit {0}
 IsWord null = Unit {0}
 IsWord bad = Unit {0}
+IsWord _ = ⊥
 
 IsWord-cond : (b : Bool) (x y : Token) → IsWord x → IsWord y → IsWord (cond b x y)
 IsWord-cond true x y p q = p

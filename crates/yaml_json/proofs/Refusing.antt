@@ -1,4 +1,5 @@
 -- Why the walk over the tokens of a value is stopped by them.
+use Rattle.json.proofs.Unique.Spelling.{value-json_tokens_back}
 use Rattle.yaml_json.proofs.Common.{suc, ℕ, ◌-◌, ◌<◌, ◌≤◌, IfErr, None, Some, Result, Err, Ok, length, Bool, true, List, [], ◌++◌, ◌∷◌, ◌⊎◌, refl, ◌≡◌, inl, ap}
 use Rattle.yaml_json.proofs.Common.{append-nil, append_assoc, inr, subst, sym, ◌∙◌, arith, le-max_left, le-max_right, append_cancel_right, left, value_is, Json}
 use Rattle.yaml_json.proofs.Common.{members_no_key, value-depth, read_key, value, skip_value, tokens, Token, json_tokens, depth as nesting, IsPrefix, IsNewName}
@@ -6,7 +7,7 @@ use Rattle.yaml_json.proofs.Common.{NoneGoesOn, inner_names, NamesOnce, all_name
 use Rattle.yaml_json.proofs.Common.{LeavesOpen, opener, HasUniqueNames, RefusesToken, RefusesFirst, WhyStopped, ◌+◌, IsScalar}
 use Rattle.std.specs.Prelude.{max}
 use Rattle.json.proofs.Printed.Trees.{value-json_tokens}
-use Rattle.yaml_json.{proofs.TokenLemmas.value_spelled, specs.Refused.DeniesJson, specs.Refused.IsNotJson, specs.Walk.BeginsNone}
+use Rattle.yaml_json.{specs.Refused.DeniesJson, specs.Refused.IsNotJson, specs.Walk.BeginsNone}
 use Rattle.yaml_json.specs.Refused.{TokensBreakAt, OpensTooDeepAt, NamesTwiceAt}
 use Rattle.yaml_json.{specs.declared.error.JsonError.JsonError, specs.declared.values.Stop.Stop}
 use Rattle.yaml_json.proofs.NameLemmas.{once_first, once_second, once_is_unique, unique_is_once, once_both}
@@ -336,14 +337,14 @@ pub value_names : (depth : ℕ) (unique : Bool) (before after : List Token) (jso
 value_names depth unique before after json read once is =
     let found = once is in
     subst (NamesOnce [])
-    (append_cancel_right found.0 (json_tokens json) after (found.1 ∙ value_spelled depth before after json read)) found.2
+    (append_cancel_right found.0 (json_tokens json) after (found.1 ∙ value-json_tokens_back depth before after json read)) found.2
 
 -- ---- what is said
 
 -- what breaks off, or nests too deep, is no value nested at most `depth` deep
 broken_is_none : (depth : ℕ) (unique : Bool) (all : List Token) → TokensBreakOff depth unique all → (json : Json) → value depth all ≡ Some (json, []) → ⊥
 broken_is_none depth unique all broken json read =
-    goes_on broken.left (broken.parts ∙ value_spelled depth all [] json read ∙ append-nil (json_tokens json)) broken.breaks where
+    goes_on broken.left (broken.parts ∙ value-json_tokens_back depth all [] json read ∙ append-nil (json_tokens json)) broken.breaks where
       goes_on : (left : List Token) → broken.taken ++ left ≡ json_tokens json → NoneGoesOn broken.taken left → ⊥
       goes_on [] is none = none json (sym is ∙ append-nil broken.taken)
       goes_on (token ∷ left) is none = none (json, record { rest = left; parts = append_assoc broken.taken (token ∷ []) left ∙ is })
@@ -352,7 +353,7 @@ deep_is_none : (depth : ℕ) (unique : Bool) (all : List Token) → OpensTooDeep
 deep_is_none depth unique all deep json read =
     let less = deep.deeper json (record {
       rest = deep.left;
-      parts = append_assoc deep.taken (deep.next ∷ []) deep.left ∙ deep.parts ∙ value_spelled depth all [] json read ∙ append-nil (json_tokens json);
+      parts = append_assoc deep.taken (deep.next ∷ []) deep.left ∙ deep.parts ∙ value-json_tokens_back depth all [] json read ∙ append-nil (json_tokens json);
     }) in
     let fits = value-depth depth all [] json read in
     omega (arith, less, fits)

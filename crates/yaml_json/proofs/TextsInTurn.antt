@@ -1,4 +1,5 @@
 -- JSON texts, one after another.
+use Rattle.json.proofs.Unique.Spelling.{value-json_tokens_back}
 use Rattle.yaml_json.proofs.Common.{ℕ, ◌<◌, ◌==◌, flat_map, Some, Result, Err, length, Bool, false, true, List, [], map, ◌++◌, ◌∷◌, refl, ◌≡◌, eqb-true}
 use Rattle.yaml_json.proofs.Common.{append-nil, append_assoc, inl, inr, ap, subst, sym, ◌∙◌, false≢true, flat_map-append, map-append, Json, value, tokens}
 use Rattle.yaml_json.proofs.Common.{Option, None, json_tokens, Event, between, events_with_separators}
@@ -6,7 +7,7 @@ use Rattle.yaml_json.proofs.Common.{json_events, NamesOnce, HaveNamesOnce, texts
 use Rattle.yaml_json.proofs.Common.{AreJson, BeginsWithinDepth, parts_events, ReadsTexts, WriterState, PassedEvents, AddsEvents}
 use Rattle.std.proofs.lemmas.List.{nil_from_length}
 use Rattle.yaml_base.specs.declared.errors.yaml_error_t.{yaml_error_t}
-use Rattle.yaml_json.{proofs.NameLemmas.once_is_unique, proofs.TokenLemmas.value_spelled, proofs.Walking.awaiting_whole, proofs.Walking.closes_value}
+use Rattle.yaml_json.{proofs.NameLemmas.once_is_unique, proofs.Walking.awaiting_whole, proofs.Walking.closes_value}
 use Rattle.yaml_json.specs.Texts.{texts_after, onto_first, cut_text_before, scan_first_byte}
 use Rattle.yaml_json.specs.declared.cuts.{Mode.TheVariants.Before, Scan.Scan}
 use Rattle.yaml_json.specs.declared.error.JsonError.TheVariants as errors
@@ -46,7 +47,7 @@ joined_more parts last rest =
 pub text_names : (unique : Bool) (text : List ℕ) → (unique ≡ true → NamesOnce [] (tokens text)) → HasNamesOnce unique text
 text_names unique text once is depth json read =
     once_is_unique json []
-    (subst (NamesOnce []) (value_spelled depth (tokens text) [] json read ∙ append-nil (json_tokens json)) (once is))
+    (subst (NamesOnce []) (value-json_tokens_back depth (tokens text) [] json read ∙ append-nil (json_tokens json)) (once is))
 
 pub more_names : (unique : Bool) (parts : List (List ℕ × Json)) (last : List ℕ × Json) → HaveNamesOnce unique (map (λ part. part.0) parts)
     → HasNamesOnce unique last.0 → HaveNamesOnce unique (map (λ part. part.0) (parts ++ last ∷ []))

@@ -1,4 +1,5 @@
 -- The walk over the tokens of a value: the grammar, with the collections that are open in a list.
+use Rattle.json.proofs.Unique.Spelling.{value-json_tokens_back}
 use Rattle.yaml_json.proofs.Common.{suc, zero, ℕ, ◌-◌, ◌<◌, ◌≤◌, option_and_then, Option, None, Some, length, Bool, true, List, [], ◌++◌, ◌∷◌, refl, ◌≡◌}
 use Rattle.yaml_json.proofs.Common.{append-nil, append_assoc, inl, inr, ap, subst, sym, ◌∙◌, arith, left, value_is, members_no_key, left_some, value-depth}
 use Rattle.yaml_json.proofs.Common.{Json, array, object, item, member, parse_map, after_end_array, read_key, value, skip_value, Token, json_tokens}
@@ -6,7 +7,7 @@ use Rattle.yaml_json.proofs.Common.{depth as nesting, BeginsWithinDepth, NamesOn
 use Rattle.json.proofs.Grammar.{left-parse_map, value-begin_array, value-begin_object, read_key-shorter, items_end, items_fail, items_more, members_end}
 use Rattle.json.proofs.Grammar.{members_fail, members_more, skip_value-shorter}
 use Rattle.json.specs.{Json.items, Json.members, Reads.skip_items, Reads.skip_members}
-use Rattle.yaml_json.{proofs.NameLemmas.once_both, proofs.NameLemmas.once_is_unique, proofs.TokenLemmas.value_spelled, specs.Begins.BeginsAllowed}
+use Rattle.yaml_json.{proofs.NameLemmas.once_both, proofs.NameLemmas.once_is_unique, specs.Begins.BeginsAllowed}
 use Rattle.yaml_json.{specs.Walk.skip_rest, specs.Walk.LeavesOpenAt, specs.Walk.BeginsValueBy}
 use Rattle.yaml_base.specs.declared.kinds.CollectionKind.{CollectionKind}
 use Rattle.yaml_base.specs.declared.kinds.CollectionKind.TheVariants.{Mapping, Sequence}
@@ -263,7 +264,7 @@ value_begins_at depth taken levels stands =
       json = found.0;
       nested = value-depth depth whole [] found.0 found.1;
       rest = closers levels ++ [];
-      parts = value_spelled depth whole [] found.0 found.1 ∙ append-nil (json_tokens found.0);
+      parts = value-json_tokens_back depth whole [] found.0 found.1 ∙ append-nil (json_tokens found.0);
       nameless = λ names. subst (NamesOnce names) (sym (append-nil (closers levels))) (closers_once levels names);
     }
 

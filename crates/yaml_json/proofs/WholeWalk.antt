@@ -1,4 +1,5 @@
 -- The whole walk over the tokens of a value.
+use Rattle.json.proofs.Unique.Spelling.{value-json_tokens_back}
 use Rattle.yaml_json.proofs.{Taking.stood_nothing, KeepingNames.NamesSoFar}
 use Rattle.yaml_json.proofs.Common.{ℕ, Bool, List, [], ◌++◌, ◌∷◌, refl, ◌≡◌, append-nil, append_assoc, inl, inr, ap, subst, sym, ◌∙◌, arith}
 use Rattle.yaml_json.proofs.Common.{append_cancel_right, left_some, value, skip_value, Token, json_tokens, Event, BeginsWithinDepth, tokens_events, LeavesOpen}
@@ -6,7 +7,7 @@ use Rattle.yaml_json.proofs.Common.{KeepsNames, BeganFirstValue, FirstFailed, Re
 use Rattle.yaml_base.specs.{declared.errors.yaml_error_t.yaml_error_t, declared.errors.yaml_error_t.TheVariants.Memory}
 use Rattle.yaml_base.specs.{declared.kinds.CollectionKind.CollectionKind}
 use Rattle.yaml_json.proofs.Stops.{adds_none, all_left}
-use Rattle.yaml_json.proofs.TokenLemmas.{value_spelled, value_given}
+use Rattle.yaml_json.proofs.TokenLemmas.{value_given}
 use Rattle.yaml_json.specs.{Failing.FailedInValue, Wrote.WroteValue, declared.names.Names.Names, declared.values.Stop.Stop}
 use Rattle.yaml_json.proofs.Walking.{closes_value, value_begins, awaiting_whole, next_stands}
 use Rattle.yaml_json.specs.Walk.{GaveTokens, TextStopsWriting, FailsGiving, WalkedOn, StepFailed}
@@ -99,7 +100,7 @@ module _ (depth : ℕ) (in_flow : Bool) (start : List Token) (was : WriterState)
         let stood = subst (λ (all : List CollectionKind). GaveTokens in_flow was so_far.taken all now) none so_far.stood in
         let stands = subst (LeavesOpen depth so_far.taken) none so_far.stands in
         let found = left_some (value depth start) ahead (ap (skip_value depth) (sym so_far.parts) ∙ (stands depth (omega arith)).1 ahead) in
-        let same = append_cancel_right so_far.taken (json_tokens found.0) ahead (so_far.parts ∙ value_spelled depth start ahead found.0 found.1) in
+        let same = append_cancel_right so_far.taken (json_tokens found.0) ahead (so_far.parts ∙ value-json_tokens_back depth start ahead found.0 found.1) in
         record {
           json = found.0;
           read = found.1;

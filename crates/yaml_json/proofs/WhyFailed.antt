@@ -1,4 +1,5 @@
 -- Why a writer failed that was given the events of a text.
+use Rattle.json.proofs.Unique.Spelling.{value-json_tokens_back}
 use Rattle.yaml_json.proofs.Common.{ℕ, ◌<◌, Option, None, Some, Bool, List, [], ◌++◌, ◌⊎◌, refl, ◌≡◌, append-nil, append_assoc, inl, inr, ap, subst}
 use Rattle.yaml_json.proofs.Common.{sym, ◌∙◌, arith, unwrap_or, value-depth, Json, value, depth as nesting, tokens, Token, json_tokens, Event, IsPrefix}
 use Rattle.yaml_json.proofs.Common.{most_open, Settings, RefusedAt, State, BeginsWithinDepth, FailedInText, json_events, tokens_events, WroteText}
@@ -8,7 +9,7 @@ use Rattle.yaml_base.specs.declared.errors.{yaml_error_t.yaml_error_t, yaml_erro
 use Rattle.yaml_base.specs.declared.errors.{yaml_error_t.TheVariants.TooDeep}
 use Rattle.yaml_emitter.proofs.standing.{StandingPromises.promises_refusal}
 use Rattle.yaml_json.proofs.{Accepting.json_accepted, Accepting.never_passes, Accepting.stream_of, Accepting.stream_sound, Accepting.tree_flat}
-use Rattle.yaml_json.proofs.{Accepting.tree_of, TokenLemmas.value_spelled, TokenLemmas.some_then, TokenLemmas.value_given}
+use Rattle.yaml_json.proofs.{Accepting.tree_of, TokenLemmas.some_then, TokenLemmas.value_given}
 use Rattle.yaml_json.specs.Failing.{JsonFailsBy, NestsPastMost, OverLimit}
 use Rattle.yaml_writer.proofs.WhyFailed.{fails_by, first_passes, overflowed_more, refused_deeper, refused_depth, unfinished_deeper, unfinished_depth}
 use Rattle.yaml_writer.specs.Unfinished.{IsUnfinished, PassesLimit}
@@ -23,7 +24,7 @@ module _ (given : Settings) (in_flow : Bool) (depth : ℕ) (text : List ℕ) whe
   events_of all = tokens_events given.canonical in_flow all
 
   text_spelled : (json : Json) → value depth (tokens text) ≡ Some (json, []) → tokens text ≡ json_tokens json
-  text_spelled json read = value_spelled depth (tokens text) [] json read ∙ append-nil (json_tokens json)
+  text_spelled json read = value-json_tokens_back depth (tokens text) [] json read ∙ append-nil (json_tokens json)
 
   -- the events of the tokens of a text are those of its value
   text_given : (json : Json) → value depth (tokens text) ≡ Some (json, []) → events_of (tokens text) ≡ json_events given.canonical in_flow json

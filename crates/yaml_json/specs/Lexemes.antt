@@ -1,13 +1,13 @@
 -- Where parts of a JSON text end.
 use Rattle.std.specs.Prelude.{◌≡◌, ℕ, ◌-◌, ◌<◌, ◌≤◌, Bool, true, false, ◌||◌, ◌==◌, nat_lt, Option, option_map, IfSome, MatchOption, None, List, drop, get_or}
-use Rattle.std.specs.Prelude.{◌≢◌, length, not}
+use Rattle.std.specs.Prelude.{◌≢◌, [], ◌∷◌, length, not}
 use Rattle.std.specs.Borrow.{Bor}
 use Rattle.std.specs.Char.{encode_utf8, is_ascii_digit}
 use Rattle.std.specs.List.{list_any}
 use Rattle.json.specs.Ascii as ascii
 use Rattle.json.specs.Lex.{between, in_word, lex}
 use Rattle.json.specs.Reads.{token_of}
-use Rattle.json.specs.Text.{Within, content, plain, prepend}
+use Rattle.json.specs.Text.{Within, after_high, code_unit, content, plain, prepend, surrogate_pair}
 use Rattle.json.specs.Token.{Token, bad}
 use Rattle.json.specs.Word.{is_operator, is_space}
 use Rattle.json.specs.declared.token.Token as declared
@@ -41,9 +41,23 @@ ReadsWord text token found =
     MatchOption found (token ≡ bad)
     (λ part. (token_of part.0 ≡ token) × (token ≢ bad) × (lex between part.1.now ≡ lex in_word text))
 
--- an escape is read from this place on: its character, and the place after it, which follows an ASCII byte
-abbrev pub Unescapes : (text : List ℕ) → Within → ℕ → Option (ℕ × ℕ) → Type 0
-Unescapes text within at found =
-    MatchOption found (content within (drop at text) ≡ None)
-    (λ part. (content within (drop at text) ≡ prepend (encode_utf8 part.0) (content plain (drop part.1 text)))
-    × (at < part.1) × (part.1 ≤ length text) × (get_or text (part.1 - 1) 0 < 128))
+-- The code unit that four hexadecimal digits at the front of some bytes spell.
+abbrev pub first_unit : List ℕ → Option ℕ
+first_unit [] = None
+first_unit (a ∷ []) = None
+first_unit (a ∷ b ∷ []) = None
+first_unit (a ∷ b ∷ c ∷ []) = None
+first_unit (a ∷ b ∷ c ∷ d ∷ rest) = code_unit a b c d
+
+-- The text begins with the rest of an escape: of this character, and of this size in bytes, the last of which is ASCII.
+abbrev pub Unescapes : Within → (text : List ℕ) → Option (ℕ × ℕ) → Type 0
+Unescapes within text found =
+    MatchOption found (content within text ≡ None)
+    (λ part. (content within text ≡ prepend (encode_utf8 part.0) (content plain (drop part.1 text)))
+    × (0 < part.1) × (part.1 ≤ length text) × (get_or text (part.1 - 1) 0 < 128))
+
+-- The text begins with an escape of this second half of a surrogate pair, of six bytes; or with none.
+abbrev pub IsSecondHalf : (text : List ℕ) → Option ℕ → Type 0
+IsSecondHalf text half =
+    ((high : ℕ) → Unescapes (after_high high) text (option_map (λ low. (surrogate_pair high low, 6)) half))
+    × IfSome half (λ low. (0xdc00 ≤ low) × (low < 0xe000))

@@ -1,109 +1,104 @@
-//! The content of a string with escapes.
-ghost use Rattle.std.specs.Prelude.{◌≡◌, ℕ, ◌+◌, ◌<◌, ◌≤◌, None, Some, MatchOption, IfOk, IfSome, drop, get_or, length};
-ghost use Rattle.std.specs.Char.{digit_value};
+//! The content of a string with escapes (RFC 8259, section 7).
+ghost use Rattle.std.specs.Prelude.{◌≡◌, ℕ, ◌<◌, ◌≤◌, ◌+◌, ◌*◌, ◌&&◌, false, true, None, Some, MatchOption, IfOk, IfSome, drop, get_or, length};
+ghost use Rattle.std.specs.Char.{digit_value, is_digit};
 ghost use Rattle.std.specs.Str.{IsCharBoundary};
 ghost use Rattle.std.specs.String.{string_bytes};
-ghost use Rattle.json.specs.Text.{after_backslash, after_high, after_u, code_unit, content, plain, short_escape};
-ghost use Rattle.yaml_json.specs.Lexemes.{Unescapes};
+ghost use Rattle.json.specs.Text.{after_backslash, after_u, content, plain, short_escape};
+ghost use Rattle.yaml_json.specs.Lexemes.{IsSecondHalf, Unescapes, first_unit};
 
 use crate::lexemes::plain_end;
 use std::alloc::{AllocError, Allocator};
 
-fn hex_value(byte: u8) -> u32
-    ensures value { result ≡ digit_value byte }
-    ensures ascii { result < 16 → byte < 128 }
+/// Returns the byte that two hexadecimal digits spell.
+fn hex_byte(first: u8, second: u8) -> Option<u32>
+    ensures value { MatchOption result ((is_digit first 16 && is_digit second 16) ≡ false)
+        (λ byte. (is_digit first 16 ≡ true) × (is_digit second 16 ≡ true) × (byte ≡ digit_value first * 16 + digit_value second)) }
+    ensures bounds { IfSome result (λ byte. (byte < 256) × (second < 128)) }
 {
-    match byte {
-        b'0'..=b'9' => u32::from(byte - b'0'),
-        b'A'..=b'Z' => u32::from(byte - b'A') + 10,
-        b'a'..=b'z' => u32::from(byte - b'a') + 10,
-        _ => 36,
-    }
+    let high = char::from(first).to_digit(16)?;
+    let low = char::from(second).to_digit(16)?;
+    Some(high * 16 + low)
 }
 
-/// Returns what four hex digits spell.
-fn unit_at(text: &[u8], at: usize) -> Option<u32>
-    requires { at + 4 ≤ length text.now }
-    ensures value { result ≡ code_unit (get_or text.now at 0) (get_or text.now (at + 1) 0) (get_or text.now (at + 2) 0) (get_or text.now (at + 3) 0) }
-    ensures bounds { IfSome result (λ unit. (unit < 65536) × (get_or text.now (at + 3) 0 < 128)) }
+/// Returns the UTF-16 code unit that four hexadecimal digits at the front of a text spell.
+fn code_unit(text: &[u8]) -> Option<u32>
+    ensures value { result ≡ first_unit text.now }
+    ensures bounds { IfSome result (λ unit. (unit < 65536) × (4 ≤ length text.now) × (get_or text.now 3 0 < 128)) }
 {
-    let (a, b, c, d) = (
-        hex_value(text[at]),
-        hex_value(text[at + 1]),
-        hex_value(text[at + 2]),
-        hex_value(text[at + 3]),
-    );
-    if (a < 16) & (b < 16) & (c < 16) & (d < 16) {
-        Some(a * 4096 + b * 256 + c * 16 + d)
-    } else {
+    if text.len() < 4 {
+        return None;
+    }
+    let high = hex_byte(text[0], text[1])?;
+    let low = hex_byte(text[2], text[3])?;
+    Some(high * 256 + low)
+}
+
+/// Returns the second half of a surrogate pair, if a text begins with an escape of one.
+fn second_half(text: &[u8]) -> Option<u32>
+    ensures { IsSecondHalf text.now result }
+{
+    if text.len() < 6 {
+        return None;
+    }
+    if (text[0] != b'\\') | (text[1] != b'u') {
+        return None;
+    }
+    let unit = code_unit(&text[2..])?;
+    if (unit < 0xdc00) | (unit > 0xdfff) {
         None
+    } else {
+        Some(unit)
     }
 }
 
-/// Returns the character of a short escape.
-fn short_escape(byte: u8) -> Option<u8>
-    ensures value { result ≡ short_escape byte }
-    ensures ascii { IfSome result (λ character. (character < 128) × (byte < 128)) }
+/// Returns the character that the hexadecimal digits after `\u` spell, and the number of bytes up to its end. A character past
+/// U+FFFF is spelled by a surrogate pair: two escapes.
+fn spelled_character(text: &[u8]) -> Option<(char, usize)>
+    ensures { Unescapes after_u text.now result }
 {
-    match byte {
-        b'"' | b'\\' | b'/' => Some(byte),
-        b'b' => Some(8),
-        b'f' => Some(12),
-        b'n' => Some(b'\n'),
-        b'r' => Some(b'\r'),
-        b't' => Some(b'\t'),
-        _ => None,
+    let unit = code_unit(text)?;
+    if (unit < 0xd800) | (unit > 0xdbff) {
+        let character = char::from_u32(unit)?;
+        return Some((character, 4));
     }
+    let low = second_half(&text[4..])?;
+    let character = char::from_u32(0x10000 + (unit - 0xd800) * 1024 + (low - 0xdc00))?;
+    Some((character, 10))
 }
 
-/// Returns the second half of a surrogate pair.
-fn low_half(text: &[u8], at: usize, high: u32) -> Option<(char, usize)>
-    requires { (at ≤ length text.now) × (0xd800 ≤ high) × (high < 0xdc00) }
-    ensures { Unescapes text.now (after_high high) at result }
+/// Returns the character that a letter means after a backslash. `u` is none of them.
+fn letter_meaning(letter: u8) -> Option<char>
+    ensures value { result ≡ short_escape letter }
+    ensures ascii { IfSome result (λ character. (character < 128) × (letter < 128)) }
 {
-    if text.len() - at < 6 || text[at] != b'\\' || text[at + 1] != b'u' {
+    let character = match letter {
+        b'n' => '\n',
+        b't' => '\t',
+        b'r' => '\r',
+        b'b' => '\u{8}',
+        b'f' => '\u{c}',
+        b'/' | b'"' | b'\\' => char::from(letter),
+        _ => return None,
+    };
+    Some(character)
+}
+
+/// Returns the character of an escape, by what follows its backslash, and the number of bytes of the escape after the backslash.
+fn escape(text: &[u8]) -> Option<(char, usize)>
+    ensures { Unescapes after_backslash text.now result }
+{
+    if text.is_empty() {
         return None;
     }
-    let low = unit_at(text, at + 2)?;
-    if low < 0xdc00 || low >= 0xe000 {
-        return None;
+    if text[0] == b'u' {
+        let (character, size) = spelled_character(&text[1..])?;
+        return Some((character, size + 1));
     }
-    let character = char::from_u32(0x10000 + (high - 0xd800) * 1024 + (low - 0xdc00))?;
-    Some((character, at + 6))
+    let character = letter_meaning(text[0])?;
+    Some((character, 1))
 }
 
-/// Returns what follows a backslash and `u`.
-fn long_escape(text: &[u8], at: usize) -> Option<(char, usize)>
-    requires { at ≤ length text.now }
-    ensures { Unescapes text.now after_u at result }
-{
-    if text.len() - at < 4 {
-        return None;
-    }
-    let unit = unit_at(text, at)?;
-    if unit >= 0xd800 && unit < 0xdc00 {
-        return low_half(text, at + 4, unit);
-    }
-    let character = char::from_u32(unit)?;
-    Some((character, at + 4))
-}
-
-/// Returns what follows a backslash: its character, and where the text goes on.
-fn escape(text: &[u8], at: usize) -> Option<(char, usize)>
-    requires { at ≤ length text.now }
-    ensures { Unescapes text.now after_backslash at result }
-{
-    if at == text.len() {
-        return None;
-    }
-    if text[at] == b'u' {
-        return long_escape(text, at + 1);
-    }
-    let byte = short_escape(text[at])?;
-    Some((byte as char, at + 1))
-}
-
-/// Returns the content that begins at a place, up to its quote; `None` where it is no content of a string.
+/// Returns the content that begins at a place, up to its quote; `None` if it is no content of a string.
 pub(crate) fn unescape<A: Allocator + Copy>(
     alloc: A,
     text: &str,
@@ -128,11 +123,11 @@ pub(crate) fn unescape<A: Allocator + Copy>(
         if bytes[stop] != b'\\' {
             return Ok(None);
         }
-        match escape(bytes, stop + 1) {
+        match escape(&bytes[stop + 1..]) {
             None => return Ok(None),
-            Some((character, next)) => {
+            Some((character, size)) => {
                 string.push(character)?;
-                at = next;
+                at = stop + 1 + size;
             }
         }
     }

@@ -1,5 +1,5 @@
-//! Words of a JSON text: numbers, and the names of three values. Each part of a number is taken by a text and a place in it, and
-//! returns where what follows begins.
+//! Words of a JSON text (RFC 8259, sections 3 and 6): numbers, and the names of three values. Each part of a number has a function, which
+//! takes a text and the part's place, and returns the place after the part.
 ghost use Rattle.std.specs.Prelude.{◌≡◌, ◌≢◌, ℕ, ◌+◌, ◌<◌, ◌≤◌, ◌||◌, Bool, IfSome, drop, length, map};
 ghost use Rattle.std.specs.Char.{is_ascii_digit};
 ghost use Rattle.std.specs.List.{prefix_len};
@@ -14,7 +14,7 @@ ghost use Rattle.yaml_json.specs.Lexemes.{IsInWord, LeavesAt, ReadsWord, is_no_d
 use json::Token;
 use std::simd::prelude::*;
 
-/// Returns the byte at a place of a text; a blank past its end.
+/// Returns the byte at a place of a text; past the text's end, a blank.
 pub(crate) fn byte_at(text: &[u8], at: usize) -> u8
     ensures { result ≡ head (drop at text.now) }
 {
@@ -73,69 +73,68 @@ fn past_digits(text: &[u8], from: usize) -> usize
     at
 }
 
+/// Returns where one digit or more end that begin at a place.
 fn digits_end(text: &[u8], from: usize) -> Option<usize>
     requires { from ≤ length text.now }
     ensures { LeavesAt text.now result (after_digits (drop from text.now)) }
 {
     let end = past_digits(text, from);
-    if end == from { None } else { Some(end) }
+    if end > from { Some(end) } else { None }
 }
 
-fn whole_end(text: &[u8], from: usize) -> Option<usize>
+/// Returns where the integer of a number ends: one zero, or digits.
+fn integer_end(text: &[u8], from: usize) -> Option<usize>
     requires { from ≤ length text.now }
     ensures { LeavesAt text.now result (after_whole (drop from text.now)) }
 {
-    if byte_at(text, from) == b'0' {
-        Some(from + 1)
-    } else {
-        digits_end(text, from)
+    match byte_at(text, from) {
+        b'0' => Some(from + 1),
+        _ => digits_end(text, from),
     }
 }
 
+/// Returns where the fraction of a number ends, which may be missing.
 fn fraction_end(text: &[u8], from: usize) -> Option<usize>
     requires { from ≤ length text.now }
     ensures { LeavesAt text.now result (after_fraction (drop from text.now)) }
 {
-    if byte_at(text, from) == b'.' {
-        digits_end(text, from + 1)
-    } else {
-        Some(from)
+    match byte_at(text, from) {
+        b'.' => digits_end(text, from + 1),
+        _ => Some(from),
     }
 }
 
-fn sign_end(text: &[u8], from: usize) -> usize
+/// Returns where the sign and the digits of an exponent end.
+fn power_end(text: &[u8], from: usize) -> Option<usize>
     requires { from ≤ length text.now }
-    ensures sign { drop result text.now ≡ after_sign (drop from text.now) }
-    ensures within { result ≤ length text.now }
+    ensures { LeavesAt text.now result (after_digits (after_sign (drop from text.now))) }
 {
-    let byte = byte_at(text, from);
-    if (byte == b'-') | (byte == b'+') {
-        from + 1
-    } else {
-        from
+    match byte_at(text, from) {
+        b'+' | b'-' => digits_end(text, from + 1),
+        _ => digits_end(text, from),
     }
 }
 
+/// Returns where the exponent of a number ends, which may be missing.
 fn exponent_end(text: &[u8], from: usize) -> Option<usize>
     requires { from ≤ length text.now }
     ensures { LeavesAt text.now result (after_exponent (drop from text.now)) }
 {
-    let byte = byte_at(text, from);
-    if (byte == b'e') | (byte == b'E') {
-        digits_end(text, sign_end(text, from + 1))
-    } else {
-        Some(from)
+    match byte_at(text, from) {
+        b'E' | b'e' => power_end(text, from + 1),
+        _ => Some(from),
     }
 }
 
-/// Returns where a number ends.
+/// Returns where the number ends that a text begins with: a minus or none, an integer, a fraction and an exponent (RFC 8259,
+/// section 6).
 fn number_end(text: &[u8]) -> Option<usize>
     ensures { LeavesAt text.now result (after_number text.now) }
 {
-    let from = if byte_at(text, 0) == b'-' { 1 } else { 0 };
-    let point = whole_end(text, from)?;
-    let power = fraction_end(text, point)?;
-    exponent_end(text, power)
+    let sign = if byte_at(text, 0) == b'-' { 1 } else { 0 };
+    let integer = integer_end(text, sign)?;
+    let fraction = fraction_end(text, integer)?;
+    exponent_end(text, fraction)
 }
 
 /// Returns the number that a text begins with, and what follows it.

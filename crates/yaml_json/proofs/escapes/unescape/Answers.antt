@@ -1,9 +1,10 @@
 use Rattle.std.proofs.Common.{◌≡◌, ◌+◌, ◌-◌, ◌<◌, ◌++◌, None, Some, drop, get_or, length, List, ℕ, subst, sym, ap, ◌∙◌, arith}
+use Rattle.std.proofs.lemmas.List.{get_or-drop, length-drop}
 use Rattle.std.proofs.lemmas.Str.{IsCharBoundary-after_ascii}
 use Rattle.std.specs.{Str.IsCharBoundary, String.string_bytes, Char.encode_utf8}
 use Rattle.json.specs.Text.{after_backslash, content, plain, prepend}
 use Rattle.yaml_json.specs.Lexemes.{ArePlain, Unescapes}
-use Rattle.yaml_json.proofs.ContentSteps.{closes_here, content-backslash, content-control, content-end, escape_more, none_more, run_more}
+use Rattle.yaml_json.proofs.ContentSteps.{closes_here, content-control, escape_more, none_at_end, none_more, past_backslash, rest_is, run_more}
 use Rattle.yaml_json.proofs.escapes.unescape.Goals as goal
 
 pub returns-then-stop-bytes : goal.returns-then-stop-bytes
@@ -14,7 +15,7 @@ returns-then-stop-bytes g c =
     let same = c.as_bytes-bytes.ensures.value in
     let are = subst (λ (t : List ℕ). ArePlain t l.at stop) same c.plain_end-stop.ensures in
     let so_far = run_more d (string_bytes l.string) c.range.result.now c.args.from l.at stop are c.range.ensures.value l.invariant.1 in
-    none_more d _ c.args.from stop so_far (content-end plain d stop (omega (arith, ap length same)))
+    none_more d _ c.args.from stop so_far (none_at_end plain d stop (omega (arith, ap length same)))
 
 pub returns-then-bytes-stop-eq34 : goal.returns-then-bytes-stop-eq34
 returns-then-bytes-stop-eq34 g c =
@@ -51,8 +52,10 @@ returns-in-None g c =
     let so_far = run_more d (string_bytes l.string) c.range.result.now c.args.from l.at stop are c.range.ensures.value l.invariant.1 in
     let within : stop < length d = omega (arith, ap length same, are.within) in
     let slash = ap (λ t. get_or t stop 0) (sym same) ∙ c.if-bytes-stop-ne92.false in
-    let read : content after_backslash (drop (stop + 1) d) ≡ None = ap (λ t. content after_backslash (drop (stop + 1) t)) (sym same) ∙ c.in-None.ensures in
-    none_more d _ c.args.from stop so_far (content-backslash d stop within slash ∙ read)
+    let rest : List ℕ = drop (stop + 1) c.as_bytes-bytes.result.now in
+    let none : content after_backslash rest ≡ None = subst (λ (t : List ℕ). content after_backslash t ≡ None) (rest_is c.as_bytes-bytes.result.now (stop + 1)) c.in-None.ensures in
+    let read : content after_backslash (drop (stop + 1) d) ≡ None = ap (λ t. content after_backslash (drop (stop + 1) t)) (sym same) ∙ none in
+    none_more d _ c.args.from stop so_far (past_backslash d stop within slash ∙ read)
 
 pub runs-preserved : goal.runs-preserved
 runs-preserved g c =
@@ -64,11 +67,17 @@ runs-preserved g c =
     let so_far = run_more d (string_bytes l.string) c.range.result.now c.args.from l.at stop are c.range.ensures.value l.invariant.1 in
     let within : stop < length d = omega (arith, ap length same, are.within) in
     let slash = ap (λ t. get_or t stop 0) (sym same) ∙ c.if-bytes-stop-ne92.false in
-    let next = c.in-Some.next in
-    let read = subst (λ (t : List ℕ). Unescapes t after_backslash (stop + 1) (Some (c.in-Some.character, next))) same c.in-Some.ensures in
-    let back : next - 1 + 1 ≡ next = omega (arith, read.1) in
-    let all = escape_more d _ _ c.args.from stop next so_far within slash read.0 in (
-      subst (IsCharBoundary d) back (IsCharBoundary-after_ascii d (next - 1) c.utf8.text (omega (arith, read.1, read.2)) read.3),
-      all ∙ ap (λ s. prepend s (content plain (drop next d)))
+    let size = c.in-Some.size in
+    let character = c.in-Some.character in
+    let there = subst (λ (t : List ℕ). Unescapes after_backslash t (Some (character, size))) (rest_is c.as_bytes-bytes.result.now (stop + 1)) c.in-Some.ensures in
+    let read = subst (λ (t : List ℕ). Unescapes after_backslash (drop (stop + 1) t) (Some (character, size))) same there in
+    let back : stop + 1 + size - 1 + 1 ≡ stop + 1 + size = omega (arith, read.1) in
+    let last : stop + 1 + (size - 1) ≡ stop + 1 + size - 1 = omega (arith, read.1) in
+    let ascii : get_or d (stop + 1 + size - 1) 0 < 128 =
+    subst (λ byte. byte < 128) (get_or-drop (stop + 1) d (size - 1) 0 ∙ ap (λ k. get_or d k 0) last) read.3 in
+    let end : stop + 1 + size - 1 < length d = omega (arith, read.1, read.2, length-drop (stop + 1) d) in
+    let all = escape_more d _ (encode_utf8 character) c.args.from stop size so_far within slash read.0 in (
+      subst (IsCharBoundary d) back (IsCharBoundary-after_ascii d (stop + 1 + size - 1) c.utf8.text end ascii),
+      all ∙ ap (λ s. prepend s (content plain (drop (stop + 1 + size) d)))
           (sym (c.in_ok-push-in-Some.ensures.bytes ∙ ap (λ b. b ++ encode_utf8 c.in-Some.character) c.in_ok-push_str.ensures.bytes)),
     )

@@ -1,7 +1,8 @@
 use Rattle.yaml_json.proofs.Common.{ℕ, Bool, true, Err, List, [], ◌∷◌, ◌++◌, refl, ◌≡◌, append_assoc, append_cancel_right, subst, sym, ◌∙◌, json_tokens}
+use Rattle.json.proofs.Unique.Spelling.{value-json_tokens_back}
 use Rattle.yaml_json.proofs.Common.{Event, AddsEvents, NamesOnce, Token, WriterState}
 use Rattle.yaml_json.proofs.{Refusing.past_refused, Refusing.value_names, Stopping.kept_same, Stopping.kept_then}
-use Rattle.yaml_json.proofs.{TokenLemmas.value_given, TokenLemmas.value_spelled}
+use Rattle.yaml_json.proofs.{TokenLemmas.value_given}
 use Rattle.yaml_json.proofs.WalkCalls.{only_value}
 use Rattle.yaml_json.specs.{Walk.TextStopsWriting, WalkSteps.at, Wrote.WroteValue, declared.values.Spot.TheVariants.PastValue}
 use Rattle.yaml_json.specs.declared.values.Stop.TheVariants as stops
@@ -13,7 +14,7 @@ past_stopped : (left : List Token) (depth : ℕ) (unique flow : Bool) (start bef
     → start ≡ front ++ last ∷ left → before ≡ last ∷ left → (left ≡ [] → ⊥) → TextStopsWriting depth unique flow start before was (stops.NotJson PastValue) now
 past_stopped [] depth unique flow start before front last was now wrote once parts were more = absurd (more refl)
 past_stopped (token ∷ after) depth unique flow start before front last was now wrote once parts were more =
-    let spelled = value_spelled depth start (token ∷ after) wrote.json wrote.read in
+    let spelled = value-json_tokens_back depth start (token ∷ after) wrote.json wrote.read in
     record {
       taken = json_tokens wrote.json;
       left = token ∷ after;

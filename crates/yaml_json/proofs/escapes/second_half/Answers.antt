@@ -1,0 +1,39 @@
+use Rattle.std.proofs.Common.{◌<◌, drop, get_or, List, ℕ, ap, subst, sym, ◌∙◌, arith}
+use Rattle.std.proofs.lemmas.List.{get_or-drop}
+use Rattle.yaml_json.specs.Lexemes.{IsSecondHalf, first_unit}
+use Rattle.yaml_json.proofs.ContentSteps.{is_low, low_bounds, low_half, no_escape, no_half, no_half_unit, no_low, no_low_half, rest_is}
+use Rattle.yaml_json.proofs.escapes.second_half.Goals as goal
+
+pub returns-then-text-lt6 : goal.returns-then-text-lt6
+returns-then-text-lt6 c = (no_half c.args.text.now c.if-text-lt6.true, tt)
+
+pub returns-then-text : goal.returns-then-text
+returns-then-text c = (no_escape c.args.text.now c.if-text-lt6.false c.if-text.true, tt)
+
+pub returns-in_err-unit : goal.returns-in_err-unit
+returns-in_err-unit c =
+    let t = c.args.text.now in
+    let none = ap first_unit (sym (rest_is t 2)) ∙ sym c.in_err-unit.ensures.value in
+    subst (IsSecondHalf t) (sym c.from_residual.ensures) (no_half_unit t c.if-text-lt6.false c.if-text.false none, tt)
+
+pub returns-then-unit : goal.returns-then-unit
+returns-then-unit c =
+    let t = c.args.text.now in
+    let unit = c.in_ok-unit.unit in
+    let is = ap first_unit (sym (rest_is t 2)) ∙ sym c.in_ok-unit.ensures.value in
+    (no_low_half t c.if-text-lt6.false c.if-text.false unit is (no_low unit c.if-unit.true), tt)
+
+pub returns-else-unit : goal.returns-else-unit
+returns-else-unit c =
+    let t = c.args.text.now in
+    let unit = c.in_ok-unit.unit in
+    let is = ap first_unit (sym (rest_is t 2)) ∙ sym c.in_ok-unit.ensures.value in
+    let ascii : get_or (drop 2 t) 3 0 < 128 = subst (λ (rest : List ℕ). get_or rest 3 0 < 128) (rest_is t 2) c.in_ok-unit.ensures.bounds.2 in (
+      (λ high. (
+        low_half t c.if-text-lt6.false c.if-text.false unit is (is_low unit c.if-unit.false) high,
+        omega arith,
+        c.if-text-lt6.false,
+        subst (λ byte. byte < 128) (get_or-drop 2 t 3 0) ascii,
+      )),
+      low_bounds unit c.if-unit.false,
+    )
