@@ -40,7 +40,7 @@ fn json_and_text(alloc: Global, json: &str, text: &str) -> Result<Vec<u8>, JsonE
 /// Names a node that isn't given.
 fn name_without_node(alloc: Global) -> Result<Vec<u8>, JsonError> {
     let mut writer = Writer::new(alloc, value_settings())?;
-    writer.anchor("a")?;
+    writer.anchored("a")?;
     Ok(writer.finish()?)
 }
 
