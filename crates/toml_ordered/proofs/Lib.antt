@@ -9,6 +9,7 @@ pub mod RowsNesting
 pub mod Conflicts
 pub mod Turns
 pub mod Heads
+pub mod Marks
 pub mod Around
 pub mod Stopping
 pub mod SortedKeys

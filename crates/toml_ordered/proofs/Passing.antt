@@ -1,5 +1,5 @@
 -- A table is taken out of another, and put back.
-use Rattle.std.proofs.Common.{◌≡◌, ℕ, zero, suc, ◌<◌, length, List, [], ◌∷◌, ◌++◌, Some, None, string_bytes, option_map}
+use Rattle.std.proofs.Common.{length, List, [], ◌∷◌, ◌++◌, Some, None, string_bytes, option_map, ◌≡◌, ℕ, zero, suc, ◌<◌}
 use Rattle.std.proofs.Common.{inl, inr, refl, sym, ap, subst, ◌∙◌, arith, set, get_or, reverse}
 use Rattle.std.proofs.lemmas.List.{reverse-append}
 use Rattle.toml_ordered.proofs.KeyPlaces.{found_here, written_here}

@@ -3,15 +3,18 @@ use Rattle.std.proofs.Common.{◌≡◌, ℕ, Ordering, Less, Equal, Greater, na
 use Rattle.std.proofs.Common.{bytes_eq}
 use Rattle.std.proofs.lemmas.Bool.{cases_Bool, false≢true}
 use Rattle.std.proofs.lemmas.Cmp.{nat_list_cmp_total}
-use Rattle.std.proofs.lemmas.Map.Text.{is_eq-slice_cmp}
 use Rattle.std.proofs.lemmas.Slice.Eq.{bytes_eq-Decides}
+use Rattle.std.proofs.lemmas.Map.Text.{is_eq-slice_cmp}
 use Rattle.std.specs.Cmp.Lexicographic.{slice_cmp}
 use Rattle.std.specs.Ordering.{ordering_reverse}
 use Rattle.toml.proofs.NodeLaws.{get_node-insert, replace-insert}
 use Rattle.toml.specs.Data.{same_key}
 use Rattle.toml.specs.Tables.{Node, Nodes, no_nodes, node, get_node, insert, replace}
 
-pub cases_ordering : (o : Ordering) → (o ≡ Less) ⊎ ((o ≡ Equal) ⊎ (o ≡ Greater))
+abbrev pub IsOneOfThree : Ordering → Type 0
+IsOneOfThree o = (o ≡ Less) ⊎ ((o ≡ Equal) ⊎ (o ≡ Greater))
+
+pub cases_ordering : (o : Ordering) → IsOneOfThree o
 cases_ordering Less = inl refl
 cases_ordering Equal = inr (inl refl)
 cases_ordering Greater = inr (inr refl)

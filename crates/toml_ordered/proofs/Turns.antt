@@ -45,58 +45,69 @@ module _ (val : List ℕ → Read TomlNode) where
       → keyval val text ≡ Some ((key, x), after)
   keyval_is text key at after x named read = rw (named, read)
 
-pub val_atom : (depth : ℕ) (text : List ℕ) → (first text == 91) ≡ false → (first text == 123) ≡ false → val depth text ≡ atom text
-unfolding val
-val_atom zero text a b = rw (a, b)
-val_atom (suc depth) text a b = rw (a, b)
-
 pub val_deep : (text : List ℕ) → (first text == 91 || first text == 123) ≡ true → val 0 text ≡ None
 unfolding val
 val_deep text h = rw h
 
-pub val_array : (depth : ℕ) (text : List ℕ) → (first text == 91) ≡ true
-    → val (suc depth) text ≡ read_map array (items (val depth) (length text) no_items (drop 1 text))
-unfolding val
-val_array depth text a = rw a
+-- by the first byte
+module _ (text : List ℕ) where
+  module _ (listed : (first text == 91) ≡ true) where
+    pub val_array : (depth : ℕ) → val (suc depth) text ≡ read_map array (items (val depth) (length text) no_items (drop 1 text))
+    unfolding val
+    val_array depth = rw listed
 
-pub val_table : (depth : ℕ) (text : List ℕ) → (first text == 91) ≡ false → (first text == 123) ≡ true
-    → val (suc depth) text ≡ read_map (table Closed) (members (val depth) (length text) no_nodes (drop 1 text))
-unfolding val
-val_table depth text a b = rw (a, b)
+  module _ (unlisted : (first text == 91) ≡ false) where
+    pub val_table : (first text == 123) ≡ true → (depth : ℕ)
+        → val (suc depth) text ≡ read_map (table Closed) (members (val depth) (length text) no_nodes (drop 1 text))
+    unfolding val
+    val_table braces depth = rw (unlisted, braces)
 
-pub lines_end : (m : ℕ) (doc : TomlDocument) (text : List ℕ) → 0 < m → length (skip_blank text) ≡ 0 → lines m doc text ≡ Some doc
+    pub val_atom : (first text == 123) ≡ false → (depth : ℕ) → val depth text ≡ atom text
+    unfolding val
+    val_atom other zero = rw (unlisted, other)
+    val_atom other (suc depth) = rw (unlisted, other)
+
+-- The text is read as its rest is read after this document: there is room for more lines than the rest has bytes.
+pub record GoesOn (text : List ℕ) (doc : TomlDocument) (rest : List ℕ) : Type 0 where
+  pub room : ℕ
+  pub enough : length rest < room
+  pub same : lines (suc (length text)) (no_nodes, []) (skip_bom text) ≡ lines room doc rest
+
+abbrev lines_as : TomlDocument → List ℕ → ℕ → Option TomlDocument
+lines_as doc rest n =
+    cond (length (skip_blank rest) == 0) (Some doc)
+    (option_and_then (λ e. option_and_then (λ next. lines n next e.1) (define doc e.0)) (line (skip_blank rest)))
+
+lines_turn : (room : ℕ) (doc : TomlDocument) (rest : List ℕ) → 0 < room → lines room doc rest ≡ lines_as doc rest (room - 1)
 unfolding lines
-lines_end zero doc text some none = absurd (omega arith)
-lines_end (suc m) doc text some none = rw none
+lines_turn zero doc rest some = absurd (omega arith)
+lines_turn (suc n) doc rest some = let less : suc n - 1 ≡ n = omega arith in rw less
 
-pub lines_more : (m : ℕ) (doc next : TomlDocument) (text : List ℕ) (e : Expression) (after : List ℕ) → 0 < m → (length (skip_blank text) == 0) ≡ false
-    → line (skip_blank text) ≡ Some (e, after) → define doc e ≡ Some next → lines m doc text ≡ lines (m - 1) next after
-unfolding lines
-lines_more zero doc next text e after some other read defined = absurd (omega arith)
-lines_more (suc m) doc next text e after some other read defined =
-    let less : suc m - 1 ≡ m = omega arith in
-    rw (other, read, defined, less)
+module _ (text : List ℕ) (doc : TomlDocument) (rest : List ℕ) (on : GoesOn text doc rest) where
+  turn : lines (suc (length text)) (no_nodes, []) (skip_bom text) ≡ lines_as doc rest (on.room - 1)
+  turn = let enough = on.enough in on.same ∙ lines_turn on.room doc rest (omega (arith, enough))
 
-pub lines_bad : (m : ℕ) (doc : TomlDocument) (text : List ℕ) → 0 < m → (length (skip_blank text) == 0) ≡ false → line (skip_blank text) ≡ None
-    → lines m doc text ≡ None
-unfolding lines
-lines_bad zero doc text some other read = absurd (omega arith)
-lines_bad (suc m) doc text some other read = rw (other, read)
+  pub document_ends : length (skip_blank rest) ≡ 0 → ordered_document text ≡ Some doc.0
+  unfolding ordered_document
+  document_ends none = rw (turn, none)
 
-pub lines_again : (m : ℕ) (doc : TomlDocument) (text : List ℕ) (e : Expression) (after : List ℕ) → 0 < m → (length (skip_blank text) == 0) ≡ false
-    → line (skip_blank text) ≡ Some (e, after) → define doc e ≡ None → lines m doc text ≡ None
-unfolding lines
-lines_again zero doc text e after some other read defined = absurd (omega arith)
-lines_again (suc m) doc text e after some other read defined = rw (other, read, defined)
+  module _ (other : (length (skip_blank rest) == 0) ≡ false) where
+    pub document_stops : line (skip_blank rest) ≡ None → ordered_document text ≡ None
+    unfolding ordered_document
+    document_stops unread = rw (turn, other, unread)
 
-pub document_some : (text : List ℕ) (doc : TomlDocument) → lines (suc (length text)) (no_nodes, []) (skip_bom text) ≡ Some doc
-    → ordered_document text ≡ Some doc.0
-unfolding ordered_document
-document_some text doc read = rw read
+    module _ (e : Expression) (after : List ℕ) (read : line (skip_blank rest) ≡ Some (e, after)) where
+      pub document_refuses : define doc e ≡ None → ordered_document text ≡ None
+      unfolding ordered_document
+      document_refuses refused = rw (turn, other, read, refused)
 
-pub document_none : (text : List ℕ) → lines (suc (length text)) (no_nodes, []) (skip_bom text) ≡ None → ordered_document text ≡ None
-unfolding ordered_document
-document_none text read = rw read
+      pub document_goes_on : (next : TomlDocument) → define doc e ≡ Some next → length after < length rest → GoesOn text next after
+      document_goes_on next defined shorter =
+          let enough = on.enough in record {
+            room = on.room - 1;
+            enough = omega (arith, enough, shorter);
+            same = turn ∙ rw (other, read, defined);
+          }
 
 -- ---- keys
 
@@ -222,7 +233,7 @@ val_sealed depth text x rest read = by depth (cases_Bool (first text == 91)) (ca
         → val d text ≡ Some (x, rest) → sealed x ≡ x
     by zero (inl a) b is = absurd (some_none (sym is ∙ val_deep text (rw a)))
     by zero (inr a) (inl b) is = absurd (some_none (sym is ∙ val_deep text (rw (a, b))))
-    by (suc d) (inl a) b is = read_sealed array (λ xs. refl) (items (val d) (length text) no_items (drop 1 text)) x rest (sym (val_array d text a) ∙ is)
+    by (suc d) (inl a) b is = read_sealed array (λ xs. refl) (items (val d) (length text) no_items (drop 1 text)) x rest (sym (val_array text a d) ∙ is)
     by (suc d) (inr a) (inl b) is =
-        read_sealed (table Closed) (λ ns. refl) (members (val d) (length text) no_nodes (drop 1 text)) x rest (sym (val_table d text a b) ∙ is)
-    by d (inr a) (inr b) is = atom_sealed text x rest (sym (val_atom d text a b) ∙ is)
+        read_sealed (table Closed) (λ ns. refl) (members (val d) (length text) no_nodes (drop 1 text)) x rest (sym (val_table text a b d) ∙ is)
+    by d (inr a) (inr b) is = atom_sealed text x rest (sym (val_atom text a b d) ∙ is)

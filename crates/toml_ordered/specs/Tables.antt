@@ -1,4 +1,5 @@
--- The rules by which keys and headers define tables, as in `toml`'s `Tables`; but a new key goes behind those that are there.
+-- The rules by which keys and headers define tables (TOML 1.1, Keys, Table, Inline Table and Array of Tables). A new key comes after those
+-- that are there.
 use Rattle.std.specs.Prelude.{ℕ, List, [], ◌∷◌, ◌++◌, map, Option, Some, None, option_map, bytes_eq, if◌then◌else◌}
 use Rattle.toml_parser.specs.Strings.{Key}
 use Rattle.toml_ordered.specs.Data.{TomlNode, table, tables, TomlNodes, no_nodes, node, no_items, push_item}
@@ -11,7 +12,7 @@ abbrev pub get_node : List ℕ → TomlNodes → Option TomlNode
 get_node k no_nodes = None
 get_node k (node l x ns) = if bytes_eq k l then Some x else get_node k ns
 
--- the nodes, and a new key behind them
+-- the nodes, and a new key after them
 abbrev pub append : TomlNodes → List ℕ → TomlNode → TomlNodes
 append no_nodes k x = node k x no_nodes
 append (node l y ns) k x = node l y (append ns k x)
@@ -20,6 +21,10 @@ append (node l y ns) k x = node l y (append ns k x)
 abbrev pub replace : List ℕ → TomlNode → TomlNodes → TomlNodes
 replace k x no_nodes = no_nodes
 replace k x (node l y ns) = if bytes_eq k l then node l x ns else node l y (replace k x ns)
+
+-- the nodes with this value at a key that they have, unless the value is refused
+abbrev pub changed : List ℕ → Option TomlNode → TomlNodes → Option TomlNodes
+changed k value ns = option_map (λ y. replace k y ns) value
 
 -- a change of a table, which the rules may refuse
 abbrev pub Edit : Type 0
@@ -51,7 +56,7 @@ made_by way.Dots = Dotted
 -- the change, made in the table of a key; where that is missing, it is made
 abbrev pub at_step : Way → List ℕ → Edit → TomlNodes → Option TomlNode → Option TomlNodes
 at_step by k edit ns None = option_map (λ inner. append ns k (table (made_by by) inner)) (edit no_nodes)
-at_step by k edit ns (Some x) = option_map (λ y. replace k y ns) (passed by edit x)
+at_step by k edit ns (Some x) = changed k (passed by edit x) ns
 
 -- the change, made in the table at the end of a path
 unfoldable pub along : List (Way × List ℕ) → Edit → Edit
@@ -86,7 +91,7 @@ redefine _ _ = None
 
 abbrev pub at_found : List ℕ → Definition → TomlNodes → Option TomlNode → Option TomlNodes
 at_found k what ns None = Some (append ns k (new_node what))
-at_found k what ns (Some x) = option_map (λ y. replace k y ns) (redefine what x)
+at_found k what ns (Some x) = changed k (redefine what x) ns
 
 -- what is defined at the last part of a key
 unfoldable pub at_key : List ℕ → Definition → Edit

@@ -2,7 +2,7 @@
 ghost use Rattle.std.specs.Prelude.{◌≡◌, ◌≤◌, ◌++◌, IfErr, length};
 ghost use Rattle.toml_parser.specs.Lexical.{first};
 ghost use Rattle.toml_parser.specs.Reading.{key_view, path_view};
-ghost use Rattle.toml.specs.Parse.{skip_bom};
+ghost use Rattle.toml.specs.Parse.{ends_line, skip_bom};
 ghost use Rattle.toml_ordered.specs.Data.{node_view};
 ghost use Rattle.toml_ordered.specs.Keys.{sealed, table_view};
 ghost use Rattle.toml_ordered.specs.Firsts.{IsOther};
@@ -110,7 +110,7 @@ pub fn read_document(alloc: Global, text: &str) -> Result<Table, Fault>
         root: Table::new(alloc),
         section: Vec::new(alloc),
     };
-    let mut rest = past_mark(text);
+    let mut rest = without_mark(text);
     'lines: loop {
         let start = skip_blank(rest, true);
         if start.is_empty() {
@@ -127,29 +127,35 @@ pub fn read_document(alloc: Global, text: &str) -> Result<Table, Fault>
     }
 }
 
-/// Returns what follows the byte order mark, if any.
-fn past_mark(s: &str) -> &str
-    ensures rest { result.now ≡ skip_bom s.now }
-    ensures within { length result.now ≤ length s.now }
+/// Returns the text without the byte order mark that begins it, if one does.
+fn without_mark(text: &str) -> &str
+    ensures rest { result.now ≡ skip_bom text.now }
+    ensures within { length result.now ≤ length text.now }
 {
-    if first(s) == 0xEF && byte_at(s, 1) == 0xBB && byte_at(s, 2) == 0xBF {
-        &s[3..]
-    } else {
-        s
+    match text.strip_prefix("\u{FEFF}") {
+        Some(unmarked) => unmarked,
+        None => text,
     }
+}
+
+/// Returns whether the text is over, or goes on with a comment or a line break.
+fn is_line_end(text: &str) -> bool
+    ensures { result ≡ ends_line text.now }
+{
+    text.is_empty() || matches!(first(text), b'#' | b'\n' | b'\r')
 }
 
 /// Reads an expression that has its line to itself.
 fn line(alloc: Global, s: &str) -> Result<((Key, Definition), &str), Fault>
     ensures { ReadsExpected expression_view s.now (spec.line s.now) (ExpressionTells s.now) result }
 {
-    let (expression, rest) = match expression(alloc, s) {
+    let (found, rest) = match expression(alloc, s) {
         Ok(read) => read,
         Err(fault) => return Err(fault),
     };
     let end = skip_ws(rest);
-    if end.is_empty() || matches!(first(end), b'#' | b'\n' | b'\r') {
-        Ok((expression, rest))
+    if is_line_end(end) {
+        Ok((found, rest))
     } else {
         Err(not_toml(end))
     }

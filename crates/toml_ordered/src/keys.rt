@@ -92,7 +92,7 @@ pub struct LiveKeys<'a> {
 }
 
 impl<'a> LiveKeys<'a> {
-    /// Returns the first key, its value and the keys that follow.
+    /// Returns the first key, its value and the keys that follow; `None` if no key is left.
     pub fn split_first(self) -> Option<(&'a String, &'a Node, LiveKeys<'a>)>
         ensures { MatchOption result (live_view self.entry ≡ no_nodes)
             (λ cut. live_view self.entry ≡ node (string_bytes cut.0.now) (node_view cut.1.now) (live_view cut.2)) }

@@ -5,6 +5,7 @@ use Rattle.yaml_base.proofs.Common.{is_decimal, is_point, is_exponent_letter, pa
 use Rattle.yaml_base.proofs.Common.{meant_text, slice_split, or_from, nat_tests}
 use Rattle.yaml_base.proofs.NumberCuts.{digit_unlike, no_word_of_core}
 use Rattle.yaml_base.specs.values.Resolved.{some_if}
+use Rattle.std.proofs.lemmas.Option.{cond_some}
 use Rattle.std.proofs.lemmas.List.{Splits.slice_split_none, Sums.AllPass-from_list_all}
 use Rattle.std.specs.List.{All}
 use Rattle.std.proofs.Common.{get_or}
@@ -101,13 +102,9 @@ some_is x y e = ap (λ o. unwrap_or o x) e
 no_some : {A : Type 0} {x : A} → None ≡ Some x → ⊥
 no_some e = cc
 
-kept : {A : Type 0} (b : Bool) (x y : A) → cond b (Some x) None ≡ Some y → (b ≡ true) × (x ≡ y)
-kept true x y e = (refl, some_is x y e)
-kept false x y e = absurd (no_some e)
-
 valid_offset : (minutes : ℤ) (offset : ClockOffset) → offset_of minutes ≡ Some offset → is_zone_offset (Some offset) ≡ true
 valid_offset minutes offset e =
-    let both = kept (nat_lt (magnitude minutes) 1440)
+    let both = cond_some (nat_lt (magnitude minutes) 1440)
     (record { west = is_west minutes; hours = magnitude minutes / 60; minutes = magnitude minutes % 60 }) offset e in
     let small = both.0 in
     subst (λ (o : ClockOffset). is_zone_offset (Some o) ≡ true) both.1
@@ -118,7 +115,7 @@ valid_time_by : (time : Time) (offset : Option ClockOffset) (clock : ClockTime) 
 valid_time_by time offset clock zone e =
     let second = unwrap_or time.second 0 in
     let nanosecond = unwrap_or time.nanosecond 0 in
-    let both = kept (is_clock_reading time.hour time.minute second nanosecond) (clock_time time.hour time.minute second nanosecond offset) clock e in
+    let both = cond_some (is_clock_reading time.hour time.minute second nanosecond) (clock_time time.hour time.minute second nanosecond offset) clock e in
     subst (λ (t : ClockTime). is_clock_time t ≡ true) both.1
     (and_from (is_clock_reading time.hour time.minute second nanosecond) (is_zone_offset offset) both.0 zone)
 

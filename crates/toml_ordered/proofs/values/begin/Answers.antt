@@ -18,14 +18,14 @@ returns-in-Ok c =
     let s = c.args.s.now in
     let a : (first s == 91) ≡ false = rw (← c.first-byte.ensures) (ne_eqb c.first-byte.result 91 c.if-byte-ne91.true) in
     let b : (first s == 123) ≡ false = rw (← c.first-byte.ensures) (ne_eqb c.first-byte.result 123 c.if-byte-ne123.true) in
-    ((rw (val_atom c.args.depth s a b) c.in-Ok.ensures.0, c.in-Ok.ensures.1), c.in-Ok.ensures.1)
+    ((rw (val_atom s a b c.args.depth) c.in-Ok.ensures.0, c.in-Ok.ensures.1), c.in-Ok.ensures.1)
 
 pub returns-in-Err : goal.returns-in-Err
 returns-in-Err c =
     let s = c.args.s.now in
     let a : (first s == 91) ≡ false = rw (← c.first-byte.ensures) (ne_eqb c.first-byte.result 91 c.if-byte-ne91.true) in
     let b : (first s == 123) ≡ false = rw (← c.first-byte.ensures) (ne_eqb c.first-byte.result 123 c.if-byte-ne123.true) in
-    (λ real. rw (val_atom c.args.depth s a b) (c.in-Err.ensures.0 real), other_than _ _ c.in-Err.refused c.in-Err.ensures.1)
+    (λ real. rw (val_atom s a b c.args.depth) (c.in-Err.ensures.0 real), other_than _ _ c.in-Err.refused c.in-Err.ensures.1)
 
 pub returns-then-depth-eq0 : goal.returns-then-depth-eq0
 returns-then-depth-eq0 c =
