@@ -1,4 +1,4 @@
--- What is read of an array or a table in braces, from what is read of a value inside of it.
+-- The findings in an array or a table in braces, from those in a value inside of it.
 use Rattle.std.proofs.Common.{◌≡◌, ℕ, suc, ◌+◌, ◌==◌, ◌-◌, ◌<◌, ◌≤◌, true, false, List, [], ◌∷◌, ◌++◌, drop, length, Some, None, Result, Ok, Err}
 use Rattle.std.specs.Borrow.{Bor}
 use Rattle.std.proofs.Common.{refl, sym, ap, subst, ◌∙◌, inl, inr, arith}
@@ -148,7 +148,7 @@ module _ (depth : ℕ) (text : List ℕ) (found : CodeTable) (rest : List ℕ) (
                     (keyval_is (val depth) (skip_blank rest) key at after x named read) defined element;
               }
 
--- what `next_pair` reads, at the beginning of a table in braces, and behind a pair
+-- the finding of `next_pair`, at the beginning of a table in braces, and after a pair
 pub pair_begins : (depth less : ℕ) (text from : List ℕ) (found : CodeTable) (r : Result (Found × Bor (List ℕ)) Fault) → suc less ≡ depth
     → BracesUpTo less text found from → length from < length text → NextPair found from r → FindsHere depth text r
 pair_begins depth less text from found (Ok p) is known shorter next =
@@ -190,7 +190,7 @@ inside_refused depth text (Braces found) at fault (rest, known, other, named, is
       )) refused.1),
 )
 
--- what is open, from the outermost on, begins the text, and here begins the value inside of all, which may nest so deep
+-- The open arrays and tables, from the outermost on, begin the text, and the value inside of all begins here and may nest so deep.
 abbrev pub Stands : List Open → (depth : ℕ) (text : List ℕ) → (inner : ℕ) (at : List ℕ) → Type 0
 Stands [] depth text inner at = (depth ≡ inner) × (text ≡ at)
 Stands (outer ∷ others) depth text inner at =
@@ -218,7 +218,7 @@ stands_pop (outer ∷ others) depth text inner at innermost (less, next, is, ins
     let (from, more, innermost_is) = stands_pop others less next inner at innermost stands in
     (from, (less, next, is, inside, more), innermost_is)
 
--- what is found there opens
+-- another array or table opens there
 pub stands_opened : (opened pushed : List Open) (depth : ℕ) (text : List ℕ) (inner : ℕ) (at : List ℕ) (found : Found) (innermost : Open) (rest : List ℕ)
     → Stands opened depth text inner at → IsFoundHere inner at found rest → found ≡ Opened innermost → pushed ≡ opened ++ innermost ∷ []
     → (count : ℕ) → count ≡ length pushed → (count ≤ depth) × Stands pushed depth text (depth - count) rest
@@ -230,7 +230,7 @@ stands_opened opened pushed depth text inner at found innermost rest stands is_f
     let same : less ≡ depth - count = omega (arith, whole, counts) in
     (omega (arith, whole, counts), subst (λ (n : ℕ). Stands pushed depth text n rest) same more)
 
--- it is a value, in what is innermost
+-- it is a value, in the innermost of those
 pub stands_closed : (opened popped : List Open) (depth : ℕ) (text : List ℕ) (inner : ℕ) (at : List ℕ) (found : Found) (node : Node) (rest : List ℕ)
     (innermost : Open) → Stands opened depth text inner at → IsFoundHere inner at found rest → found ≡ Value node → opened ≡ popped ++ innermost ∷ []
     → (from : List ℕ) × Stands popped depth text (suc inner) from × IsNextInside inner from innermost at × IsValueRead inner at node rest

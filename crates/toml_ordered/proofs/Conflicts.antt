@@ -1,4 +1,4 @@
--- Keys that are defined again: what is known of the keys so far.
+-- Keys that are defined again, and the knowledge of the keys so far.
 use Rattle.std.proofs.Common.{Some, suc, ◌≡◌, ℕ, ◌<◌, ◌≤◌, List, length, min, string_bytes, None, sym, subst, ◌∙◌, inl, inr, arith}
 use Rattle.toml_parser.specs.Lexical.{right_brace, skip_blank}
 use Rattle.toml_parser.specs.Strings.{Key}
@@ -86,7 +86,7 @@ pairs_conflict depth text rest found name here old (fault.DefinedAgain key first
     other : fault.DefinedAgain key first second ≡ fault.Memory → ⊥
     other m = cc
 
--- why what ends the text isn't read
+-- the reasons why an ending of the text isn't read
 pub reason_in : (text middle : List ℕ) (refused : Fault) (inner outer : ℕ → Type 0) → EndsWith text middle → ((left : ℕ) → inner left → outer left)
     → FaultTells refused (PairsConflict middle) inner → FaultTells refused (PairsConflict text) outer
 reason_in text middle fault.Memory inner outer ends out pairs = tt

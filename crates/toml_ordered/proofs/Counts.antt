@@ -1,4 +1,4 @@
--- How many values there are in what a drop has in hand, and that each turn of its loop goes on.
+-- The number of values that a drop has in hand, and that each turn of its loop goes on.
 use Rattle.std.proofs.Common.{List, [], ◌∷◌, ◌++◌, map, sum_by, length, set, get_or, Result, Ok, Err, ◌≡◌, ℕ, zero, suc, ◌+◌, ◌-◌, ◌*◌, ◌<◌, ◌≤◌}
 use Rattle.std.proofs.Common.{Option, Some, None, Vec, vec_len, Global, refl, ap, subst, sym, ◌∙◌, arith, rules}
 use Rattle.std.proofs.Math.Nat.{mul-suc, suc-mul}
@@ -10,7 +10,7 @@ use Rattle.toml_ordered.specs.declared.tree.Node.{Node, Array, Table, Tables, th
 use Rattle.toml_ordered.specs.declared.tree.Origin.{Origin}
 use Rattle.toml_ordered.specs.declared.tree.Table.{Table as CodeTable}
 
--- of so many values in all, and so many of them in what is entered next: a turn enters one inside, or fewer are left
+-- Of so many values in all, and so many of them in the value that is entered next: a turn enters one inside, or fewer are left.
 abbrev pub turns : (all hand : ℕ) → ℕ
 turns all hand = hand + all * all
 

@@ -1,4 +1,4 @@
--- What an expression, or a pair of a table in braces, defines, by what is defined along a route.
+-- The definition of an expression, or of a pair of a table in braces, by the one along a route.
 use Rattle.std.proofs.Common.{◌≡◌, ℕ, List, [], ◌∷◌, ◌++◌, map, Option, Result, Ok, Err, option_map, refl, sym, ap, subst, ◌∙◌}
 use Rattle.std.proofs.lemmas.List.{append_assoc}
 use Rattle.std.specs.Result.{IfErr, IfOk}
@@ -16,7 +16,7 @@ use Rattle.toml_ordered.specs.declared.tables.Definition as code
 use Rattle.toml_ordered.specs.declared.tables.Definition.TheVariants.{Table, Tables, Value}
 use Rattle.toml_ordered.specs.declared.tree.Node.{Node}
 
--- what is defined, by what is read, where the keys are first defined, and what is refused
+-- the definition, the places of first definitions, and the refusal
 pub defines : {A : Type 0} (expected : Option A) (new : A) (whole : List (List ℕ)) (here : ℕ) (from to : CodeTable) (r : Result (Unit {0}) Fault)
     → ParsesTo (λ _. new) r expected → IfOk r (λ _. AddsFirsts whole here (table_view from) (table_firsts from) (table_firsts to))
     → IfErr r (IsAgain whole here (table_firsts from)) → Defines expected new whole here from to r
@@ -32,7 +32,7 @@ along_route from to here last what header dots r =
     subst (λ (path : List (List ℕ)). Defines (along (steps_along header dots) (at_key last what) (table_view from)) (table_view to) path here from to r)
     (ap (λ (path : List (List ℕ)). path ++ last ∷ []) (path_steps header dots) ∙ append_assoc header dots (last ∷ []))
 
--- what is defined in the root table
+-- the definition in the root table
 pub in_document : {A B : Type 0} (f : A → B) (expected : Option A) (new : A) (whole : List (List ℕ)) (here : ℕ) (from to : CodeTable)
     (r : Result (Unit {0}) Fault) → Defines expected new whole here from to r → Defines (option_map f expected) (f new) whole here from to r
 in_document f expected new whole here from to (Ok u) defines = (ap (option_map f) defines.0, defines.1)

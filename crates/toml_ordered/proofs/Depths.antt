@@ -26,7 +26,7 @@ pub more_items : (depth count : ℕ) (text rest : List ℕ) (x : TomlNode) (afte
     → val depth (skip_blank rest) ≡ Some (x, after) → after_element right_bracket after ≡ Some next → after_items depth (suc count) text ≡ Some next
 more_items depth count text rest x after next reads read element = rw (reads, read, element)
 
--- ---- where they are
+-- ---- their places
 
 pub nests_here : (depth : ℕ) (text : List ℕ) (found : Fault) (again : List ℕ → ℕ → ℕ → Type 0) → depth ≡ 0 → (first text ≡ 91) ⊎ (first text ≡ 123)
     → found ≡ fault.TooDeep (length text) → FaultTells found again (λ left. NestsPast depth left text)
@@ -34,7 +34,7 @@ nests_here depth text found again none opening is =
     subst (λ (f : Fault). FaultTells f again (λ left. NestsPast depth left text)) (sym is)
     (subst (λ (n : ℕ). NestsPast n (length text) text) (sym none) (opening, refl))
 
--- what is left there is left of the text
+-- the rest there is an ending of the text
 nests_within : (depth left : ℕ) (text : List ℕ) → NestsPast depth left text → left ≤ length text
 nests_within zero left text deep = let here = deep.1 in omega (arith, here)
 nests_within (suc depth) left text (inl deep) =

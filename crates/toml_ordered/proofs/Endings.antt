@@ -1,4 +1,4 @@
--- What a reader leaves is an ending of the text.
+-- The rest that a reader leaves is an ending of the text.
 use Rattle.std.proofs.Common.{◌≡◌, ℕ, zero, suc, ◌&&◌, ◌||◌, ◌==◌, Bool, true, false, cond, List, [], ◌∷◌, ◌++◌, length, take, drop, slice_index}
 use Rattle.std.proofs.Common.{Option, Some, None, option_map, refl, sym, ap, ◌∙◌}
 use Rattle.std.proofs.lemmas.List.{append_assoc, take-append-drop}
@@ -30,7 +30,7 @@ ends_drop n text = (take n text, sym (take-append-drop n text))
 ends_behind : (c : ℕ) (text end : List ℕ) → EndsWith text end → EndsWith (c ∷ text) end
 ends_behind c text end ends = (c ∷ ends.0, ap (λ (rest : List ℕ). c ∷ rest) ends.1)
 
--- of what was read
+-- after a value that was read
 abbrev pub LeavesEnd : {A : Type 0} → List ℕ → Read A → Type 0
 LeavesEnd text None = Unit {0}
 LeavesEnd text (Some r) = EndsWith text r.1
@@ -241,7 +241,7 @@ module _ (val : List ℕ → Read TomlNode) (leaves : (text : List ℕ) → Leav
       leaves_then text (key_equals text) _ (key_equals_ends text)
       (λ k. leaves_map k.1 (val k.1) (λ x. ((k.0, x.0), x.1)) (leaves k.1) (λ x. ends_self x.1))
 
-  -- what follows an element, and comes to an end
+  -- the reader of the text after an element
   past_element : {A : Type 0} (closing : ℕ) (text : List ℕ) (next : List ℕ → Read A) → ((t : List ℕ) → LeavesEnd t (next t))
       → (o : Option (List ℕ)) → after_element closing text ≡ o → LeavesEnd text (option_and_then next o)
   past_element closing text next ends None is = tt

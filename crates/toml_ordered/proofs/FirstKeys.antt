@@ -1,4 +1,4 @@
--- Where the keys of a table were first defined, before and after a definition.
+-- The places at which the keys of a table were first defined, before and after a definition.
 use Rattle.std.proofs.Common.{◌≡◌, ℕ, zero, suc, List, [], ◌∷◌, ◌++◌, map, Some, None, String, Vec, Global, string_bytes, refl, sym, ap, subst, ◌∙◌, inl, inr}
 use Rattle.std.proofs.Common.{◌⊎◌, rules, set, get_or, Result}
 use Rattle.std.proofs.lemmas.Result.{IfOk-weaker, IfErr-weaker}
@@ -89,7 +89,7 @@ of_written k (suc at) (e ∷ es) d w has name place (step ∷ path) key left (in
       | inr new ↦ inr new
     ]
 
--- a key's own place, and what is inside of it
+-- a key's own place, and the keys inside of it
 pub has_own : (k : List ℕ) (at : ℕ) (es : List Entry) (d : Entry) → HasKey k at es → HasFirst (keys_firsts es) [] k (get_or es at d).2
 has_own k at [] d has = absurd has
 has_own k zero (e ∷ es) d has = inl ((bytes_eq-Decides k (string_bytes e.0)).0 has, refl)
@@ -116,7 +116,7 @@ new_behind : (k : List ℕ) (whole : Path) (ns inner : TomlNodes) (path : Path) 
 new_behind k whole ns inner path key is new =
     (passes_behind k whole path key new.0, ap (λ (keys : TomlNodes). get_node key (keys_at path keys)) is ∙ new.1)
 
--- what is defined inside of a key that is there
+-- a definition inside of a key that is there
 pub adds_inside : (k : List ℕ) (whole : Path) (here : ℕ) (ns : TomlNodes) (x : TomlNode) (at : ℕ) (es : List Entry) (e w : Entry)
     → get_node k ns ≡ Some x → HasKey k at es → get_or es at e ≡ e → IsSameKey e w
     → AddsFirsts whole here (keys_in (Some x)) (node_firsts e.1) (node_firsts w.1)
@@ -141,7 +141,7 @@ adds_inside k whole here ns x at es e w found has is_e same inner path key left 
           ]
     ]
 
--- a key that is missing, and what is defined inside of it
+-- a key that is missing, and a definition inside of it
 pub adds_missing : (k : List ℕ) (whole : Path) (here : ℕ) (ns : TomlNodes) (es after : List Entry) (w : Entry) → string_bytes w.0 ≡ k → w.2 ≡ here
     → get_node k ns ≡ None → AddsFirsts whole here no_nodes no_firsts (node_firsts w.1) → after ≡ es ++ w ∷ []
     → AddsFirsts (k ∷ whole) here ns (keys_firsts es) (keys_firsts after)
@@ -164,7 +164,7 @@ adds_missing k whole here ns es after w name place none inner is path key left f
     ]
     by (step ∷ p) (inr other) = absurd other
 
--- what is no first defines none
+-- no first definition adds none
 pub adds_none : (whole : Path) (here : ℕ) (ns : TomlNodes) (inner : Firsts) → inner ≡ no_firsts → AddsFirsts whole here ns no_firsts inner
 adds_none whole here ns inner is path key left first = absurd (subst (λ (f : Firsts). HasFirst f path key left) is first)
 
@@ -186,7 +186,7 @@ again_nothing whole all here old (fault.NotToml left) again = tt
 again_nothing whole all here old (fault.TooDeep left) again = again
 again_nothing whole all here old (fault.DefinedAgain key first second) again = absurd again.2
 
--- the key itself, which stands at the beginning of the whole path
+-- the key itself, at the beginning of the whole path
 pub again_here : (k : List ℕ) (rest : Path) (here : ℕ) (at : ℕ) (es : List Entry) (e : Entry) (found : Fault) → HasKey k at es
     → get_or es at e ≡ e → IsPassed (string_bytes e.0) e.2 here found → IsAgain (k ∷ rest) here (keys_firsts es) found
 again_here k rest here at es e fault.Memory has is_e passed = tt
@@ -216,7 +216,7 @@ again_inside k whole here at es e (fault.DefinedAgain key first second) has is_e
   passes_behind k whole again.1 (string_bytes key) again.3,
 )
 
--- what an edit in the value of a key adds, or finds to be defined again
+-- the first definitions that an edit in the value of a key adds, or the key that it finds to be defined again
 module _ (all : Path) (k : List ℕ) (whole : Path) (here at : ℕ) (es : List Entry) (e : Entry) (r : Result (Unit {0}) Fault) where
   pub adds_along : (ns : TomlNodes) (x : TomlNode) (w : Entry) → all ≡ k ∷ whole → get_node k ns ≡ Some x → HasKey k at es → get_or es at e ≡ e → IsSameKey e w
       → IfOk r (λ _. AddsFirsts whole here (keys_in (Some x)) (node_firsts e.1) (node_firsts w.1))

@@ -1,4 +1,4 @@
--- What begins a value, an expression or a line: strings, scalars, keys and headers.
+-- The beginnings of values, expressions and lines: strings, scalars, keys and headers.
 use Rattle.std.proofs.Common.{◌≡◌, ◌⊎◌, inl, inr, ℕ, ◌==◌, Bool, true, false, List, drop, slice_index, Option, Some, None, Result, Ok, Err, refl, sym, subst}
 use Rattle.std.proofs.Common.{String, Global, string_bytes, rules, arith, option_and_then, option_map, ◌∙◌}
 use Rattle.std.proofs.lemmas.Bool.{eq-eqb, ne_eqb}
@@ -30,7 +30,7 @@ no_token error found expected is none = subst (IsGrammarRefusal expected IsOther
     by parse.OutOfMemory refused = (λ real. absurd (real refl), tt)
     by (parse.At kind from to) refused = (λ real. refused (λ m. cc), tt)
 
--- and what is read besides, of which more is told
+-- a reader that tells more
 pub reads_tells : {A B : Type 0} (f : A → B) (text : List ℕ) (expected : Read B) (again : List ℕ → ℕ → ℕ → Type 0) (deep : ℕ → Type 0)
     → (r : Result (A × Bor (List ℕ)) Fault) → ReadsExpected f text expected IsOther r → ReadsExpected f text expected (λ found. FaultTells found again deep) r
 reads_tells f text expected again deep (Ok p) read = read
@@ -46,7 +46,7 @@ pub no_text : {B : Type 0} (left : ℕ) (found : Fault) (expected : Option B) �
     → IsGrammarRefusal expected IsOther found
 no_text left found expected is none = subst (IsGrammarRefusal expected IsOther) (sym is) (λ real. none, tt)
 
--- the byte behind the blanks, which closes an array or a table in braces, or not
+-- the byte after the blanks, which closes an array or a table in braces, or not
 module _ (closing : ℕ) (text start : List ℕ) (blank : start ≡ skip_blank text) (byte : ℕ) (here : byte ≡ first start) where
   pub closes : byte ≡ closing → (first (skip_blank text) == closing) ≡ true
   closes is = rw (← blank, ← here) (eq-eqb byte closing is)
@@ -75,7 +75,7 @@ module _ (text : List ℕ) (flag : Bool) (starts : flag ≡ starts_string text) 
   scalar_bad other read = let begins : starts_string text ≡ false = rw (← starts) other in rw (begins, read)
 
 -- keys
--- a key that was read, past the blanks behind it
+-- a key that was read, past the blanks after it
 abbrev pub past_blanks : Key × List ℕ → Key × List ℕ
 past_blanks k = (k.0, skip_ws k.1)
 

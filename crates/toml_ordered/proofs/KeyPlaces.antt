@@ -1,4 +1,4 @@
--- The keys of a table and their index beside the keys and values that they stand for.
+-- The keys of a table and their index beside the keys and values as contracts see them.
 use Rattle.std.proofs.Common.{◌≡◌, ℕ, zero, suc, ◌+◌, ◌<◌, ◌≤◌, ◌==◌, true, false, Bool, List, [], ◌∷◌, ◌++◌, length, drop, drop-cons, Option, Some, None, cond}
 use Rattle.std.proofs.Common.{string_bytes, bytes_eq, refl, sym, ap, subst, ◌∙◌}
 use Rattle.std.proofs.Common.{inl, inr, arith, set, get_or}
@@ -137,7 +137,7 @@ written_at k at es d w index has same =
     let start : at ≡ 0 + at = omega arith in
     written_from index k 0 at es d w (has.0 ∙ ap (λ (m : ℕ). Some m) start) has.1 same
 
--- the same of the value that stands there
+-- the same of the value that is there
 pub found_here : (k : List ℕ) (at : ℕ) (es : List Entry) (e : Entry) (index : Places) → IsIndexedAt k at es index → get_or es at e ≡ e
     → get_node k (keys_view es index) ≡ Some (node_view e.1)
 found_here k at es e index has is = found_at k at es e index has ∙ ap (λ (x : Entry). Some (node_view x.1)) is

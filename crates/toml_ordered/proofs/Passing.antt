@@ -40,7 +40,7 @@ with_value_at-last : (x : CodeNode) (es : List Entry) (w : Entry) → with_value
 with_value_at-last x [] w = refl
 with_value_at-last x (e ∷ es) w = ap (λ (ds : List Entry). e ∷ ds) (with_value_at-last x es w)
 
--- ---- what holds a table
+-- ---- the holder of a table
 
 -- the table in a value that lets a key pass
 pub opened : (by : Way) (origin after : Origin) (t : CodeTable) (x : CodeNode) → x ≡ Table origin t
@@ -85,7 +85,7 @@ module _ (by : Way) (k : List ℕ) (rest : List (Way × List ℕ)) (left at : �
     again = λ key. again_here k (keys_of rest ++ key ∷ []) left at outer.keys.items e fault has.1 is own;
   }
 
-  -- w stands in its place, once the table inside is taken out
+  -- w is in its place after the table inside is taken out
   module _ (w : Entry) (h : Holder) (inner t : CodeTable) (same : IsSameKey e w) (opened : IsOpened by e.1 h inner)
       (keys : t.keys.items ≡ set outer.keys.items at w) (index : t.index ≡ outer.index) where
     abbrev now : CodeTable → Entry
@@ -128,7 +128,7 @@ module _ (by : Way) (k : List ℕ) (rest : List (Way × List ℕ)) (left at : �
           (subst (λ (f : Firsts). IsAgain (keys_of rest ++ key ∷ []) left f fault) (sym opened.2) again);
     }
 
--- a key that is missing, and is put behind the others with some value
+-- a key that is missing, and is put after the others with some value
 module _ (by : Way) (rest : List (Way × List ℕ)) (left at : ℕ) (outer inner t : CodeTable) (w : Entry) (origin : Origin) where
   abbrev made : CodeTable → Entry
   made new = (w.0, held (holder.Table origin) new, w.2)

@@ -5,11 +5,11 @@ use Rattle.toml.specs.Parse.{after_element}
 use Rattle.toml_ordered.specs.Grammar.{items, val}
 use Rattle.toml_ordered.specs.Nesting.{NestsPast, after_items}
 
--- []: an array, where none may be
+-- []: an array at a depth at which none is allowed
 array : NestsPast 0 2 (codes "[]")
 array = (inl refl, refl)
 
--- it begins where it does
+-- it begins at no other place
 elsewhere : NestsPast 0 1 (codes "[]") → ⊥
 elsewhere nests = cc
 
@@ -18,7 +18,7 @@ table : NestsPast 1 1 (codes "[ {")
 unfolding skip_from
 table = inl (refl, (codes "{", record { rest = codes " {"; ends = ([], refl); count = 0; read = refl; here = refl }, (inr refl, refl)))
 
--- [], {: behind an item
+-- [], {: after an item
 behind : after_items 1 1 (codes "[], {") ≡ Some (codes " {")
 unfolding val items after_element skip_from
 behind = refl

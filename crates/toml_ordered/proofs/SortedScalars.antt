@@ -20,7 +20,7 @@ use Rattle.toml_ordered.specs.Grammar.{plain_word, without_sign, float_node, sca
 use Rattle.toml_ordered.specs.Sorted.{float_in, sorted_value}
 use Rattle.toml_ordered.proofs.SortedTables.{IsComplete}
 
--- ---- what is complete
+-- ---- complete values
 
 complete_float : (word : List ℕ) → IsComplete (float_node word)
 complete_float word = by (bytes_eq (without_sign word) (codes "inf")) (bytes_eq (without_sign word) (codes "nan"))

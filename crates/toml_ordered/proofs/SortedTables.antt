@@ -16,7 +16,7 @@ use Rattle.toml_ordered.specs.declared.tree.Origin.{Origin}
 use Rattle.toml_ordered.specs.declared.tree.Origin.TheVariants.{Implicit, Dotted, Header, Closed}
 use Rattle.toml_ordered.proofs.SortedKeys.{swap, found_past, replaced_past, found_same, replaced_same}
 
--- ---- what `toml` holds while it reads
+-- ---- the tables of `toml` while it reads
 
 abbrev pub seen_table : Origin → t.Nodes → t.Node
 seen_table Implicit ns = t.open_table t.implicit ns

@@ -1,4 +1,4 @@
--- What a text writes, with the keys in order of definition and with the keys sorted: each part of the grammar reads the same.
+-- The document of a text, with the keys in order of definition and with the keys sorted: each part of the grammar reads the same.
 use Rattle.std.proofs.Common.{◌≡◌, ℕ, zero, suc, Bool, true, false, cond, ◌&&◌, ◌||◌, ◌==◌, List, [], length, take, drop, slice_index, Option, Some, None}
 use Rattle.std.proofs.Common.{option_map, option_and_then, refl, sym, ap, subst, ◌∙◌}
 use Rattle.toml_parser.specs.Lexical.{Read, first, skip_ws, skip_blank}
@@ -57,7 +57,7 @@ abbrev value_or : TomlNode → Option (TomlNode × List ℕ) → TomlNode
 value_or d None = d
 value_or d (Some r) = r.0
 
--- what is complete however it is read
+-- values that are complete however they are read
 made_complete : {A : Type 0} (make : A → TomlNode) → ((a : A) → IsComplete (make a)) → (o : Read A) (x : TomlNode) (rest : List ℕ)
     → read_map make o ≡ Some (x, rest) → IsComplete x
 made_complete make each None x rest e = absurd (no_some e)

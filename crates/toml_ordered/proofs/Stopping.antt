@@ -1,4 +1,4 @@
--- Where a text is refused.
+-- The places at which a text is refused.
 use Rattle.std.proofs.Common.{◌≡◌, ℕ, ◌≤◌, List, min, sym, subst, arith}
 use Rattle.toml_ordered.specs.Places.{FaultIsPlaced, StopsAtExpression, moved_to, moved_within}
 use Rattle.toml_ordered.specs.Reading.{IsMemory}

@@ -1,4 +1,4 @@
--- A value beside what it stands for.
+-- A value beside the one that contracts see.
 use Rattle.std.proofs.Common.{◌≡◌, ℕ, List, [], ◌∷◌, ◌++◌, String, Vec, BTreeMap, Global, refl, ap, rules}
 use Rattle.toml_ordered.specs.declared.tree.holder.Holder.{Holder}
 use Rattle.toml_ordered.specs.declared.tree.holder.Holder.TheVariants as holder

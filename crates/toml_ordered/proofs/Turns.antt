@@ -160,7 +160,7 @@ abbrev read_or : List ℕ → Option (Scalar × List ℕ) → List ℕ
 read_or d None = d
 read_or d (Some r) = r.1
 
--- what follows a word is what is left of the text
+-- the text after a word is the rest of the text
 rest_is : (s : List ℕ) (d : Scalar) (rest : List ℕ) → unquoted s ≡ Some (d, rest) → rest ≡ drop (word_len s) s
 unfolding unquoted
 rest_is s d rest = by (word_len s == 0) (word_value (take (word_len s) s))

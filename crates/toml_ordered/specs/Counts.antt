@@ -1,11 +1,11 @@
--- How many values a value holds, itself among them.
+-- The number of values in a value, itself among them.
 use Rattle.std.specs.Prelude.{◌≡◌, ℕ, suc, ◌+◌, ◌≤◌, ◌<◌, List, [], MatchOption, MatchResult, Option, Result, String, sum_by, sum}
 use Rattle.std.specs.declared.alloc.Global.{Global}
 use Rattle.toml_ordered.specs.declared.tree.Node.{Node, fold-Node}
 use Rattle.toml_ordered.specs.declared.tree.Node.TheOpen.{Node-F, Table-F}
 use Rattle.toml_ordered.specs.declared.tree.Table.{Table}
 
--- one level of a table, which itself isn't counted, and of a value, with what is inside counted already
+-- One level of a table, which itself isn't counted, and of a value, given the counts of the values inside.
 abbrev pub count_keys : Table-F ℕ ℕ → ℕ
 count_keys t = sum_by (λ e. e.1) t.keys.items
 
@@ -30,7 +30,7 @@ member_count m = node_count m.1
 abbrev pub table_count : Table → ℕ
 table_count t = sum_by member_count t.keys.items
 
--- of an array of tables, and the last behind them
+-- of an array of tables, the last of which is apart
 abbrev pub tables_count : List Node → Table → ℕ
 tables_count done last = suc (sum_by node_count done + table_count last)
 
@@ -44,7 +44,7 @@ IsExchanged counts count old new other result = MatchResult result
 abbrev pub IsPopped : {E X : Type 0} (counts : E → ℕ) (count : X → ℕ) (old new : List E) → Option X → Type 0
 IsPopped counts count old new result = MatchOption result ((old ≡ []) × (new ≡ [])) (λ inner. sum_by counts new + count inner ≡ sum_by counts old)
 
--- Of so many values, one inside is taken out, and another put into its place; where there is none inside, there is one in all.
+-- Of so many values, one inside is taken out, and another put into its place; if there is none inside, there is one in all.
 abbrev pub IsEntered : {X : Type 0} (count : X → ℕ) (old new : ℕ) → X → Result X X → Type 0
 IsEntered count old new other result = MatchResult result
     (λ inner. (new + count inner ≡ old + count other) × (count inner < old))

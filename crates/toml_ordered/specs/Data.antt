@@ -1,4 +1,4 @@
--- What a document holds, the keys of each table in the order in which they are first defined.
+-- The values of a document, the keys of each table in the order in which they are first defined.
 use Rattle.std.specs.Prelude.{ℕ, ℤ, suc, ◌==◌, Bool, true, false, List, [], ◌∷◌, map, String, string_bytes, Option, Some, None}
 use Rattle.std.specs.BTreeMap.{BTreeMap, get_by_text}
 use Rattle.std.specs.declared.alloc.Global.{Global}
@@ -50,12 +50,12 @@ abbrev pub kept : Bool → List ℕ → TomlNode → TomlNodes → TomlNodes
 kept true k x ns = node k x ns
 kept false k x ns = ns
 
--- the keys that stand where the index says, from this place on; the others count for nothing
+-- the keys that are at the places of the index, from this place on; the others count for nothing
 abbrev pub nodes_from : BTreeMap (String Global) ℕ → ℕ → List (String Global × TomlNode × ℕ) → TomlNodes
 nodes_from index at [] = no_nodes
 nodes_from index at (m ∷ ms) = kept (is_place (get_by_text index (string_bytes m.0)) at) (string_bytes m.0) m.1 (nodes_from index (suc at) ms)
 
--- one level of a table and of a value, with what is inside seen already
+-- one level of a table and of a value, given the values inside
 abbrev pub table_level : Table-F TomlNode TomlNodes → TomlNodes
 table_level t = nodes_from t.index 0 t.keys.items
 
@@ -71,7 +71,7 @@ node_level (Node-F.Array v) = array (items_of v.items)
 node_level (Node-F.Table origin keys) = table origin keys
 node_level (Node-F.Tables done last) = tables (items_of done.items) last
 
--- what contracts see of a value
+-- a value as contracts see it
 abbrev pub node_view : CodeNode → TomlNode
 node_view = fold-Node TomlNode TomlNodes node_level table_level
 

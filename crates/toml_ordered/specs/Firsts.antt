@@ -1,4 +1,4 @@
--- Where the keys of a table were first defined. A place is how much of the text was left there.
+-- The places at which the keys of a table were first defined. A place is the number of bytes of the text that were left there.
 use Rattle.std.specs.Prelude.{◌≡◌, ◌⊎◌, ℕ, List, [], ◌∷◌, ◌++◌, map, String, string_bytes, Option, Some, None}
 use Rattle.std.specs.declared.alloc.Global.{Global}
 use Rattle.toml_ordered.specs.Data.{TomlNode, table, tables, TomlNodes, no_nodes}
@@ -21,12 +21,12 @@ HasFirst no_firsts path key left = ⊥
 HasFirst (first_of k l inner others) [] key left = ((key ≡ k) × (left ≡ l)) ⊎ HasFirst others [] key left
 HasFirst (first_of k l inner others) (step ∷ path) key left = ((step ≡ k) × HasFirst inner path key left) ⊎ HasFirst others (step ∷ path) key left
 
--- keys with what is inside of them, and their places
+-- keys with the keys inside of them, and their places
 abbrev pub firsts_of : List (String Global × Firsts × ℕ) → Firsts
 firsts_of [] = no_firsts
 firsts_of (m ∷ ms) = first_of (string_bytes m.0) m.2 m.1 (firsts_of ms)
 
--- one level of a table and of a value, with what is inside; no key can be defined in what takes no more
+-- One level of a table and of a value, given the keys inside. A value that takes no more has none: no key is defined in it again.
 abbrev pub table_firsts_level : Table-F Firsts Firsts → Firsts
 table_firsts_level t = firsts_of t.keys.items
 
@@ -61,24 +61,24 @@ keys_at (step ∷ path) keys = keys_at path (keys_in (get_node step keys))
 abbrev pub PassesKey : (whole path : List (List ℕ)) → (key : List ℕ) → Type 0
 PassesKey whole path key = (more : List (List ℕ)) × (whole ≡ path ++ key ∷ more)
 
--- what is defined along the whole path is the first to define the key: nothing stood there
+-- True if a definition along the whole path is the first to define the key: the key was missing.
 abbrev pub IsNewKey : (whole : List (List ℕ)) → (keys : TomlNodes) → (path : List (List ℕ)) → (key : List ℕ) → Type 0
 IsNewKey whole keys path key = PassesKey whole path key × (get_node key (keys_at path keys) ≡ None)
 
--- after a definition along the whole path, here: what is first defined was so before, or is new and first defined here
+-- After a definition along the whole path, here: each first definition is one from before, or is new and is here.
 abbrev pub AddsFirsts : (whole : List (List ℕ)) → (here : ℕ) → (keys : TomlNodes) → (old new : Firsts) → Type 0
 AddsFirsts whole here keys old new =
     (path : List (List ℕ)) (key : List ℕ) (left : ℕ) → HasFirst new path key left
     → HasFirst old path key left ⊎ ((left ≡ here) × IsNewKey whole keys path key)
 
--- of a fault that a key is defined again, or that a value nests too deep
+-- The statement of a fault: `again` of a key that is defined again, `deep` of a value that nests too deep. Any other fault states nothing.
 abbrev pub FaultTells : Fault → (again : List ℕ → (first second : ℕ) → Type 0) → (deep : (left : ℕ) → Type 0) → Type 0
 FaultTells fault.Memory again deep = Unit {0}
 FaultTells (fault.NotToml left) again deep = Unit {0}
 FaultTells (fault.TooDeep left) again deep = deep left
 FaultTells (fault.DefinedAgain key first second) again deep = again (string_bytes key) first second
 
--- of a fault that a key is defined again; nothing nests too deep
+-- the same of a fault that a key is defined again; none that a value nests too deep
 abbrev pub IfAgain : Fault → (List ℕ → (first second : ℕ) → Type 0) → Type 0
 IfAgain found holds = FaultTells found holds (λ _. ⊥)
 

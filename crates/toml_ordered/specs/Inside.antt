@@ -1,4 +1,4 @@
--- What is known of an array or a table in braces while a value inside of it is read.
+-- The state of an array or a table in braces while a value inside of it is read.
 use Rattle.std.specs.Prelude.{◌≡◌, ℕ, suc, ◌==◌, false, ◌<◌, ◌≤◌, List, drop, length, Result, MatchResult, Some}
 use Rattle.std.specs.Borrow.{Bor}
 use Rattle.toml_parser.specs.Lexical.{first, left_brace, left_bracket, right_brace, right_bracket, skip_blank}
@@ -20,7 +20,7 @@ use Rattle.toml_ordered.specs.declared.values.Found.TheVariants.{Opened, Value}
 use Rattle.toml_ordered.specs.declared.values.Open.{Open}
 use Rattle.toml_ordered.specs.declared.values.Open.TheVariants.{Array, Braces}
 
--- an array begins the text, and its first items are read, up to the rest; the text is read as the array of these and of what the rest holds
+-- An array begins the text, and its first items are read, up to the rest; the text is read as the array of these and of the items in the rest.
 pub record ArrayUpTo (depth : ℕ) (text : List ℕ) (found : Items) (rest : List ℕ) : Type 0 where
   pub opens : first text ≡ left_bracket
   pub room : ℕ
@@ -46,7 +46,7 @@ pub record BracesUpTo (depth : ℕ) (text : List ℕ) (found : CodeTable) (rest 
   pub count : ℕ
   pub read : after_pairs depth count (drop 1 text) ≡ Some (table_view found, rest)
 
--- behind what is read of the array or the table in braces that begins the text, the value of the next item or pair begins here
+-- An array or a table in braces begins the text; after the part of it that is read, the value of its next item or pair begins here.
 abbrev pub IsNextInside : (depth : ℕ) (text : List ℕ) → Open → (at : List ℕ) → Type 0
 IsNextInside depth text (Array found) at =
     (rest : List ℕ) × ArrayUpTo depth text (items_view found.items) rest × ((first (skip_blank rest) == right_bracket) ≡ false) × (at ≡ skip_blank rest)
@@ -67,7 +67,7 @@ IsFoundHere depth text (Opened inner) rest = (less : ℕ) × (depth ≡ suc less
 abbrev pub IsValueRefused : (depth : ℕ) (text : List ℕ) → Fault → Type 0
 IsValueRefused depth text fault = IsGrammarRefusal (val depth text) (ValueTells depth text) fault
 
--- what is read of the value that begins the text
+-- the finding in the value that begins the text, or its refusal
 abbrev pub FindsHere : (depth : ℕ) (text : List ℕ) → Result (Found × Bor (List ℕ)) Fault → Type 0
 FindsHere depth text r = MatchResult r (λ p. IsFoundHere depth text p.0 p.1.now × (length p.1.now < length text)) (IsValueRefused depth text)
 
@@ -75,14 +75,14 @@ FindsHere depth text r = MatchResult r (λ p. IsFoundHere depth text p.0 p.1.now
 abbrev pub Went : Open → Node → (rest : List ℕ) → ((depth : ℕ) (text : List ℕ) → Type 0) → Type 0
 Went outer node rest then = (depth : ℕ) (text at : List ℕ) → IsNextInside depth text outer at → IsValueRead depth at node rest → then (suc depth) text
 
--- what is read once a value inside of what begins the text is read, as this one
+-- the finding after this value, inside of the one that begins the text, was read; or the refusal
 abbrev pub GoesOnInside : Open → Node → (rest : List ℕ) → Result (Found × Bor (List ℕ)) Fault → Type 0
 GoesOnInside outer node rest r =
     MatchResult r
     (λ p. Went outer node rest (λ depth text. IsFoundHere depth text p.0 p.1.now) × (length p.1.now ≤ length rest))
     (λ fault. Went outer node rest (λ depth text. IsValueRefused depth text fault))
 
--- what is read next of an array, or of a table in braces
+-- the next finding in an array, or in a table in braces; or the refusal
 abbrev pub NextItem : Items → (from : List ℕ) → Found → (rest : List ℕ) → Type 0
 NextItem items from found rest =
     ((depth : ℕ) (text : List ℕ) → ArrayUpTo depth text items from → IsFoundHere (suc depth) text found rest) × (length rest ≤ length from)

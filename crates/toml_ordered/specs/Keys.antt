@@ -1,4 +1,4 @@
--- What contracts see of the keys of a table.
+-- The keys of a table as contracts see them.
 use Rattle.std.specs.Prelude.{◌≡◌, ℕ, zero, suc, true, List, [], ◌∷◌, drop, map, bytes_eq, String, string_bytes, Some}
 use Rattle.std.specs.BTreeMap.{BTreeMap, get_by_text}
 use Rattle.std.specs.declared.alloc.Global.{Global}
@@ -10,7 +10,7 @@ use Rattle.toml_ordered.specs.declared.tree.Node.{Node as CodeNode}
 use Rattle.toml_ordered.specs.declared.tree.Table.{Table as CodeTable}
 use Rattle.toml_ordered.specs.declared.tree.Origin.TheVariants.{Closed}
 
--- keys, with what contracts see of each value
+-- keys, each with its value as contracts see it
 abbrev pub entries_view : List (String Global × CodeNode × ℕ) → List (String Global × TomlNode × ℕ)
 entries_view ms = map (λ m. (m.0, node_view m.1, m.2)) ms
 
@@ -35,7 +35,7 @@ abbrev pub held_view : Holder → TomlNodes → TomlNode
 held_view (holder.Table origin) inner = table origin inner
 held_view (holder.Tables done) inner = tables (items_view done.items) inner
 
--- a key stands at this place
+-- a key is at this place
 abbrev pub HasKey : List ℕ → ℕ → List (String Global × CodeNode × ℕ) → Type 0
 HasKey k at [] = ⊥
 HasKey k zero (m ∷ ms) = bytes_eq k (string_bytes m.0) ≡ true

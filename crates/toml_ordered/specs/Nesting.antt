@@ -14,12 +14,12 @@ use Rattle.toml_ordered.specs.declared.fault.Fault.{Fault}
 abbrev pub next_item : (depth : ℕ) → List ℕ → Option (List ℕ)
 next_item depth text = option_and_then (λ v. after_element right_bracket v.1) (val depth (skip_blank text))
 
--- the rest after the first items, so many, of the text behind a bracket
+-- the rest after the first items, so many, of the text after a bracket
 abbrev pub after_items : (depth : ℕ) → ℕ → (text : List ℕ) → Option (List ℕ)
 after_items depth zero text = Some text
 after_items depth (suc count) text = option_and_then (next_item depth) (after_items depth count text)
 
--- an item begins here; the text is that of an array, behind the bracket
+-- an item begins here; the text is that of an array, after the bracket
 pub record ItemAt (depth : ℕ) (text : List ℕ) (item : List ℕ) : Type 0 where
   pub rest : List ℕ
   pub ends : EndsWith text rest
@@ -27,7 +27,7 @@ pub record ItemAt (depth : ℕ) (text : List ℕ) (item : List ℕ) : Type 0 whe
   pub read : after_items depth count text ≡ Some rest
   pub here : item ≡ skip_blank rest
 
--- of the item of an array behind those that are read, or of the value of a table in braces behind its pairs that are read
+-- of the item of an array after those that are read, or of the value of a table in braces after its pairs that are read
 abbrev pub InItem : (depth : ℕ) → (List ℕ → Type 0) → (text : List ℕ) → Type 0
 InItem depth holds text = (item : List ℕ) × ItemAt depth text item × holds item
 

@@ -29,7 +29,7 @@ with_value_at (suc at) x (m ∷ ms) = m ∷ with_value_at at x ms
 abbrev pub Fills : CodeTable → ℕ → Holder → (inner whole : CodeTable) → Type 0
 Fills t at h inner whole = (whole.keys.items ≡ with_value_at at (held h inner) t.keys.items) × (whole.index ≡ t.index)
 
--- the whole is what was passed, with the inner table put back
+-- the whole is the table that was passed, with the inner table put back
 abbrev pub IsFilled : Passed → (inner whole : CodeTable) → Type 0
 IsFilled p = Fills p.table p.at p.holder
 
@@ -52,8 +52,8 @@ IsShut by x = (edit : Edit) → passed by edit (node_view x) ≡ None
 abbrev pub keys_of : List (Way × List ℕ) → List (List ℕ)
 keys_of steps = map (λ step. step.1) steps
 
--- What is defined by all the steps, in the outer table, is what is defined by the rest of them in the inner one: with a new table in place of
--- the inner one, which Fill tells, the whole takes the place of the outer one.
+-- All the steps in the outer table define the same as the rest of them in the inner one: if a new table takes the place of the inner one,
+-- the whole, which Fill tells, takes the place of the outer one.
 pub record PassesSteps (all rest : List (Way × List ℕ)) (left : ℕ) (outer inner : CodeTable) (Fill : CodeTable → CodeTable → Type 0) : Type 0 where
   pub value : (edit : Edit) (new whole : CodeTable) → Fill new whole → along rest edit (table_view inner) ≡ Some (table_view new)
       → along all edit (table_view outer) ≡ Some (table_view whole)

@@ -1,4 +1,4 @@
--- Where a text is refused: as far as its expressions are read.
+-- The places at which a text is refused: as far as its expressions are read.
 use Rattle.std.specs.Prelude.{◌≡◌, ◌⊎◌, ℕ, zero, suc, ◌<◌, ◌≤◌, List, [], ◌∷◌, ◌++◌, length, min, Option, Some, None, IfSome, option_and_then, option_map}
 use Rattle.toml_parser.specs.Lexical.{right_brace, skip_blank}
 use Rattle.toml_parser.specs.Strings.{Key}
@@ -10,21 +10,21 @@ use Rattle.toml_ordered.specs.Tables.{Definition, TomlDocument, Expression, defi
 use Rattle.toml_ordered.specs.declared.fault.Fault.{Fault}
 use Rattle.toml_ordered.specs.declared.fault.Fault.TheVariants as fault
 
--- how much of the text is left where it is refused
+-- the number of bytes that are left of the text at the place of a refusal
 abbrev pub place_left : Fault → Option ℕ
 place_left fault.Memory = None
 place_left (fault.NotToml left) = Some left
 place_left (fault.TooDeep left) = Some left
 place_left (fault.DefinedAgain key first second) = Some second
 
--- the fault, with its place here
+-- the fault with its place here
 abbrev pub moved_to : ℕ → Fault → Fault
 moved_to here fault.Memory = fault.Memory
 moved_to here (fault.NotToml left) = fault.NotToml here
 moved_to here (fault.TooDeep left) = fault.TooDeep here
 moved_to here (fault.DefinedAgain key first second) = fault.DefinedAgain key first here
 
--- the fault, with its place here or behind
+-- the fault with its place here or after
 abbrev pub moved_within : ℕ → Fault → Fault
 moved_within here fault.Memory = fault.Memory
 moved_within here (fault.NotToml left) = fault.NotToml (min left here)
@@ -44,7 +44,8 @@ after_lines (suc count) text = option_and_then next_expression (after_lines coun
 abbrev pub ReadsUpTo : (text : List ℕ) → TomlDocument → (rest : List ℕ) → Type 0
 ReadsUpTo text doc rest = (count : ℕ) × (after_lines count text ≡ Some (doc, rest))
 
--- no expression has its line here, and the place is here or behind; or one has that defines what takes no more, and the place is here
+-- No expression has its line here, and the place is here or after; or an expression does that defines a key that takes no more, and the
+-- place is here.
 abbrev pub RefusesNext : TomlDocument → (start : List ℕ) → (left : ℕ) → Type 0
 RefusesNext doc start left =
     ((line start ≡ None) × (left ≤ length start))
@@ -69,12 +70,12 @@ EndsWith text end = (front : List ℕ) × (text ≡ front ++ end)
 abbrev pub key_parts : Key → List (List ℕ)
 key_parts key = key.0 ++ key.1 ∷ []
 
--- the whole path of what an expression defines: that of a pair goes on from the last header
+-- the whole path of the definition of an expression: that of a pair goes on from the last header
 abbrev pub whole_path : TomlDocument → Key → Definition → List (List ℕ)
 whole_path doc key (key_value x) = doc.1 ++ key_parts key
 whole_path doc key header = key_parts key
 
--- an expression begins with this much left, behind what is read as this document
+-- an expression begins with this much left, after the text that is read as this document
 pub record ExpressionAt (text : List ℕ) (doc : TomlDocument) (e : Expression) (left : ℕ) : Type 0 where
   pub rest : List ℕ
   pub after : List ℕ
@@ -82,14 +83,14 @@ pub record ExpressionAt (text : List ℕ) (doc : TomlDocument) (e : Expression) 
   pub begins : line (skip_blank rest) ≡ Some (e, after)
   pub here : left ≡ length (skip_blank rest)
 
--- the expression that begins here is the first to define the key in the table at the end of the path, by itself or by what it defines inside
+-- The expression that begins here is the first to define the key in the table at the end of the path, itself or on the way to its own key.
 pub record FirstDefines (text : List ℕ) (path : List (List ℕ)) (key : List ℕ) (left : ℕ) : Type 0 where
   pub doc : TomlDocument
   pub e : Expression
   pub at : ExpressionAt text doc e left
   pub new : IsNewKey (whole_path doc e.0 e.1) doc.0 path key
 
--- an expression first defined the key, and one behind it, which is refused, passes the key again
+-- an expression first defined the key, and a later one, which is refused, passes the key again
 pub record ExpressionsConflict (text : List ℕ) (key : List ℕ) (first second : ℕ) : Type 0 where
   pub path : List (List ℕ)
   pub before : FirstDefines text path key first
@@ -106,12 +107,12 @@ next_pair depth at =
     option_and_then (λ e. option_and_then (λ more. option_map (λ rest. (more, rest)) (after_element right_brace e.1)) (put e.0.0 e.0.1 at.0))
     (keyval (val depth) (skip_blank at.1))
 
--- the keys and the rest after the first pairs, so many, of the text behind a brace
+-- the keys and the rest after the first pairs, so many, of the text after a brace
 abbrev pub after_pairs : (depth : ℕ) → ℕ → (text : List ℕ) → Option (TomlNodes × List ℕ)
 after_pairs depth zero text = Some (no_nodes, text)
 after_pairs depth (suc count) text = option_and_then (next_pair depth) (after_pairs depth count text)
 
--- a pair begins with this much left, behind what is read as these keys; the text is that of a table in braces, behind the brace
+-- A pair begins with this much left, after the text that is read as these keys; the text is that of a table in braces, after the brace.
 pub record PairAt (depth : ℕ) (text : List ℕ) (found : TomlNodes) (name : Key) (left : ℕ) : Type 0 where
   pub rest : List ℕ
   pub after : List ℕ
@@ -128,7 +129,7 @@ pub record PairFirstDefines (depth : ℕ) (text : List ℕ) (path : List (List �
   pub at : PairAt depth text found name left
   pub new : IsNewKey (key_parts name) found path key
 
--- a pair first defined the key, and one behind it in the same table in braces, which is refused, passes the key again; the table stands in the text
+-- A pair first defined the key, and a later one in the same table in braces, which is refused, passes the key again; the table is in the text.
 pub record PairsConflict (text : List ℕ) (key : List ℕ) (first second : ℕ) : Type 0 where
   pub depth : ℕ
   pub inside : List ℕ

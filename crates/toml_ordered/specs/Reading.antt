@@ -1,4 +1,4 @@
--- How a result stands to what the grammar gives.
+-- The results of reading, compared with those of the grammar.
 use Rattle.std.specs.Prelude.{◌≡◌, ℕ, ◌<◌, ◌≤◌, String, string_bytes, List, [], ◌∷◌, ◌++◌, map, length, Result, MatchResult, Option, Some, None}
 use Rattle.std.specs.Borrow.{Bor}
 use Rattle.std.specs.declared.alloc.Global.{Global}
@@ -31,24 +31,24 @@ abbrev pub fault_of : ParseError → Fault
 fault_of parse.OutOfMemory = fault.Memory
 fault_of (parse.At kind from to) = fault.NotToml from
 
--- the result is what the grammar gives, seen through f, unless an allocation failed
+-- True if the result, seen through f, is the grammar's, unless an allocation failed.
 abbrev pub ParsesTo : {A B : Type 0} → (A → B) → Result A Fault → Option B → Type 0
 ParsesTo f r expected = MatchResult r (λ a. expected ≡ Some (f a)) (λ e. (IsMemory e → ⊥) → expected ≡ None)
 
--- the grammar gives nothing, unless an allocation failed; and what the fault tells
+-- True if the grammar gives nothing, unless an allocation failed, and the fault tells the truth.
 abbrev pub IsGrammarRefusal : {B : Type 0} → Option B → (tells : Fault → Type 0) → Fault → Type 0
 IsGrammarRefusal expected tells found = ((IsMemory found → ⊥) → expected ≡ None) × tells found
 
--- what the grammar gives is read, seen through f, and less text is left; or the text is refused
+-- True if the result, seen through f, is the grammar's, and less text is left; or the text is refused.
 abbrev pub ReadsExpected : {A B : Type 0} → (A → B) → (text : List ℕ) → Read B → (tells : Fault → Type 0) → Result (A × Bor (List ℕ)) Fault → Type 0
 ReadsExpected f text expected tells r =
     MatchResult r (λ p. (expected ≡ Some (f p.0, p.1.now)) × (length p.1.now < length text)) (IsGrammarRefusal expected tells)
 
--- the same of what only passes a part of the text
+-- the same of a reader that only passes a part of the text
 abbrev pub ReadsPast : (text : List ℕ) → Option (List ℕ) → Result (Bor (List ℕ)) Fault → Type 0
 ReadsPast text expected r = MatchResult r (λ rest. (expected ≡ Some rest.now) × (length rest.now ≤ length text)) (IsGrammarRefusal expected IsOther)
 
--- what the rules give is defined in a table, along the whole path, here; or the definition is refused
+-- True if the table is the one that the rules give after a definition along the whole path, here; or the definition is refused.
 abbrev pub Defines : {A : Type 0} → Option A → (new : A) → (whole : List (List ℕ)) → (here : ℕ) → (from to : CodeTable) → Result (Unit {0}) Fault → Type 0
 Defines expected new whole here from to r =
     MatchResult r
@@ -74,7 +74,7 @@ path_of route = map (λ step. step.1) (steps_of route)
 abbrev pub whole_of : Route → Entry → List (List ℕ)
 whole_of route entry = path_of route ++ string_bytes entry.key ∷ []
 
--- what an entry defines in the table at the end of a route
+-- the change that an entry makes in the table at the end of a route
 abbrev pub along_route : Route → Entry → Edit
 along_route route entry = along (steps_of route) (at_key (string_bytes entry.key) (definition_view entry.what))
 
@@ -82,10 +82,10 @@ along_route route entry = along (steps_of route) (at_key (string_bytes entry.key
 abbrev pub IsPassed : (key : List ℕ) → (first here : ℕ) → Fault → Type 0
 IsPassed key first here found = IfAgain found (λ k place second. (k ≡ key) × (place ≡ first) × (second ≡ here))
 
--- a key and its place are what they were
+-- True if a key and its place are as before.
 abbrev pub IsSameKey : (old new : String Global × CodeNode × ℕ) → Type 0
 IsSameKey old new = (new.0 ≡ old.0) × (new.2 ≡ old.2)
 
--- what was read of a document
+-- the part of a document that was read
 abbrev pub document_view : CodeDocument → TomlDocument
 document_view document = (table_view document.root, path_view document.section.items)

@@ -45,6 +45,6 @@ abbrev mutual
   sorted_keys no_nodes = plain.no_members
   sorted_keys (node k x ns) = put_sorted k (sorted_value x) (sorted_keys ns)
 
--- the ordered document, its tables sorted, is the table that `toml` reads; and one is refused exactly where the other is
+-- The ordered document, its tables sorted, is the table that `toml` reads; and one is refused if and only if the other is.
 abbrev pub OrderedIsSorted : Type 0
 OrderedIsSorted = (text : List ℕ) → option_map sorted_keys (ordered_document text) ≡ parse_document text

@@ -48,12 +48,12 @@ passed way.Header edit (tables done last) = option_map (tables done) (edit last)
 passed way.Dots edit (table origin inner) = past_dot edit origin inner
 passed by edit other = None
 
--- what makes a table that a key passes through
+-- the origin of a table that a key makes by passing
 abbrev pub made_by : Way → Origin
 made_by way.Header = Implicit
 made_by way.Dots = Dotted
 
--- the change, made in the table of a key; where that is missing, it is made
+-- the change, made in the table of a key; a missing table is made first
 abbrev pub at_step : Way → List ℕ → Edit → TomlNodes → Option TomlNode → Option TomlNodes
 at_step by k edit ns None = option_map (λ inner. append ns k (table (made_by by) inner)) (edit no_nodes)
 at_step by k edit ns (Some x) = changed k (passed by edit x) ns
@@ -70,13 +70,13 @@ steps_by by path = map (λ k. (by, k)) path
 abbrev pub steps_along : (header dots : List (List ℕ)) → List (Way × List ℕ)
 steps_along header dots = steps_by way.Header header ++ steps_by way.Dots dots
 
--- what stands with a key on a line
+-- a definition, without its key
 pub data Definition : Type 0 where
   key_value : TomlNode → Definition
   std_table : Definition
   array_table : Definition
 
--- what a key holds that was not there
+-- the value of a key that was missing
 abbrev pub new_node : Definition → TomlNode
 new_node (key_value x) = x
 new_node std_table = table Header no_nodes
@@ -93,7 +93,7 @@ abbrev pub at_found : List ℕ → Definition → TomlNodes → Option TomlNode 
 at_found k what ns None = Some (append ns k (new_node what))
 at_found k what ns (Some x) = changed k (redefine what x) ns
 
--- what is defined at the last part of a key
+-- the definition, made at the last part of a key
 unfoldable pub at_key : List ℕ → Definition → Edit
 at_key k what ns = at_found k what ns (get_node k ns)
 

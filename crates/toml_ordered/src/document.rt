@@ -29,7 +29,7 @@ struct Document {
 }
 
 impl Document {
-    /// Defines what an expression defines, which begins where this much of the text is left.
+    /// Makes the definition of an expression. The expression begins with this much of the text left.
     fn define(
         &mut self,
         alloc: Global,
@@ -99,8 +99,8 @@ impl Document {
 ///
 /// # Errors
 ///
-/// `NotToml` where the text isn't TOML 1.1, or a key has more than 80 parts; `TooDeep` where arrays and tables in braces nest more than
-/// 80 deep; `DefinedAgain` where a key is defined twice; `Memory` where an allocation fails.
+/// `NotToml` if the text isn't TOML 1.1, or a key has more than 80 parts; `TooDeep` if arrays and tables in braces nest more than 80
+/// deep; `DefinedAgain` if a key is defined twice; `Memory` if an allocation fails.
 pub fn read_document(alloc: Global, text: &str) -> Result<Table, Fault>
     ensures value { ParsesTo table_view result (spec.ordered_document text.now) }
     ensures placed { IfErr result (FaultIsPlaced text.now) }

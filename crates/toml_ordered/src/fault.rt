@@ -29,7 +29,7 @@ pub enum Fault {
 }
 
 impl Fault {
-    /// Returns the fault, with its place here or behind. (No contract of `toml_parser` tells where its errors are.)
+    /// Returns the fault with its place here or after. (No contract of `toml_parser` gives the places of its errors.)
     pub(crate) fn here_or_behind(self, start: &str) -> Fault
         ensures { result ≡ moved_within (length start.now) self }
     {
@@ -50,7 +50,7 @@ impl Fault {
         }
     }
 
-    /// Returns the fault, with its place here.
+    /// Returns the fault with its place here.
     pub(crate) fn here(self, start: &str) -> Fault
         ensures { result ≡ moved_to (length start.now) self }
     {
@@ -104,14 +104,14 @@ impl<T: Drop> From<AllocFailed<T>> for Fault {
     }
 }
 
-/// Returns that the text can't go on where this is left of it.
+/// Returns the fault of a text that can't go on with this rest left.
 pub(crate) fn not_toml(rest: &str) -> Fault
     ensures { result ≡ fault.NotToml (length rest.now) }
 {
     Fault::NotToml { left: rest.len() }
 }
 
-/// Returns that arrays and tables in braces nest too deep where this is left.
+/// Returns the fault of arrays and tables in braces that nest too deep with this rest left.
 pub(crate) fn too_deep(rest: &str) -> Fault
     ensures { result ≡ fault.TooDeep (length rest.now) }
 {

@@ -25,7 +25,7 @@ impl Table {
         }
     }
 
-    /// Returns where a key is.
+    /// Returns the place of a key.
     pub(crate) fn find(&self, key: &str) -> Option<usize>
         ensures found { MatchOption result (get_node key.now (table_view self.now) ≡ None) (λ at. IsIndexedAt key.now at self.now.keys.items self.now.index) }
         ensures within { IfSome result (λ at. at < length self.now.keys.items) }
@@ -44,7 +44,7 @@ impl Table {
         }
     }
 
-    /// Puts a key behind those that are there.
+    /// Adds a key after those that are there.
     pub(crate) fn append(&mut self, key: String, value: Node, left: usize) -> Result<(), Fault>
         requires { get_node (string_bytes key) (table_view self.old) ≡ None }
         ensures last { IfOk result (λ _. self.new.keys.items ≡ self.old.keys.items ++ (key, value, left) ∷ []) }
@@ -87,7 +87,7 @@ impl Table {
 #[derive(Clone, Copy)]
 pub struct LiveKeys<'a> {
     table: &'a Table,
-    /// The place of the first key that is left. Those that don't stand at their places are passed over.
+    /// The place of the first key that is left. A key that the index puts elsewhere is passed over.
     at: usize,
 }
 

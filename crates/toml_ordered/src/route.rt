@@ -16,7 +16,7 @@ pub(crate) enum Way {
 }
 
 impl Way {
-    /// Returns what makes a table that is passed.
+    /// Returns the origin of a table that a key makes by passing.
     pub(crate) fn origin(self) -> Origin
         ensures { result ≡ spec.made_by self }
     {
@@ -26,7 +26,7 @@ impl Way {
         }
     }
 
-    /// Returns what made a table, after it is passed; `None` where it lets no key pass so.
+    /// Returns the origin of a table after a key passed it; `None` if it lets no key pass in this way.
     pub(crate) fn origin_after(self, origin: Origin) -> Option<Origin>
         ensures { (edit : spec.Edit) (inner : TomlNodes) → spec.passed self edit (table origin inner)
             ≡ option_and_then (λ after. option_map (table after) (edit inner)) result }

@@ -16,7 +16,7 @@ use crate::tree::{Holder, Node, Origin, Table};
 use std::alloc::{AllocError, Global};
 use std::mem;
 
-/// A definition that stands with a key on a line.
+/// A definition, without its key.
 #[derive(Drop)]
 pub(crate) enum Definition {
     Value(Node),
@@ -24,7 +24,7 @@ pub(crate) enum Definition {
     Tables,
 }
 
-/// A definition with the last part of its key, and how much text is left where its expression begins.
+/// A definition with the last part of its key, and the number of bytes of the text that are left at the beginning of its expression.
 #[derive(Drop)]
 pub(crate) struct Entry {
     pub(crate) key: String,
@@ -43,7 +43,7 @@ fn defined_again(key: &String, first: usize, second: usize) -> Fault
     }
 }
 
-/// Defines an entry in the table at the end of a route. Where that fails, the keys are lost.
+/// Defines an entry in the table at the end of a route. If that fails, the keys are lost.
 pub(crate) fn define_at(
     alloc: Global,
     table: &mut Table,
@@ -196,7 +196,7 @@ fn redefine(
     }
 }
 
-/// Closes the last table of an array, and begins another behind it.
+/// Closes the last table of an array, and begins another after it.
 fn begin_table(alloc: Global, done: &mut Vec<Node>, last: &mut Table) -> Result<(), AllocError>
     ensures done { IfOk result (λ _. items_view done.new.items ≡ push_item (items_view done.old.items) (table Closed (table_view last.old))) }
     ensures last { IfOk result (λ _. last.new.keys.items ≡ []) }
@@ -206,7 +206,7 @@ fn begin_table(alloc: Global, done: &mut Vec<Node>, last: &mut Table) -> Result<
     Ok(())
 }
 
-/// Returns what a key holds that was not there.
+/// Returns the value of a key that was missing.
 fn new_node(alloc: Global, what: Definition) -> Result<Node, AllocError>
     ensures value { IfOk result (λ node. node_view node ≡ spec.new_node (definition_view what)) }
     ensures firsts { IfOk result (λ node. node_firsts node ≡ no_firsts) }

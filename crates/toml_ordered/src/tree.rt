@@ -22,7 +22,7 @@ pub enum Origin {
     Dotted,
     /// Its own header.
     Header,
-    /// It is complete: it stands in braces, or is followed by the next table of its array.
+    /// It is complete: it is in braces, or the next table of its array follows it.
     Closed,
 }
 
@@ -47,10 +47,10 @@ pub enum Node {
 #[derive(Drop)]
 #[cycle(tree)]
 pub struct Table {
-    /// The keys, in the order in which they are first defined. Each has its value, and how many bytes of the text were left where
-    /// the expression begins that first defines it.
+    /// The keys, in the order in which they are first defined. Each has its value, and the number of bytes of the text that were left
+    /// at the beginning of the expression that first defines it.
     pub(crate) keys: Vec<(String, Node, usize)>,
-    /// The place of each key. What doesn't stand at the place of its key counts for nothing.
+    /// The place of each key. An entry at any other place than its key's counts for nothing.
     pub(crate) index: BTreeMap<String, usize>,
 }
 
@@ -82,7 +82,7 @@ impl Drop for Node {
 }
 
 impl Node {
-    /// Takes out the last value inside, and puts another into its place. Where there is none, returns the other.
+    /// Takes out the last value inside, and puts another into its place. Without any, returns the other.
     fn exchange(&mut self, other: Node) -> Result<Node, Node>
         ensures { IsEntered node_count (node_count self.old) (node_count self.new) other result }
     {
@@ -153,7 +153,7 @@ fn exchange(items: &mut Vec<Node>, other: Node) -> Result<Node, Node>
     }
 }
 
-/// Takes out the last of some tables, or the last value in the table behind them, and puts another into its place.
+/// Takes out the last of some tables, or, without any, the last value in the open table, and puts another into its place.
 fn exchange_table(done: &mut Vec<Node>, last: &mut Table, other: Node) -> Result<Node, Node>
     ensures { IsEntered node_count (tables_count done.old.items last.old) (tables_count done.new.items last.new) other result }
 {
@@ -163,7 +163,7 @@ fn exchange_table(done: &mut Vec<Node>, last: &mut Table, other: Node) -> Result
     }
 }
 
-/// Takes out the last of some tables, or the last value in the table behind them.
+/// Takes out the last of some tables, or, without any, the last value in the open table.
 fn pop_table(done: &mut Vec<Node>, last: &mut Table) -> Option<Node>
     ensures { IsLeft node_count (tables_count done.old.items last.old) (tables_count done.new.items last.new) result }
 {

@@ -27,7 +27,7 @@ enum Open {
     Braces(Braces),
 }
 
-/// A table in braces, and the key of the pair whose value is being read, with how many bytes of the text were left where it begins.
+/// A table in braces, and the key of the pair whose value is being read, with the number of bytes of the text that were left at its beginning.
 #[derive(Drop)]
 struct Braces {
     table: Table,
@@ -35,7 +35,7 @@ struct Braces {
     left: usize,
 }
 
-/// What the next step finds in a value: all of it, or an array or a table in braces, in which another value begins.
+/// The finding of a step in a value: all of the value, or an array or a table in braces, in which another value begins.
 #[derive(Drop)]
 enum Found {
     Value(Node),
@@ -94,7 +94,7 @@ fn begin(alloc: Global, s: &str, depth: usize) -> Result<(Found, &str), Fault>
     }
 }
 
-/// Puts a value into what is open around it, and reads on to the next value in that, or to its end.
+/// Puts a value into the array or table around it, and reads on to the next value in that, or to its end.
 fn go_on(alloc: Global, outer: Open, node: Node, s: &str) -> Result<(Found, &str), Fault>
     ensures { GoesOnInside outer node s.now result }
 {
@@ -187,7 +187,7 @@ fn put(alloc: Global, table: &mut Table, key: Key, value: Node, left: usize) -> 
     define_at(alloc, table, route, entry)
 }
 
-/// Returns what follows a comma, or the closing bracket.
+/// Passes a comma, or stops before the closing bracket, and returns the rest.
 fn past_element(s: &str, closing: u8) -> Result<&str, Fault>
     ensures { ReadsPast s.now (after_element closing s.now) result }
 {
@@ -202,7 +202,7 @@ fn past_element(s: &str, closing: u8) -> Result<&str, Fault>
     }
 }
 
-/// Reads a key and this byte behind it.
+/// Reads a key and this byte after it.
 pub(crate) fn key_before(alloc: Global, s: &str, byte: u8) -> Result<(Key, &str), Fault>
     requires some { 0 < byte }
     requires ascii { byte < 128 }

@@ -1,4 +1,4 @@
-//! The table in a value that may still grow, taken out of what holds it and put back.
+//! The table in a value that may still grow, taken out of the value and put back.
 ghost use Rattle.std.specs.Prelude.{◌≡◌, MatchOption};
 ghost use Rattle.toml_ordered.specs.Passing.{IsOpened, IsShut, held};
 
@@ -14,7 +14,7 @@ pub(crate) enum Holder {
 }
 
 impl Node {
-    /// Takes the table out of the value, where a key passes it; returns `None` where it lets no key pass so.
+    /// Takes the table out of the value for a key to pass it; returns `None` if the value lets no key pass in this way.
     pub(crate) fn open(self, way: Way) -> Option<(Holder, Table)>
         ensures { MatchOption result (IsShut way self) (λ opened. IsOpened way self opened.0 opened.1) }
     {

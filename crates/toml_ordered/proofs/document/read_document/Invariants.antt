@@ -8,7 +8,7 @@ use Rattle.toml_ordered.specs.Places.{ReadsUpTo}
 use Rattle.toml_ordered.specs.Reading.{document_view}
 use Rattle.toml_ordered.proofs.document.read_document.Given as goal
 
--- the rest of the text is read after what was read
+-- the text is read on from the document so far
 abbrev pub invariant-lines : goal.invariant-lines
 invariant-lines l =
     shadow (Utf8 l.rest) × (length l.rest ≤ length l.fn.text) × GoesOn l.fn.text (document_view l.read) l.rest

@@ -35,7 +35,7 @@ returns-in_ok-begin_table-in-Tables-clause-value c =
     ∙ ap₂ (λ (done : Vec CodeNode Global) (t : CodeTable). push_item (items_view done.items) (table Closed (table_view t))) it.done-is it.last-is)
     (ap (λ es. keys_view es new.last.index) begun.last)))
 
--- what takes no more
+-- a value that takes no more
 not_std : (what : code.Definition) (o : Origin) (ns : TomlNodes) → (what ≡ Table → ⊥) → redefine (definition_view what) (table o ns) ≡ None
 not_std (Value x) o ns other = refl
 not_std Table o ns other = absurd (other refl)

@@ -5,7 +5,7 @@ use Rattle.toml_ordered.proofs.Around.{Stands}
 use Rattle.toml_ordered.specs.Inside.{IsFoundHere}
 use Rattle.toml_ordered.proofs.values.value.Given as goal
 
--- in what is open the text was read up to the value that begins here, and this is found of it
+-- In the open arrays and tables the text was read up to the value that begins here, and this is found of it.
 abbrev pub invariant-values : goal.invariant-values
 invariant-values l =
     shadow (Utf8 l.rest) × (inner : ℕ) × (at : List ℕ) × Stands l.open.items l.fn.depth l.fn.s inner at × IsFoundHere inner at l.found l.rest

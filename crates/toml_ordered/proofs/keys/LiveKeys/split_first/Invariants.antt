@@ -3,7 +3,7 @@ use Rattle.toml_ordered.specs.Data.{nodes_from}
 use Rattle.toml_ordered.specs.Keys.{entries_view, live_view}
 use Rattle.toml_ordered.proofs.keys.LiveKeys.split_first.Given as goal
 
--- what was passed over doesn't count
+-- the keys that were passed over don't count
 abbrev pub invariant-keys : goal.invariant-keys
 invariant-keys l = nodes_from l.table.index l.next (entries_view (drop l.next l.table.keys.items)) ≡ live_view l.fn.self
 
