@@ -1,4 +1,8 @@
 //! The settings for writing TOML as YAML.
+ghost use Rattle.std.specs.Prelude.{◌≡◌, false};
+ghost use Rattle.yaml_emitter.specs.Given.{seen_settings};
+ghost use Rattle.yaml_writer.specs.Given.{given_for_values};
+
 use yaml_writer::{Settings, value_settings};
 
 /// The settings for writing TOML as YAML.
@@ -6,7 +10,7 @@ use yaml_writer::{Settings, value_settings};
 pub struct TomlSettings {
     /// The settings of the writer.
     pub writer: Settings,
-    /// Arrays and tables stand in flow; else in blocks, where they aren't empty.
+    /// Whether arrays and tables are written in flow. Otherwise those that aren't empty are written in blocks.
     pub flow: bool,
     /// Maximum nesting depth of arrays and tables. The root table counts.
     pub depth: usize,
@@ -14,7 +18,11 @@ pub struct TomlSettings {
 
 /// The settings for values, blocks, and a depth of 1,000.
 impl Default for TomlSettings {
-    fn default() -> Self {
+    fn default() -> Self
+        ensures writer { seen_settings result.writer ≡ given_for_values }
+        ensures flow { result.flow ≡ false }
+        ensures depth { result.depth ≡ 1000 }
+    {
         TomlSettings {
             writer: value_settings(),
             flow: false,
