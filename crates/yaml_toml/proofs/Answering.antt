@@ -1,4 +1,4 @@
--- What a call of a writer says to the walk.
+-- The answers of a writer's calls to the walk.
 use Rattle.yaml_toml.proofs.Common.{◌≡◌, ◌⊎◌, ◌∷◌, ◌++◌, [], List, Bool, Option, None, Some, Result, Ok, Err, IfErr, OnOk, inl, inr, refl, subst, sym, ◌∙◌, ap₂}
 use Rattle.yaml_toml.proofs.Common.{append-nil, append_assoc, Event, State, WriterState, GaveEvent, WroteEvent, IsBare, end_event, EndsInnermost, AddsEvents}
 use Rattle.yaml_toml.proofs.Common.{Text, Scalar, scalar, plain, is_none, is_some, ◌||◌}
@@ -73,7 +73,7 @@ answers_end before after (Err error) outer kind levels (inr end) =
 
 pub kept_of : {event : Event} (before after : WriterState) (answer : Result (Unit {0}) yaml_error_t) (result : Result (Unit {0}) Stop) → IsStopOf answer result
     → Answers before event answer after → KeptAfterStop before result after
-kept_of before after (Ok done) (Ok same) is answers = record { grows = answers.grows; sound = λ none. answers.sound }
+kept_of before after (Ok done) (Ok same) is answers = record { grows = answers.grows; sound = answers.sound }
 kept_of before after (Ok done) (Err stopped) is answers = absurd is
 kept_of before after (Err error) (Ok done) is answers = absurd is
 kept_of before after (Err error) (Err stopped) is answers =
@@ -98,17 +98,17 @@ kept_then before between after result one other =
     record { grows = grows_then {between = between.emitter.page} one.grows other.grows; sound = sound_then result other.sound }
   where
     said : (found : Option yaml_error_t) → HasErrorSaid between found after → HasErrorSaid before found after
-    said None stays = λ none. stays (one.sound none)
-    said (Some error) (inl memory) = inl (memory.0, λ none. memory.1 (one.sound none))
+    said None stays = λ none. stays one.sound
+    said (Some error) (inl memory) = inl (memory.0, λ none. memory.1 one.sound)
     said (Some error) (inr has) = inr has
 
     sound_then : (result : Result (Unit {0}) Stop) → SoundAfterStop between result after → SoundAfterStop before result after
-    sound_then (Ok done) stays = λ none. stays (one.sound none)
+    sound_then (Ok done) sound = sound
     sound_then (Err stopped) sound = said (stop_error stopped) sound
 
 -- ---- moves
 
--- an event that leaves what is open
+-- an event that opens and ends nothing
 pub moved_event : (before after : WriterState) (event : Event) (kinds : List CollectionKind) → WroteEvent before event after
     → Moved before (event ∷ []) kinds kinds after
 moved_event before after event kinds wrote outer is = leaves_same before after (event ∷ []) before.levels (outer ++ kinds) is wrote
@@ -148,7 +148,7 @@ pub timestamp_is : (writer : WriterState) (moment : Moment) → IsBare writer �
 timestamp_is writer moment bare =
     ap₂ (λ (anchor tag : Option Text). timestamp_by (writer.canonical || is_some moment.time) (timestamp_text moment) anchor tag) bare.0 bare.1
 
--- or the text that stands for one
+-- or the text in place of one
 pub datetime_is : (writer : WriterState) (date : Datetime) (found : Option Moment) → IsBare writer
     → moment_event writer date found ≡ scalar (date_content writer.canonical date found)
 datetime_is writer date (Some moment) bare = timestamp_is writer moment bare

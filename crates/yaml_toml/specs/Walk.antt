@@ -1,4 +1,4 @@
--- What a writer is given of a document, and what is left of it.
+-- The events that a writer is given of a document, and the rest of it.
 use Rattle.std.specs.Prelude.{◌≡◌, ℕ, ℤ, ◌<◌, ◌+◌, ◌^◌, Bool, Option, None, Some, Result, Ok, Err, List, [], ◌∷◌, ◌++◌, map, length, ◌≤◌, IfErr, OnOk}
 use Rattle.std.specs.Int.Signed.{mag}
 use Rattle.toml_ordered.specs.Data.{TomlNode, integer, decimal, array, table, tables, Items, no_items, item, TomlNodes, no_nodes, node, items_view}
@@ -15,7 +15,7 @@ use Rattle.yaml_pen.specs.Wrote.{Grows}
 use Rattle.yaml_base.specs.declared.kinds.CollectionKind.{CollectionKind}
 use Rattle.yaml_base.specs.declared.kinds.CollectionKind.TheVariants.{Mapping, Sequence}
 use Rattle.yaml_base.specs.Prefix.{IsPrefix}
-use Rattle.yaml_writer.specs.Failing.{FailedGiving, HasErrorSaid, StaysSound}
+use Rattle.yaml_writer.specs.Failing.{FailedGiving, HasErrorSaid}
 use Rattle.yaml_writer.specs.WasGiven.{GivenLeaving, WasGiven, WroteEvent}
 use Rattle.yaml_writer.specs.Contents.{collection_in}
 use Rattle.yaml_writer.specs.NumberParts.{IsNumber, number_in}
@@ -57,11 +57,11 @@ abbrev mutual
   KeysHaveNumbers no_nodes = Unit {0}
   KeysHaveNumbers (node key x keys) = HasNumbers x × KeysHaveNumbers keys
 
--- what TOML reads of a word: a decimal is a number of JSON
+-- Each decimal that TOML reads from a word is a number of JSON.
 abbrev pub ScalarsHaveNumbers : Type 0
 ScalarsHaveNumbers = (word : List ℕ) (s : Scalar) → word_value word ≡ Some s → HasNumbers (scalar_node word s)
 
--- ---- what is left of a collection that was begun
+-- ---- the rest of a collection that was begun
 
 abbrev pub rest_kind : Rest → CollectionKind
 rest_kind (rest.Items items) = Sequence
@@ -98,7 +98,7 @@ abbrev pub PendingHaveNumbers : List Rest → Type 0
 PendingHaveNumbers [] = Unit {0}
 PendingHaveNumbers (outer ∷ inner) = RestHasNumbers outer × PendingHaveNumbers inner
 
--- ---- how much is left, which each step lessens
+-- ---- the size of the rests, which each step lessens
 
 abbrev mutual
   pub node_size : TomlNode → ℕ
@@ -128,14 +128,14 @@ pending_size (outer ∷ inner) = rest_size outer + pending_size inner
 abbrev pub HasInnermost : WriterState → List CollectionKind → CollectionKind → Type 0
 HasInnermost writer kinds kind = (outer : List CollectionKind) × (writer.levels ≡ outer ++ (kinds ++ kind ∷ []))
 
--- ---- what was given
+-- ---- the events that were given
 
 -- these events were given, and these collections are open in place of those, within others
 abbrev pub Moved : WriterState → List Event → (before after : List CollectionKind) → WriterState → Type 0
 Moved was events before after now = (outer : List CollectionKind) → was.levels ≡ outer ++ before → GivenLeaving was events (outer ++ after) now
 
--- some of the events that were due were given, and the others are pending; where all decimals that are pending are numbers, all that
--- were due are; less than this is left; no more collections than the most are open meanwhile
+-- Some of the due events were given, and the others are pending; if all pending decimals are numbers, all due ones are; less than this is
+-- left; no more collections than the most are open meanwhile.
 pub record GaveSome (most : ℕ) (in_flow : Bool) (was : WriterState) (due : List Event) (before : List CollectionKind) (numbers : Type 0) (size : ℕ)
     (now : WriterState)
     (opened : List Rest) : Type 0 where
@@ -153,7 +153,7 @@ pub record StepsStop (most : ℕ) (was : WriterState) (due : List Event) (before
   pub adds : AddsEvents was.emitter given now.emitter
   pub few : length before ≤ most → (behind : ℕ) × OpensAtMost most (length before) given behind
 
--- ---- what a call returned
+-- ---- the results of calls
 
 -- the emitter has no error after a success, and after an error the one that is returned, unless an allocation of the call's own failed
 abbrev pub StaysSoundAfterToml : WriterState → Result (Unit {0}) yaml_error_t → WriterState → Type 0
@@ -186,7 +186,7 @@ IsStopOf (Err error) (Err stopped) = stopped ≡ stop.Failed error
 IsStopOf _ _ = ⊥
 
 abbrev pub SoundAfterStop : WriterState → Result (Unit {0}) Stop → WriterState → Type 0
-SoundAfterStop was (Ok done) now = StaysSound was now
+SoundAfterStop was (Ok done) now = now.emitter.error ≡ None
 SoundAfterStop was (Err stopped) now = HasErrorSaid was (stop_error stopped) now
 
 pub record KeptAfterStop (was : WriterState) (result : Result (Unit {0}) Stop) (now : WriterState) : Type 0 where
@@ -197,9 +197,9 @@ abbrev pub toml_writers_error : TomlError → Option yaml_error_t
 toml_writers_error (errors.Emitter error) = Some error
 toml_writers_error _ = None
 
--- the emitter has no error that it hadn't before after a success, and after an error the one that is returned, if any
+-- the emitter has no error after a success, and after an error the one that is returned, if any
 abbrev pub IsSoundAfterToml : WriterState → Result (Unit {0}) TomlError → WriterState → Type 0
-IsSoundAfterToml was (Ok done) now = StaysSound was now
+IsSoundAfterToml was (Ok done) now = now.emitter.error ≡ None
 IsSoundAfterToml was (Err error) now = HasErrorSaid was (toml_writers_error error) now
 
 -- ---- documents

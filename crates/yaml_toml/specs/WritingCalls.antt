@@ -1,4 +1,4 @@
--- What the calls do that write a document of TOML, by their results.
+-- The effects of the calls that write a document of TOML, by their results.
 use Rattle.std.specs.Prelude.{◌≡◌, ℕ, Bool, None, Result, Ok, Err, Vec, IfSome, List}
 use Rattle.toml_ordered.specs.Grammar.{ordered_document}
 use Rattle.yaml_base.specs.Settings.{Settings}
@@ -15,16 +15,16 @@ use Rattle.yaml_toml.specs.declared.settings.TomlSettings.{TomlSettings}
 
 -- ---- a document
 
--- the text is a document that nests no deeper than is allowed, and the writer was given its events; what was written before stays, and the
--- emitter has no error that it hadn't before
+-- The text is a document that nests no deeper than is allowed, and the writer was given its events; earlier output stays, and the emitter has
+-- no error.
 pub record DocumentWritten (settings : TomlSettings) (text : List ℕ) (was now : WriterState) : Type 0 where
   pub grows : Grows was.emitter.page now.emitter.page
   pub sound : IsSoundAfterToml was (Ok tt) now
   pub written : WroteToml settings.flow text was now
   pub nests : NestsWithin settings.depth text
 
--- the writer was given the first events of the document, and no more, since the text is refused at this place or nests too deep, or the
--- writer failed; what was written before stays, and an error of the emitter is the one that is returned
+-- The writer was given the first events of the document, and no more, since the text is refused at this place or nests too deep, or the
+-- writer failed; earlier output stays, and an error of the emitter is the one that is returned.
 pub record DocumentUnwritten (settings : TomlSettings) (text : List ℕ) (was : WriterState) (error : TomlError) (now : WriterState) : Type 0 where
   pub grows : Grows was.emitter.page now.emitter.page
   pub sound : IsSoundAfterToml was (Err error) now
@@ -45,7 +45,7 @@ pub record HasTomlYaml (given : Settings) (in_flow : Bool) (depth : ℕ) (text b
   pub stream : IsYamlOfToml given in_flow text bytes
   pub nests : NestsWithin depth text
 
--- why the text has none: it is refused at this place or nests too deep, or the writer failed
+-- the reason why the text has none: it is refused at this place or nests too deep, or the writer failed
 pub record HasNoTomlYaml (given : Settings) (in_flow : Bool) (depth : ℕ) (text : List ℕ) (error : TomlError) : Type 0 where
   pub refused : DeniesToml error → ordered_document text ≡ None
   pub deep : ExplainsDepth depth text error
