@@ -1,4 +1,4 @@
--- What is left fits what is allowed, as collections are begun and go on.
+-- The rests fit the allowed depth, as collections are begun and go on.
 use Rattle.yaml_toml.proofs.Common.{◌≡◌, ℕ, suc, ◌+◌, ◌-◌, ◌<◌, ◌≤◌, arith, ◌∷◌, ◌++◌, [], List, Option, None, Some, Result, Ok, Err, IfSome, refl, ap, subst}
 use Rattle.yaml_toml.proofs.Common.{sym, ◌∙◌, length, length-append, cases_lt, inl, inr}
 use Rattle.std.specs.Prelude.{◌↔◌, max}
@@ -41,7 +41,7 @@ module _ (depth : ℕ) (opened after : List Rest) (r : Rest) (is : after ≡ ope
     λ fits. fits_pushed.1 (omega (arith, room, fits.0), fits.1),
   )
 
-  -- a value that is next, of a collection of which this is left behind it
+  -- a value that is next, in a collection with this rest after it
   pub fits_next : (nested whole : ℕ) → max nested (rest_nesting r) ≡ whole → NodeFits depth nested after ↔ RestFits depth whole opened
   fits_next nested whole same =
       let long = ap length is ∙ length-append opened (r ∷ []) in (
@@ -57,7 +57,7 @@ fits_leaf depth opened = (λ fits. (omega arith, fits), λ fits. fits.1)
 pub fits_end : (depth : ℕ) (opened : List Rest) → PendingFits depth 0 opened ↔ RestFits depth 0 opened
 fits_end depth opened = (λ fits. (omega arith, fits), λ fits. fits.1)
 
--- ---- what a call returned
+-- ---- the results of calls
 
 pub fits_same : (depth : ℕ) (due same : Type 0) (result : Result (Unit {0}) Stop) (opened : List Rest) → due ↔ same → FitsAfter depth due result opened
     → FitsAfter depth same result opened
@@ -75,7 +75,7 @@ fits_memory depth due stopped opened is = subst (λ (s : Stop). FitsAfter depth 
 
 -- ---- a whole document
 
--- what is left fits exactly where the document does
+-- the rests fit if and only if the document does
 abbrev pub DocumentFits : (depth : ℕ) → TomlNodes → List Rest → Type 0
 DocumentFits depth root opened = PendingFits depth 0 opened ↔ (document_nesting root ≤ depth)
 
@@ -114,7 +114,7 @@ module _ (depth : ℕ) (root : TomlNodes) where
         let both = fits_pushed depth left (left ++ r ∷ []) r refl in
         nests_err (RestFits depth (rest_nesting r) left) stopped after (λ fits. both.0 (so.1 fits))
 
--- ---- what an error says
+-- ---- the statements of errors
 
 abbrev IsNothing : Option yaml_error_t → Type 0
 IsNothing None = Unit {0}

@@ -26,9 +26,9 @@ use Rattle.yaml_writer.specs.NumberParts.{HasNumber}
 use Rattle.yaml_toml.specs.Events.{json_word}
 use Rattle.yaml_toml.specs.Walk.{IsJsonWord}
 
--- ---- what is left behind some bytes
+-- ---- the rest after some bytes
 
--- the byte that stands here, and what is behind it
+-- the byte that is here, and the rest after it
 drop_suc : (bs : List ℕ) (i c : ℕ) → slice_index bs i ≡ c → 0 < c → drop i bs ≡ c ∷ drop (suc i) bs
 drop_suc [] i c is some = absurd (omega (arith, is, some))
 drop_suc (x ∷ bs) zero c is some = ap (λ d. d ∷ bs) is
@@ -46,7 +46,7 @@ drop_more (x ∷ bs) (suc i) n (suc m) is = drop_more bs i n m (omega (arith, is
 none_left : (bs : List ℕ) (i : ℕ) → i ≡ length bs → drop i bs ≡ []
 none_left bs i is = ap (λ n. drop n bs) is ∙ drop-length bs
 
--- the digits that stand here
+-- the digits that are here
 abbrev digits_at : List ℕ → ℕ → List ℕ
 digits_at bs i = take (digits_len (drop i bs)) (drop i bs)
 
@@ -79,11 +79,11 @@ some_digits : (xs : List ℕ) → 0 < length xs → list_all (λ c. is_digit c 1
 some_digits xs some h =
     ap₂ (λ (a b : Bool). a && b) (not_from_false (length xs == 0) (ne_eqb (length xs) 0 (λ e. omega (arith, some, e)))) h
 
--- how many stand here
+-- the number of digits that are here
 count_at : (bs : List ℕ) (i : ℕ) → length (digits_at bs i) ≡ digits_len (drop i bs)
 count_at bs i = length-prefix_len is_ascii_digit (drop i bs)
 
--- one at least, where the byte here is one
+-- one at least, if the byte here is one
 some_at : (bs : List ℕ) (i : ℕ) → is_ascii_digit (slice_index bs i) ≡ true → 0 < digits_len (drop i bs)
 some_at [] i h = absurd (false≢true h)
 some_at (x ∷ bs) zero h = subst (λ (b : Bool). 0 < cond b (1 + digits_len bs) 0) (sym h) (omega arith)
@@ -169,7 +169,7 @@ module _ (bs : List ℕ) (b : ℕ) where
             (slice_index bs (b + 1) == 45) (slice_index bs (b + 1) == 43) refl refl parts.1 ends
       ]
 
--- ---- the fraction, and the exponent behind it
+-- ---- the fraction, and the exponent after it
 
 abbrev fraction_valid : Option Text → Bool
 fraction_valid None = true
@@ -290,7 +290,7 @@ scanned negative bs ends decimal =
 
 -- ---- floats
 
--- what a word without sign, prefix and underscore writes, by three tests of it
+-- the number of a word without sign, prefix and underscore, by three tests of it
 abbrev decided : (negative : Bool) → (word : List ℕ) → (infinite not_number numeral : Bool) → Option Scalar
 decided negative word infinite not_number numeral =
     let p = scan_numeral word in

@@ -1,4 +1,4 @@
--- What was given where a walk stops.
+-- The events that were given when a walk stops.
 use Rattle.yaml_toml.proofs.Common.{◌≡◌, ℕ, suc, ◌≤◌, arith, ◌∷◌, [], List, Result, Ok, Err, inl, inr, refl, ap, subst, sym, length, Event, Scalar, scalar}
 use Rattle.yaml_toml.proofs.Common.{WriterState, WroteEvent, FailedGiving}
 use Rattle.std.specs.Prelude.{OnErr, pred, zero}
@@ -53,7 +53,7 @@ module _ (most : ℕ) (was : WriterState) where
         subst (λ (ks : List CollectionKind). StepsStop most was same ks now) kinds
         (subst (λ (events : List Event). StepsStop most was events before now) is stop)
 
--- behind a scalar
+-- after a scalar
 pub halts_after : (most : ℕ) (was between now : WriterState) (content : Scalar) (due : List Event) (kinds : List CollectionKind)
     → WroteEvent was (scalar content) between → StepsStop most between due kinds now → StepsStop most was (scalar content ∷ due) kinds now
 halts_after most was between now content due kinds wrote stop =

@@ -36,7 +36,7 @@ no_number date =
     no_digits (0x30 + date.year / 1000 % 10) (0x30 + date.year / 100 % 10) (0x30 + date.year / 10 % 10) (0x30 + date.year % 10)
     (two_digits date.month ++ codes "-" ++ two_digits date.day)
 
--- whatever stands for the first character
+-- with any first character
 not_based : (x y : Bool) (meant : Resolved) → some_if ((x && false) && y) meant ≡ None
 not_based true y meant = refl
 not_based false y meant = refl

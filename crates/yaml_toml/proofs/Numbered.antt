@@ -20,7 +20,7 @@ use Rattle.toml_ordered.specs.Grammar.{float_node, without_sign, plain_word, sca
 use Rattle.yaml_toml.specs.Walk.{FewDigits, HasNumbers, ScalarsHaveNumbers}
 use Rattle.yaml_toml.proofs.FloatWords.{float_word}
 
--- ---- what holds of a value that there may be
+-- ---- facts of a value that there may be
 
 map_some : {A B : Type 0} (f : A → B) (P : B → Type 0) (o : Option A) → IfSome o (λ a. P (f a)) → IfSome (option_map f o) P
 map_some f P None h = tt

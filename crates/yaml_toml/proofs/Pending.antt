@@ -1,4 +1,4 @@
--- What is pending, as collections are begun and go on.
+-- The pending events, as collections are begun and go on.
 use Rattle.yaml_toml.proofs.Common.{◌≡◌, ℕ, suc, length, length-append, Scalar, ◌+◌, ◌<◌, ◌≤◌, arith, ◌∷◌, ◌++◌, [], List, Bool, refl, ap, subst, sym, ◌∙◌}
 use Rattle.yaml_toml.proofs.Common.{append-nil, append_assoc}
 use Rattle.yaml_toml.proofs.Common.{Event, WriterState, WroteEvent, start_event, scalar, text_content, chars, sequence_end, mapping_end}

@@ -1,4 +1,4 @@
--- What an error says of the text and of the writer.
+-- The statements of an error on the text and on the writer.
 use Rattle.yaml_toml.proofs.Common.{◌≡◌, List, ℕ, Option, None, Some, refl, ap, subst, sym, ◌∙◌, WriterState, inl}
 use Rattle.yaml_base.specs.declared.errors.{yaml_error_t.yaml_error_t, yaml_error_t.TheVariants.Memory}
 use Rattle.yaml_writer.specs.Failing.{HasErrorSaid}

@@ -1,4 +1,4 @@
--- The walk from its start to where it is.
+-- The walk from its start on.
 use Rattle.yaml_toml.proofs.Common.{◌≡◌, ℕ, suc, zero, length, ◌≤◌, ◌∷◌, ◌++◌, [], List, Bool, Ok, refl, ap, subst, sym, ◌∙◌, append-nil, append_assoc, arith}
 use Rattle.yaml_toml.proofs.Common.{Event, WriterState, WasGiven}
 use Rattle.yaml_base.specs.declared.kinds.CollectionKind.{CollectionKind}
@@ -67,7 +67,7 @@ pub record Running (most : ℕ) (in_flow : Bool) (start : WriterState) (all : Li
   pub kept : KeptAfterStop start (Ok tt) now
   pub few : OpensAtMost most 0 given (length (kinds_of opened))
 
--- what was given leaves these collections open, within those that were
+-- the given events leave these collections open, within those that were
 pub so_given : (most : ℕ) (in_flow : Bool) (start now : WriterState) (all : List Event) (numbers : Type 0) (opened : List Rest)
     → (so : Running most in_flow start all numbers now opened) → GivenLeaving start so.given (start.levels ++ kinds_of opened) now
 so_given most in_flow start now all numbers opened so = so.moved start.levels (sym (append-nil start.levels))

@@ -1,4 +1,4 @@
--- The streams of several documents of TOML, and what is read in them.
+-- The streams of several documents of TOML, and their reading.
 use Rattle.yaml_toml.proofs.Common.{ℕ, flat_map, None, Some, Option, Bool, true, false, not, List, [], map, ◌++◌, ◌∷◌, refl, ◌≡◌, append-nil, append_assoc, ap}
 use Rattle.yaml_toml.proofs.Common.{subst, sym, ◌∙◌, and_from, not_from_false, list_any, list_all, unwrap_or, Event, Document, Documents, no_documents, Stream}
 use Rattle.yaml_toml.proofs.Common.{documents_and, directives_in_force, opening, closing, has_scalar_texts, IsAccepted, Settings, Effective, Tree, StandsTaken}
@@ -120,7 +120,7 @@ portable_several false canonical in_flow part rest =
     found : tree_of (all_of (part ∷ rest) canonical in_flow) ≡ Some stream
     found = ap tree_of (sym (stream_flat part rest canonical in_flow)) ∙ tree_of-stream_events stream
 
--- ---- what is read
+-- ---- their reading
 
 -- each decimal of each table is a number
 abbrev HaveNumbers : List toml.TomlNodes → Type 0

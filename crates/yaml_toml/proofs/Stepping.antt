@@ -1,4 +1,4 @@
--- The calls of a walk over a document, from what the calls of its writer and of its list do.
+-- The calls of a walk over a document, from the calls of its writer and of its list.
 use Rattle.yaml_toml.proofs.Common.{◌≡◌, ℕ, suc, length, ◌+◌, ◌<◌, ◌≤◌, arith, ◌∷◌, ◌++◌, [], List, Bool, Result, Ok, Err, OnOk, refl, ap, subst, sym, ◌∙◌}
 use Rattle.yaml_toml.proofs.Common.{append_assoc, Event, Scalar, scalar, WriterState, WroteEvent, start_event, end_event}
 use Rattle.std.specs.Prelude.{◌↔◌, max, pred}
@@ -26,7 +26,7 @@ use Rattle.yaml_toml.proofs.Halting.{fewer_fit, halts_after, halts_at_once, halt
 use Rattle.yaml_toml.proofs.Pending.{kinds_length, kinds-push, numbers-push, pending-push, size-push, steps_after}
 use Rattle.yaml_toml.proofs.Pending.{steps_end, steps_enter, steps_leaf, steps_same}
 
--- what is due, behind these events, is what else is due, and each within its collections
+-- these events and then one due part are another due part, and each is within its collections
 pub record SameDue (ahead : List Event) (depth : ℕ) (canonical in_flow : Bool) (part : Due) (kept : List Rest) (whole : Due) (opened : List Rest)
     : Type 0 where
   pub events :
@@ -36,7 +36,7 @@ pub record SameDue (ahead : List Event) (depth : ℕ) (canonical in_flow : Bool)
   pub size : due_size part + pending_size kept ≤ due_size whole + pending_size opened
   pub fits : DueFits depth part kept ↔ DueFits depth whole opened
 
--- a value, of a collection of which this is left behind it
+-- a value, in a collection with this rest after it
 pub due_next : (ahead : List Event) (depth : ℕ) (canonical in_flow : Bool) (x : TomlNode) (r whole : Rest) (opened kept : List Rest) → kept ≡ opened ++ r ∷ []
     → rest_kind r ≡ rest_kind whole → ahead ++ (toml_events canonical in_flow x ++ rest_events canonical in_flow r) ≡ rest_events canonical in_flow whole
     → (HasNumbers x × RestHasNumbers r → RestHasNumbers whole) → node_size x + rest_size r ≤ rest_size whole
@@ -59,7 +59,7 @@ due_next ahead depth canonical in_flow x r whole opened kept is kind events numb
       fits = fits_next depth opened kept r is (toml_nesting x) (rest_nesting whole) nesting;
     }
 
--- the last table of an array, behind which nothing is left
+-- the last table of an array, after which nothing is left
 pub due_last : (depth : ℕ) (canonical in_flow : Bool) (r empty whole : Rest) (opened kept : List Rest) → kept ≡ opened ++ empty ∷ []
     → rest_kind empty ≡ rest_kind whole
     → start_event in_flow (rest_kind r) ∷ (rest_events canonical in_flow r ++ rest_events canonical in_flow empty) ≡ rest_events canonical in_flow whole
@@ -227,7 +227,7 @@ module _ (settings : TomlSettings) (was : WriterState) where
     same_events between content part kept same =
         ap (λ (c : Bool). scalar content ∷ (events_due c settings.flow part ++ pending c settings.flow kept)) same
 
-    -- the same was due, behind a scalar
+    -- the same was due, after a scalar
     pub step_behind : (between : WriterState) (content : Scalar) (part whole : Due) (kept opened after : List Rest) (answer : Result (Unit {0}) yaml_error_t)
         (result : Result (Unit {0}) Stop) → SameDue (scalar content ∷ []) settings.depth was.canonical settings.flow part kept whole opened
         → IsStopOf answer (Ok tt) → OnOk answer (WroteEvent was (scalar content) between) → Answers was (scalar content) answer between

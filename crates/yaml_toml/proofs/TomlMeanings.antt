@@ -1,4 +1,4 @@
--- What the tree of a TOML value means, wherever each scalar stands.
+-- The meaning of the tree of a TOML value, at any place of each scalar.
 use Rattle.yaml_toml.proofs.Common.{Option, None, Some, codes, Bool, false, true, List, [], ◌++◌, ◌∷◌, refl, ◌≡◌, if◌then◌else◌, is_some, append-nil, ap, subst}
 use Rattle.yaml_toml.proofs.Common.{append_assoc, sym, ◌∙◌, and_parts, chars, node_tree, Text, plain, Scalar, scalar_tag, scalar_node, Nodes, Pairs, no_nodes}
 use Rattle.yaml_toml.proofs.Common.{nodes_and, no_pairs, pairs_and, Effective, is_empty, is_plain, Tree, int_tag, text_content, collection_in, float_tag}
@@ -28,7 +28,7 @@ use Rattle.yaml_toml.proofs.Moments.{valid_moment, core_date}
 use Rattle.yaml_toml.proofs.Integers.{integer_read, integer_plain}
 use Rattle.yaml_toml.proofs.TomlTrees.{toml_node, items_nodes, keys_pairs}
 
--- what a reader takes the scalars of TOML for
+-- a reader's types of the scalars of TOML
 pub record ReadsToml (reader : SchemaReader) : Type 0 where
   pub reads : ReadsScalars reader.schema
   pub specials : (value : SpecialFloat) → reader.schema (special_text value) ≡ special_meaning value
@@ -40,7 +40,7 @@ toml_by_11 = record { reads = reads_by_11; specials = λ value. (special_floats_
 pub toml_by_core : ReadsToml by_core
 toml_by_core = record { reads = reads_by_core; specials = λ value. (special_floats_read value).1; dates = core_date }
 
--- ---- words that stand plain
+-- ---- plain words
 
 special_plain : (value : SpecialFloat) → IsPlainWord (special_text value)
 special_plain Infinity = plain_word (codes ".inf") refl

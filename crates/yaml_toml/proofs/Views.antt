@@ -1,4 +1,4 @@
--- A value of the reader beside what it stands for, and a step seen so.
+-- A value of the reader beside the one that contracts see, and a step seen so.
 use Rattle.yaml_toml.proofs.Common.{◌≡◌, Bool}
 use Rattle.std.proofs.Common.{ℤ, String, Global, string_bytes, rules}
 use Rattle.toml_datetime.specs.declared.datetime.Datetime.{Datetime as DatetimeValue}

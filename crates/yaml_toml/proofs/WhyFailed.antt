@@ -1,4 +1,4 @@
--- Why a writer failed that was given the events of a document.
+-- The reasons why a writer failed that was given the events of a document.
 use Rattle.yaml_toml.proofs.Common.{ℕ, ◌+◌, ◌≤◌, ◌<◌, Option, None, Some, Bool, true, List, [], ◌++◌, ◌∷◌, refl, ◌≡◌, append-nil, append_assoc, inl, inr, ap}
 use Rattle.yaml_toml.proofs.Common.{subst, sym, ◌∙◌, arith, cond, unwrap_or, IfSome, Event, IsPrefix, Settings, State, WriterState, most_open, list_all, Stream}
 use Rattle.yaml_toml.proofs.Common.{is_sound, open_count, begins_collection, opening, closing, StandsTaken}
@@ -26,7 +26,7 @@ use Rattle.yaml_toml.proofs.Accepting.{document_shallow, stream_shallow, stream_
 use Rattle.yaml_toml.proofs.TomlTrees.{all_events, root_of, stream_flat, toml_stream}
 use Rattle.yaml_writer.proofs.Taken.{adds_nothing, moves_taken}
 
--- what begins a stream opens nothing
+-- the beginning of a stream opens nothing
 few_opened : (first : List Event) (depth : ℕ) → ((prefix rest : List Event) → prefix ++ rest ≡ first → open_count prefix ≤ depth) → (prefix rest : List Event)
     → prefix ++ rest ≡ opening ++ first → open_count prefix ≤ depth
 few_opened first depth few [] rest is = omega arith
@@ -126,7 +126,7 @@ module _ (given : Settings) (in_flow : Bool) (depth : ℕ) (text : List ℕ) (ro
     pub unfinished_by : TomlFailsBy given in_flow depth text error
     unfinished_by = by_error state.error refl
 
--- ---- what was given of a text
+-- ---- the events that were given of a text
 
 same_root : (a b : toml.TomlNodes) → Some a ≡ Some b → a ≡ b
 same_root a b is = ap (λ (o : Option toml.TomlNodes). unwrap_or o a) is

@@ -1,4 +1,4 @@
--- The stream of a TOML document, and what is read in it.
+-- The stream of a TOML document, and its reading.
 use Rattle.yaml_toml.proofs.Common.{ℕ, None, Some, Bool, true, List, [], ◌++◌, ◌∷◌, refl, ◌≡◌, ap, subst, ◌∙◌, and_from, list_all-append, list_all}
 use Rattle.yaml_toml.proofs.Common.{Event, has_scalar_texts, IsAccepted, Settings, Effective, directives_in_force, Tree, WriterState, opening, closing}
 use Rattle.yaml_toml.proofs.Common.{StandsTaken, node_tree}

@@ -5,7 +5,7 @@ use Rattle.toml_ordered.specs.Grammar.{ordered_document}
 use Rattle.yaml_toml.specs.declared.error.TomlError.{TomlError}
 use Rattle.yaml_toml.specs.declared.error.TomlError.TheVariants as errors
 
--- how many arrays and tables lie in one another in a value, itself among them; the tables of an array lie in it
+-- the number of arrays and tables in one another in a value, itself among them; the tables of an array are in it
 abbrev mutual
   pub toml_nesting : TomlNode → ℕ
   toml_nesting (array items) = suc (items_nesting items)
@@ -21,7 +21,7 @@ abbrev mutual
   keys_nesting no_nodes = 0
   keys_nesting (node key x keys) = max (toml_nesting x) (keys_nesting keys)
 
--- and in a document, whose root table counts
+-- the same of a document, whose root table counts
 abbrev pub document_nesting : TomlNodes → ℕ
 document_nesting root = suc (keys_nesting root)
 
@@ -37,7 +37,7 @@ pub record NestsDeeper (depth : ℕ) (text : List ℕ) : Type 0 where
   pub read : ordered_document text ≡ Some root
   pub deeper : depth < document_nesting root
 
--- what an error says of the depth: `TooDeep` comes only of a document that nests deeper than this
+-- the statement of an error on the depth: `TooDeep` comes only of a document that nests deeper than this
 abbrev pub ExplainsDepth : (depth : ℕ) → (text : List ℕ) → TomlError → Type 0
 ExplainsDepth depth text errors.TooDeep = NestsDeeper depth text
 ExplainsDepth depth text _ = Unit {0}

@@ -36,12 +36,12 @@ infinite negative = if negative then NegativeInfinity else Infinity
 abbrev pub special_content : (canonical : Bool) → SpecialFloat → Scalar
 special_content canonical value = word_content canonical float_tag (special_text value)
 
--- a timestamp has its tag where it has a time of day, and in canonical form
+-- a timestamp has its tag if it has a time of day, and in canonical form
 abbrev pub moment_content : (canonical : Bool) → Moment → Scalar
 moment_content canonical moment =
     content_with (if canonical || is_some moment.time then Some timestamp_tag else None) (timestamp_text moment) plain
 
--- what YAML 1.1 has no timestamp of is a text, spelled as in TOML
+-- a date or a time that YAML 1.1 has no timestamp of is a text, spelled as in TOML
 abbrev pub date_content : (canonical : Bool) → Datetime → Option Moment → Scalar
 date_content canonical date (Some moment) = moment_content canonical moment
 date_content canonical date None = text_content (chars (datetime_text date))

@@ -1,4 +1,4 @@
--- What a writer was given of a document that isn't written, and why no stream was.
+-- The events that a writer was given of a document that isn't written, and the reasons why no stream was.
 use Rattle.std.specs.Prelude.{◌≡◌, ℕ, ◌≤◌, Bool, None, Some, IfSome, List, ◌++◌}
 use Rattle.toml_ordered.specs.Data.{TomlNodes, table}
 use Rattle.toml_ordered.specs.Grammar.{ordered_document}
@@ -24,13 +24,13 @@ pub record GaveFirst (depth : ℕ) (due : List Event) (was now : WriterState) : 
   pub few : (prefix rest : List Event) → prefix ++ rest ≡ given → open_count prefix ≤ depth
   pub adds : AddsEvents was.emitter given now.emitter
 
--- the writer was given the first events of the document that the text is; where the text is none, nothing changed, and an error that is a
--- writer's tells of an allocation
+-- The writer was given the first events of the document that the text is; if the text is none, nothing changed, and a writer's error tells
+-- of an allocation.
 pub record StopsInDocument (depth : ℕ) (in_flow : Bool) (text : List ℕ) (was : WriterState) (error : TomlError) (now : WriterState) : Type 0 where
   pub none : ordered_document text ≡ None → (now ≡ was) × IfSome (toml_writers_error error) (λ code. code ≡ Memory)
   pub first : (root : TomlNodes) → ordered_document text ≡ Some root → GaveFirst depth (toml_events was.canonical in_flow (table Header root)) was now
 
--- ---- why no stream was written
+-- ---- the reasons why no stream was written
 
 abbrev pub stream_events_of : Settings → (in_flow : Bool) → TomlNodes → List Event
 stream_events_of given in_flow root = opening ++ toml_events given.canonical in_flow (table Header root) ++ closing

@@ -1,4 +1,4 @@
--- Whether what is left of a document nests no deeper than is allowed.
+-- Whether the rest of a document nests no deeper than is allowed.
 use Rattle.std.specs.Prelude.{◌↔◌, ℕ, suc, max, ◌<◌, ◌≤◌, ◌-◌, Result, Ok, Err, List, [], ◌∷◌, length}
 use Rattle.toml_ordered.specs.Data.{TomlNodes, items_view}
 use Rattle.toml_ordered.specs.Keys.{live_view}
@@ -8,32 +8,32 @@ use Rattle.yaml_toml.specs.declared.walk.Rest.TheVariants as rest
 use Rattle.yaml_toml.specs.declared.walk.Stop.{Stop}
 use Rattle.yaml_toml.specs.declared.walk.Stop.TheVariants as stop
 
--- how deep what is left of a collection nests within it
+-- the depth of the rest of a collection within it
 abbrev pub rest_nesting : Rest → ℕ
 rest_nesting (rest.Items items) = items_nesting (items_view items.now)
 rest_nesting (rest.Tables done last) = max (items_nesting (items_view done.now)) (suc (keys_nesting (live_view last)))
 rest_nesting (rest.Members keys) = keys_nesting (live_view keys)
 
--- what is left of the collections that are open within so many others fits what is allowed
+-- True if the rests of the collections that are open within so many others nest no deeper than is allowed.
 abbrev pub PendingFits : (depth around : ℕ) → List Rest → Type 0
 PendingFits depth around [] = Unit {0}
 PendingFits depth around (outer ∷ inner) = (rest_nesting outer ≤ depth - suc around) × PendingFits depth (suc around) inner
 
--- so does that, and a value in the innermost of them, which nests so deep
+-- the same of them and a value in the innermost, which nests so deep
 abbrev pub NodeFits : (depth nested : ℕ) → List Rest → Type 0
 NodeFits depth nested opened = (nested ≤ depth - length opened) × PendingFits depth 0 opened
 
--- so does that, and what is left of one more, which nests so deep
+-- the same of them and the rest of one more, which nests so deep
 abbrev pub RestFits : (depth nested : ℕ) → List Rest → Type 0
 RestFits depth nested opened = (nested ≤ depth - suc (length opened)) × PendingFits depth 0 opened
 
--- after a success what is left fits exactly where what was due did; after `TooDeep` that didn't
+-- After a success the rests fit if and only if the due part did; after `TooDeep` that didn't.
 abbrev pub FitsAfter : (depth : ℕ) → (due : Type 0) → Result (Unit {0}) Stop → List Rest → Type 0
 FitsAfter depth due (Ok done) opened = PendingFits depth 0 opened ↔ due
 FitsAfter depth due (Err stop.TooDeep) opened = due → ⊥
 FitsAfter depth due (Err (stop.Failed error)) opened = Unit {0}
 
--- so of a whole document
+-- the same of a whole document
 abbrev pub NestsAfter : (depth : ℕ) → (root : TomlNodes) → Result (Unit {0}) Stop → Type 0
 NestsAfter depth root (Ok done) = document_nesting root ≤ depth
 NestsAfter depth root (Err stop.TooDeep) = depth < document_nesting root

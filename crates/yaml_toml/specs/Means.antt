@@ -1,4 +1,4 @@
--- What a tree that was read means by a schema, and when that is a value of TOML.
+-- The meaning of a tree by a schema, and when that is a value of TOML.
 use Rattle.std.specs.Prelude.{◌≡◌, ℕ, Bool, true, Option, None, Some, List, [], ◌∷◌, ◌++◌, is_none}
 use Rattle.toml_datetime.specs.Text.{datetime_text}
 use Rattle.toml_datetime.specs.declared.datetime.Datetime.{Datetime}
@@ -20,7 +20,7 @@ use Rattle.yaml_writer.specs.Writing.{IsStream, opening, closing, timestamp_tag}
 use Rattle.yaml_writer.specs.TomlDates.{moment_of}
 use Rattle.yaml_toml.specs.Events.{json_word, toml_events}
 
--- a schema, and what it takes a date for that stands plain: a timestamp by YAML 1.1, a text by the core schema
+-- a schema, and its reading of a plain date: a timestamp by YAML 1.1, a text by the core schema
 pub record SchemaReader : Type 0 where
   pub schema : Schema
   pub date : Resolved
@@ -31,7 +31,7 @@ by_11 = record { schema = resolved_by_11; date = meant_timestamp }
 abbrev pub by_core : SchemaReader
 by_core = record { schema = resolved_by_core; date = meant_text }
 
--- a timestamp is named by its tag; a date alone may also stand plain, as what the schema takes it for
+-- a timestamp is named by its tag; a date alone may also be plain, if the schema reads it as it reads plain dates
 abbrev pub IsDated : SchemaReader → Moment → Tagging → Text → Type 0
 IsDated reader moment (with_tag tag) value = tag ≡ timestamp_tag
 IsDated reader moment (without_tag stood_plain) value = (is_none moment.time ≡ true) × (reader.schema value ≡ reader.date)
@@ -47,8 +47,8 @@ abbrev pub MeansDate : SchemaReader → Datetime → Option Moment → Tree → 
 MeansDate reader date (Some moment) tree = MeansMoment reader moment tree
 MeansDate reader date None tree = MeansText reader.schema (datetime_text date) tree
 
--- a tree means this value; the items of an array and the keys and values of a table, all of them in order; the tables of an array, the last
--- behind those that are complete
+-- A tree means this value: the items of an array and the keys and values of a table, all of them in order; the tables of an array, the last
+-- after those that are complete.
 abbrev mutual
   pub MeansToml : SchemaReader → TomlNode → Tree → Type 0
   MeansToml reader (string text) tree = MeansText reader.schema text tree
@@ -75,8 +75,8 @@ abbrev mutual
   KeysMean reader (node key x keys) (pair ∷ pairs) = MeansText reader.schema key pair.0 × MeansToml reader x pair.1 × KeysMean reader keys pairs
   KeysMean reader _ _ = ⊥
 
--- what the reader of whole streams finds in some bytes: one document without directives, whose root means this table by the type
--- repository of YAML 1.1 and by the core schema of YAML 1.2
+-- The reader of whole streams finds in some bytes one document without directives, whose root means this table by the type repository of
+-- YAML 1.1 and by the core schema of YAML 1.2.
 pub record ReadsAsToml (breaks12 : Bool) (bytes : List ℕ) (root : TomlNodes) : Type 0 where
   pub tree : Tree
   pub read : stream_trees breaks12 bytes ≡ Some (plain_document tree ∷ [])

@@ -1,4 +1,4 @@
--- Where an error says that a text is refused.
+-- The places at which errors say that a text is refused.
 use Rattle.std.specs.Prelude.{ℕ, ◌-◌, List, length, string_bytes}
 use Rattle.toml_ordered.specs.Nesting.{NestsTooDeep}
 use Rattle.toml_ordered.specs.Places.{Conflict, StopsAtExpression}
@@ -14,13 +14,13 @@ IsBeforeLeft text left (errors.DefinedAgain key first_line first_column line col
 IsBeforeLeft text left (errors.TooDeepToRead line column) = AreOf text (length text - left) line column
 IsBeforeLeft text left _ = ⊥
 
--- where an error says that the text is no document of TOML, the text is read up to an expression that is refused, and the error's place is
--- there or behind
+-- If an error says that the text is no document of TOML, the text is read up to an expression that is refused, and the error's place is
+-- there or after.
 abbrev pub HasTomlPlace : (text : List ℕ) → TomlError → Type 0
 HasTomlPlace text error = DeniesToml error → (left : ℕ) × StopsAtExpression text left × IsBeforeLeft text left error
 
--- where an error says that a key is defined again, the text defines this key so, at both places that the error has; and where it says that
--- nothing is read that deep, a value in the text nests so deep at its place
+-- If an error says that a key is defined again, the text defines this key at both places of the error, and the key takes no more; if it says
+-- that nothing is read that deep, a value in the text nests so deep at its place.
 abbrev pub HasTomlReason : (text : List ℕ) → TomlError → Type 0
 HasTomlReason text (errors.TooDeepToRead line column) = (left : ℕ) × NestsTooDeep text left × AreOf text (length text - left) line column
 HasTomlReason text (errors.DefinedAgain key first_line first_column line column) =

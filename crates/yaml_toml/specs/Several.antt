@@ -1,4 +1,4 @@
--- Several documents of TOML in one stream, and what is read of them.
+-- Several documents of TOML in one stream, and their reading.
 use Rattle.std.specs.Prelude.{◌≡◌, ℕ, Bool, true, Some, List, [], ◌∷◌, ◌++◌, map}
 use Rattle.toml_ordered.specs.Data.{TomlNodes, table}
 use Rattle.toml_ordered.specs.Grammar.{ordered_document}
@@ -32,8 +32,8 @@ AllTablesMean reader [] [] = Unit {0}
 AllTablesMean reader (root ∷ roots) (tree ∷ trees) = MeansToml reader (table Header root) tree × AllTablesMean reader roots trees
 AllTablesMean reader _ _ = ⊥
 
--- what the reader of whole streams finds in some bytes: for each of these tables one document without directives, in order, whose root
--- means the table by the type repository of YAML 1.1 and by the core schema of YAML 1.2
+-- The reader of whole streams finds in some bytes for each of these tables one document without directives, in order, whose root means
+-- the table by the type repository of YAML 1.1 and by the core schema of YAML 1.2.
 pub record ReadsAsTables (breaks12 : Bool) (bytes : List ℕ) (roots : List TomlNodes) : Type 0 where
   pub trees : List Tree
   pub read : stream_trees breaks12 bytes ≡ Some (map plain_document trees)
@@ -47,8 +47,8 @@ pub record IsYamlOfSeveral (given : Settings) (in_flow : Bool) (parts : List (Li
   pub reads : ReadsAsTables given.breaks12 bytes (map (λ part. part.1) parts)
   pub reads_with_either_breaks : given.portable ≡ true → (breaks12 : Bool) → ReadsAsTables breaks12 bytes (map (λ part. part.1) parts)
 
--- where a writer was at the start of its first document, and was given the documents of some texts, one at least, and these bytes were
--- taken meanwhile, the stream that it then finishes, with what was taken of it, is read as their tables, in order
+-- If a writer was at the start of its first document, was given the documents of some texts, one at least, and these bytes were taken
+-- meanwhile, then the stream that it finishes, the taken bytes first, is read as their tables, in order.
 abbrev pub DocumentsAreRead : Type 0
 DocumentsAreRead =
     (in_flow : Bool) (part : List ℕ × TomlNodes) (rest : List (List ℕ × TomlNodes)) (was now : WriterState) (taken : List ℕ)

@@ -1,4 +1,4 @@
--- What the calls of a walk over a document do, by their results.
+-- The effects of the calls of a walk over a document, by their results.
 use Rattle.std.specs.Prelude.{◌≡◌, ℕ, suc, ◌+◌, Bool, Option, None, Some, OnOk, Result, Ok, Err, List, [], ◌∷◌, ◌++◌}
 use Rattle.toml_ordered.specs.Data.{TomlNode, TomlNodes, array, table, tables, items_view}
 use Rattle.toml_ordered.specs.Keys.{live_view}
@@ -21,7 +21,7 @@ use Rattle.yaml_toml.specs.declared.walk.Rest.{Rest}
 use Rattle.yaml_toml.specs.declared.walk.Rest.TheVariants as rest
 use Rattle.yaml_toml.specs.declared.walk.Stop.{Stop}
 
--- where a walk is: the writer, and what is left of the collections that are open
+-- the state of a walk: the writer, and the rests of the collections that are open
 pub record TomlWalk : Type 0 where
   pub writer : WriterState
   pub opened : List Rest
@@ -29,9 +29,9 @@ pub record TomlWalk : Type 0 where
 abbrev pub walk_at : WriterState → List Rest → TomlWalk
 walk_at writer opened = record { writer = writer; opened = opened }
 
--- ---- what a call has to write
+-- ---- the due part of a document
 
--- a value; a collection, of which this is left behind its start; what is left of the innermost collection
+-- The part that a call has to write: a value; a collection with this rest after its start; the rest of the innermost collection.
 pub data Due : Type 0 where
   value_due : TomlNode → Due
   collection_due : Rest → Due
@@ -42,7 +42,7 @@ events_due canonical in_flow (value_due x) = toml_events canonical in_flow x
 events_due canonical in_flow (collection_due r) = start_event in_flow (rest_kind r) ∷ rest_events canonical in_flow r
 events_due canonical in_flow (rest_due r) = rest_events canonical in_flow r
 
--- the collections that are open around it, where what is left of the others is this
+-- the collections that are open around it, given the rests of the others
 abbrev pub kinds_around : Due → List Rest → List CollectionKind
 kinds_around (rest_due r) opened = kinds_of opened ++ rest_kind r ∷ []
 kinds_around _ opened = kinds_of opened
@@ -57,17 +57,17 @@ due_size (value_due x) = node_size x
 due_size (collection_due r) = 1 + rest_size r
 due_size (rest_due r) = rest_size r
 
--- it fits what is allowed, and so does what is left of the others
+-- True if it nests no deeper than is allowed, and neither do the rests of the others.
 abbrev pub DueFits : (depth : ℕ) → Due → List Rest → Type 0
 DueFits depth (value_due x) opened = NodeFits depth (toml_nesting x) opened
 DueFits depth (collection_due r) opened = NodeFits depth (suc (rest_nesting r)) opened
 DueFits depth (rest_due r) opened = RestFits depth (rest_nesting r) opened
 
--- the events of it and of what is left of the others
+-- the events of it and of the rests of the others
 abbrev pub all_due : (in_flow : Bool) → Due → TomlWalk → List Event
 all_due in_flow due walk = events_due walk.writer.canonical in_flow due ++ pending walk.writer.canonical in_flow walk.opened
 
--- ---- what a value is
+-- ---- kinds of values
 
 -- the value that a collection is
 abbrev pub value_of_rest : Origin → Rest → TomlNode
@@ -75,14 +75,14 @@ value_of_rest origin (rest.Items items) = array (items_view items.now)
 value_of_rest origin (rest.Tables done last) = tables (items_view done.now) (live_view last)
 value_of_rest origin (rest.Members keys) = table origin (live_view keys)
 
--- it is neither an array nor a table
+-- True of a value that is neither an array nor a table.
 abbrev pub IsNoCollection : TomlNode → Type 0
 IsNoCollection (array items) = ⊥
 IsNoCollection (table origin keys) = ⊥
 IsNoCollection (tables done last) = ⊥
 IsNoCollection _ = Unit {0}
 
--- what is to be written of it behind its start; nothing, where it is a scalar
+-- True of all of a value but its start, and of `None` for a scalar.
 abbrev pub IsRestOf : TomlNode → Option Rest → Type 0
 IsRestOf x None = IsNoCollection x
 IsRestOf x (Some r) = (origin : Origin) × (x ≡ value_of_rest origin r)
@@ -98,7 +98,7 @@ pub record WroteScalar (x : TomlNode) (was : WriterState) (result : Result (Unit
 
 -- ---- a call
 
--- some of what was due was given, and the rest is left of the collections that are open; it fits what is allowed exactly where all did
+-- Some of the due events were given, and the others are those of the rests; the rests fit if and only if all did.
 pub record StepGiven (settings : TomlSettings) (due : Due) (before after : TomlWalk) : Type 0 where
   pub written :
       GaveSome settings.depth settings.flow before.writer (all_due settings.flow due before) (kinds_around due before.opened)
@@ -106,7 +106,7 @@ pub record StepGiven (settings : TomlSettings) (due : Due) (before after : TomlW
   pub nests : FitsAfter settings.depth (DueFits settings.depth due before.opened) (Ok tt) after.opened
   pub kept : KeptAfterStop before.writer (Ok tt) after.writer
 
--- the first of what was due was given, and no more; after `TooDeep` it doesn't fit what is allowed
+-- The first of the due events were given, and no more; after `TooDeep` the due part nests deeper than is allowed.
 pub record StepStopped (settings : TomlSettings) (due : Due) (before : TomlWalk) (stop : Stop) (after : TomlWalk) : Type 0 where
   pub nests : FitsAfter settings.depth (DueFits settings.depth due before.opened) (Err stop) after.opened
   pub stopped : StepsStop settings.depth before.writer (all_due settings.flow due before) (kinds_around due before.opened) after.writer

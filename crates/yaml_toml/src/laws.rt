@@ -2,7 +2,7 @@
 ghost use Rattle.yaml_toml.specs.Several.{DocumentsAreRead};
 ghost use Rattle.yaml_toml.specs.Walk.{ScalarsHaveNumbers};
 
-/// States that the documents of several texts, each begun by `next_document` behind the one before, are read back as the tables of
+/// States that the documents of several texts, each begun by `next_document` after the one before, are read back as the tables of
 /// the texts, in order.
 pub fn documents_are_read()
     ensures { DocumentsAreRead }

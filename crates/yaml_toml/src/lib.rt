@@ -1,5 +1,5 @@
-//! TOML documents (TOML 1.1), written as YAML that both schemas of YAML read as the same values, with the keys of each table in
-//! the order in which the document first defines them. Comments are dropped.
+//! TOML documents (TOML 1.1), written as YAML that YAML 1.1 and the core schema of YAML 1.2 read as the same values. The keys of each
+//! table are in the order in which the document first defines them. Comments are dropped.
 #![tactic(auto)]
 
 mod error;

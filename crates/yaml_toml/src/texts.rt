@@ -23,7 +23,7 @@ fn place_before(text: &str, left: usize) -> (usize, usize)
     place_of(text.as_bytes(), text.len().saturating_sub(left))
 }
 
-/// Returns the error that tells a caller of a fault of a text.
+/// Converts a fault of a text to the caller's error.
 fn error_of(text: &str, fault: Fault) -> TomlError
     ensures error { toml_writers_error result ≡ fault_error fault }
     ensures place { IfSome (place_left fault) (λ left. IsBeforeLeft text.now left result) }
@@ -53,18 +53,19 @@ fn error_of(text: &str, fault: Fault) -> TomlError
     }
 }
 
-/// Gives a writer the events of a TOML document, by all of these settings but those of a writer. Arrays and tables may nest
-/// `settings.depth` deep, the root table among them. Each of them stands in flow if `settings.flow` is set, else in a block, where it
-/// isn't empty. The keys of each table come in the order in which the document first defines them. Comments are dropped.
+/// Gives a writer the events of a TOML document, by all of these settings but `settings.writer`. Arrays and tables may nest
+/// `settings.depth` deep, the root table among them. They are written in flow if `settings.flow` is set; otherwise those that aren't
+/// empty are written in blocks. The keys of each table come in the order in which the document first defines them. Comments are
+/// dropped.
 ///
 /// The writer must have no anchor and no tag for the next node.
 ///
 /// # Errors
 ///
-/// `NotToml` and `DefinedAgain` where the text is no document of TOML 1.1, and `TooDeepToRead` where arrays and tables in braces nest more
-/// than 80 deep, whatever `settings.depth` allows: nothing is written then. `TooDeep` where arrays and tables nest deeper than it allows.
-/// `Emitter` with the error of the writer's emitter, which has it now, or with `Memory` where an allocation fails. After an error the writer
-/// was given the first of the document's events, and nothing that was written is lost.
+/// `NotToml` and `DefinedAgain` if the text is no document of TOML 1.1, and `TooDeepToRead` if arrays and tables in braces nest more than
+/// 80 deep, even if `settings.depth` allows it: nothing is written then. `TooDeep` if arrays and tables nest deeper than `settings.depth`.
+/// `Emitter` with the error of the writer's emitter, which has it from then on, or with `Memory` if an allocation fails. After an error the
+/// writer was given the first of the document's events, and no earlier output is lost.
 pub fn write_toml<A: Allocator + Copy>(
     alloc: Global,
     writer: &mut Writer<A>,
@@ -89,8 +90,8 @@ pub fn write_toml<A: Allocator + Copy>(
 ///
 /// # Errors
 ///
-/// `NotToml`, `DefinedAgain`, `TooDeepToRead` and `TooDeep` as by `write_toml`. `Emitter` with `WriteError` where the bytes pass the limit,
-/// with `Memory` where an allocation fails, and with `TooDeep` where arrays and tables nest more than 1,000,000 deep and `settings.depth`
+/// `NotToml`, `DefinedAgain`, `TooDeepToRead` and `TooDeep` as by `write_toml`. `Emitter` with `WriteError` if the bytes pass the limit,
+/// with `Memory` if an allocation fails, and with `TooDeep` if arrays and tables nest more than 1,000,000 deep and `settings.depth`
 /// allows it.
 pub fn yaml_from_toml(
     alloc: Global,

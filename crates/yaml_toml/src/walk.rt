@@ -1,5 +1,4 @@
-//! A walk over a document, depth first, from its tree to a writer. What is left of each array and table that is open stands in a
-//! list.
+//! A walk over a document, depth first, from its tree to a writer. A list has the rest of each array and table that is open.
 ghost use Rattle.std.specs.Prelude.{◌≡◌, List, [], ◌∷◌, ◌++◌, IfErr, MatchOption, OnOk};
 ghost use Rattle.toml_ordered.specs.Data.{node_view};
 ghost use Rattle.toml_ordered.specs.Keys.{table_view};
@@ -49,7 +48,7 @@ impl Rest<'_> {
     }
 }
 
-/// Returns why a walk stops by a writer's answer.
+/// Converts a writer's answer to the walk's.
 fn stop_of(answer: Result<(), yaml_error_t>) -> Result<(), Stop>
     ensures { IsStopOf answer result }
 {
@@ -59,7 +58,7 @@ fn stop_of(answer: Result<(), yaml_error_t>) -> Result<(), Stop>
     }
 }
 
-/// Adds what is left of a collection to what is open.
+/// Adds the rest of a collection to those that are open.
 fn keep<'a>(opened: &mut Vec<Rest<'a>>, rest: Rest<'a>) -> Result<(), Stop>
     ensures kept { OnOk result (opened.new.items ≡ opened.old.items ++ rest.entry ∷ []) }
     ensures failed { IfErr result IsOwnMemory }
@@ -70,7 +69,7 @@ fn keep<'a>(opened: &mut Vec<Rest<'a>>, rest: Rest<'a>) -> Result<(), Stop>
     }
 }
 
-/// Takes away what is left of the innermost collection.
+/// Takes away the rest of the innermost collection.
 fn take_innermost<'a>(opened: &mut Vec<Rest<'a>>) -> Option<Rest<'a>>
     ensures { MatchOption result ((opened.old.items ≡ []) × (opened.new.items ≡ [])) (λ rest. opened.old.items ≡ opened.new.items ++ rest ∷ []) }
 {
@@ -117,7 +116,7 @@ fn end_innermost<A: Allocator + Copy>(writer: &mut Writer<A>) -> Result<(), yaml
     writer.end()
 }
 
-/// Begins a collection, of which this is left.
+/// Begins a collection with this rest.
 fn enter<'a, A: Allocator + Copy>(
     writer: &mut Writer<A>,
     opened: &mut Vec<Rest<'a>>,
@@ -152,7 +151,7 @@ fn write_node<'a, A: Allocator + Copy>(
     }
 }
 
-/// Returns what is to be written of an array or a table behind its start.
+/// Returns all of an array or a table but its start, and `None` for any other value.
 fn rest_of(node: &Node) -> Option<Rest<'_>>
     ensures { IsRestOf (node_view node.now) result }
 {
@@ -170,7 +169,7 @@ fn rest_of(node: &Node) -> Option<Rest<'_>>
     }
 }
 
-/// Writes the next of what is left of the innermost collection, or ends it.
+/// Writes the next part of the rest of the innermost collection, or ends it.
 fn write_rest<'a, A: Allocator + Copy>(
     writer: &mut Writer<A>,
     opened: &mut Vec<Rest<'a>>,
