@@ -1,10 +1,12 @@
 -- The answers of a writer's calls to the walk.
-use Rattle.yaml_toml.proofs.Common.{◌≡◌, ◌⊎◌, ◌∷◌, ◌++◌, [], List, Bool, Option, None, Some, Result, Ok, Err, IfErr, OnOk, inl, inr, refl, subst, sym, ◌∙◌, ap₂}
-use Rattle.yaml_toml.proofs.Common.{append-nil, append_assoc, Event, State, WriterState, GaveEvent, WroteEvent, IsBare, end_event, EndsInnermost, AddsEvents}
+use Rattle.yaml_toml.proofs.Common.{◌≡◌, ◌⊎◌, ◌∷◌, ◌++◌, [], List, Bool, Option, None, Some, Result, Ok, Err, IfErr, OnOk, inl, inr, refl, subst, sym, ◌∙◌, ap, ap₂}
+use Rattle.yaml_toml.proofs.Common.{append-nil, append_assoc, Event, State, WriterState, GaveEvent, WroteEvent, IsBare, end_event, EndsInnermost}
 use Rattle.yaml_toml.proofs.Common.{Text, Scalar, scalar, plain, is_none, is_some, ◌||◌}
-use Rattle.yaml_writer.proofs.GivenLemmas.{ended, gave_then, leaves_same, none_more, on_ok, same_last, text_is, wrote_event}
+use Rattle.yaml_writer.proofs.GivenLemmas.{none_more, on_ok, same_last, text_is, wrote_event}
+use Rattle.yaml_writer.proofs.OpenLevels.{gave_end, gave_event, gave_events_then}
+use Rattle.yaml_writer.specs.WasGiven.{GaveEvents, levels_after_event}
 use Rattle.yaml_writer.specs.Failing.{HasErrorSaid}
-use Rattle.yaml_writer.proofs.Taken.{gives_ok, gives_err, moves_add}
+use Rattle.yaml_writer.proofs.Taken.{gives_ok, gives_err}
 use Rattle.std.specs.Str.{chars}
 use Rattle.toml_datetime.specs.Text.{datetime_text}
 use Rattle.toml_datetime.specs.declared.datetime.Datetime.{Datetime}
@@ -27,10 +29,11 @@ unchanged : (before : WriterState) → HasErrorSaid before (Some Memory) before
 unchanged before = inl (refl, λ none. none)
 
 -- a call that gives an event
-module _ (before after first : WriterState) (same : first.emitter ≡ before.emitter) (event stated : Event) (is : event ≡ stated) where
-  adds_stated : AddsEvents first.emitter (event ∷ []) after.emitter → AddsEvents before.emitter (stated ∷ []) after.emitter
-  adds_stated adds =
-      subst (λ (e : Event). AddsEvents before.emitter (e ∷ []) after.emitter) is (subst (λ (s : State). AddsEvents s (event ∷ []) after.emitter) same adds)
+module _ (before after first : WriterState) (same : first.emitter ≡ before.emitter) (form : first.canonical ≡ before.canonical) (event stated : Event)
+    (levels : first.levels ≡ levels_after_event stated before.levels) (is : event ≡ stated) where
+  gave_stated : (answer : Result (Unit {0}) yaml_error_t) → GaveEvent first event answer after → GaveEvents before (stated ∷ []) after
+  gave_stated answer gave =
+      gave_event before first after stated answer same form levels (subst (λ (e : Event). GaveEvent first e answer after) is gave)
 
   pub answers_event : (answer : Result (Unit {0}) yaml_error_t) → OnOk answer (GaveEvent first event (Ok tt) after)
       → IfErr answer (λ error. GaveEvent first event (Err error) after ⊎ ((error ≡ Memory) × (after ≡ before))) → Answers before stated answer after
@@ -45,7 +48,7 @@ module _ (before after first : WriterState) (same : first.emitter ≡ before.emi
       record {
         grows = subst (λ (s : State). Grows s.page after.emitter.page) same given.moves.grows;
         sound = inr error_is;
-        failed = inr (record { adds = adds_stated (moves_add given.moves); is_error = inr error_is });
+        failed = inr (record { gave = gave_stated (Err error) given; is_error = inr error_is });
       }
   answers_event (Err error) gave (inr memory) =
       subst (λ (now : WriterState). Answers before stated (Err error) now) (sym memory.1)
@@ -53,18 +56,18 @@ module _ (before after first : WriterState) (same : first.emitter ≡ before.emi
 
 -- a call that ends a collection, which is open
 pub answers_end : (before after : WriterState) (answer : Result (Unit {0}) yaml_error_t) (outer : List CollectionKind) (kind : CollectionKind)
-    → before.levels ≡ outer ++ kind ∷ [] → EndsInnermost before answer after → Answers before (end_event kind) answer after
-answers_end before after answer outer kind levels (inl none) = absurd (none_more outer kind (sym levels ∙ none.0))
-answers_end before after (Ok done) outer kind levels (inr end) =
+    → before.levels ≡ outer ++ kind ∷ [] → IsBare before → EndsInnermost before answer after → Answers before (end_event kind) answer after
+answers_end before after answer outer kind levels bare (inl none) = absurd (none_more outer kind (sym levels ∙ none.0))
+answers_end before after (Ok done) outer kind levels bare (inr end) =
     record { grows = end.moves.grows; sound = none_from_result after.emitter.error end.moves.answered; failed = tt }
-answers_end before after (Err error) outer kind levels (inr end) =
+answers_end before after (Err error) outer kind levels bare (inr end) =
     let same = same_last end.outer outer end.kind kind (sym end.levels ∙ levels) in
     let error_is = some_from_result after.emitter.error error end.moves.answered in
     record {
       grows = end.moves.grows;
       sound = inr error_is;
       failed = inr (record {
-        adds = subst (λ (k : CollectionKind). AddsEvents before.emitter (end_event k ∷ []) after.emitter) same.1 (moves_add end.moves);
+        gave = gave_end outer kind before after (Err error) levels bare end same.1 same.0;
         is_error = inr error_is;
       });
     }
@@ -108,29 +111,32 @@ kept_then before between after result one other =
 
 -- ---- moves
 
--- an event that opens and ends nothing
-pub moved_event : (before after : WriterState) (event : Event) (kinds : List CollectionKind) → WroteEvent before event after
-    → Moved before (event ∷ []) kinds kinds after
-moved_event before after event kinds wrote outer is = leaves_same before after (event ∷ []) before.levels (outer ++ kinds) is wrote
+-- a scalar
+pub moved_event : (before after : WriterState) (content : Scalar) (kinds : List CollectionKind) → WroteEvent before (scalar content) after
+    → Moved before (scalar content ∷ []) kinds kinds after
+moved_event before after content kinds wrote outer is = (wrote, wrote.levels ∙ is)
 
 -- the end of one
 pub moved_end : (before after : WriterState) (kind : CollectionKind) → IsBare before → EndsInnermost before (Ok tt) after
     → Moved before (end_event kind ∷ []) (kind ∷ []) [] after
-moved_end before after kind bare ends outer levels =
-    leaves_same before after (end_event kind ∷ []) outer (outer ++ []) (sym (append-nil outer)) (ended outer kind before after levels bare ends)
+moved_end before after kind bare (inl none) outer levels = absurd (none_more outer kind (sym levels ∙ none.0))
+moved_end before after kind bare (inr end) outer levels =
+    let same = same_last end.outer outer end.kind kind (sym end.levels ∙ levels) in
+    (gave_end outer kind before after (Ok tt) levels bare end same.1 same.0, ap (λ (w : WriterState). w.levels) end.rest ∙ same.0 ∙ sym (append-nil outer))
 
 -- within others that are open
 pub moved_within : (before after : WriterState) (events : List Event) (opened these those : List CollectionKind) → Moved before events these those after
     → Moved before events (opened ++ these) (opened ++ those) after
 moved_within before after events opened these those moved outer is =
-    leaves_same before after events ((outer ++ opened) ++ those) (outer ++ (opened ++ those)) (append_assoc outer opened those)
-    (moved (outer ++ opened) (is ∙ sym (append_assoc outer opened these)))
+    let within = moved (outer ++ opened) (is ∙ sym (append_assoc outer opened these)) in
+    (within.0, within.1 ∙ append_assoc outer opened those)
 
 pub moved_then : (before between after : WriterState) (first second : List Event) (these middle those : List CollectionKind)
     → Moved before first these middle between → Moved between second middle those after → Moved before (first ++ second) these those after
 moved_then before between after first second these middle those one other outer is =
-    let first_given = one outer is in
-    gave_then before between after first second (outer ++ middle) (outer ++ those) first_given (other outer first_given.levels)
+    let start = one outer is in
+    let end = other outer start.1 in
+    (gave_events_then before between after first second start.0 end.0, end.1)
 
 pub on_end : (before after : WriterState) (answer : Result (Unit {0}) yaml_error_t) (kind : CollectionKind) → IsBare before
     → EndsInnermost before answer after → OnOk answer (Moved before (end_event kind ∷ []) (kind ∷ []) [] after)
@@ -168,7 +174,7 @@ gives_scalar before after event content answer is gives =
     let gave = gives_ok before after event answer gives in
     record {
       written = on_ok answer (wrote_event before after event (scalar content) is) gave;
-      kept = answers_event before after before refl event (scalar content) is answer gave (gives_err before after event answer gives);
+      kept = answers_event before after before refl refl event (scalar content) refl is answer gave (gives_err before after event answer gives);
     }
 
 -- or for which there was no memory

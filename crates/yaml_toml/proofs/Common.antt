@@ -15,7 +15,6 @@ pub use Rattle.yaml_base.specs.values.TypedValues.{bool_tag, bool_text}
 pub use Rattle.yaml_writer.proofs.Common.{AddsEvents, Err, GaveEvent, IfErr, Ok, OnOk, Result, StandsTaken, State, WriterState, ap₂, end_event}
 pub use Rattle.yaml_writer.proofs.Common.{float_tag, fraction_or_default, int_tag, is_json_integer}
 pub use Rattle.yaml_writer.specs.Contents.{bool_content, collection_in, number_content, text_content, word_content}
-pub use Rattle.yaml_writer.specs.Failing.{FailedGiving}
 pub use Rattle.yaml_writer.specs.Means.{Schema}
 pub use Rattle.yaml_writer.specs.NumberParts.{number_in}
 pub use Rattle.yaml_writer.specs.WasGiven.{IsBare, WasGiven, WroteEvent, start_event}

@@ -1,14 +1,13 @@
 -- The events that were given when a walk stops.
 use Rattle.yaml_toml.proofs.Common.{◌≡◌, ℕ, suc, ◌≤◌, arith, ◌∷◌, [], List, Result, Ok, Err, inl, inr, refl, ap, subst, sym, length, Event, Scalar, scalar}
-use Rattle.yaml_toml.proofs.Common.{WriterState, WroteEvent, FailedGiving}
+use Rattle.yaml_toml.proofs.Common.{WriterState, WroteEvent}
 use Rattle.std.specs.Prelude.{OnErr, pred, zero}
-use Rattle.yaml_writer.proofs.GivenLemmas.{adds_then}
+use Rattle.yaml_writer.proofs.OpenLevels.{gave_events_then, gave_none}
 use Rattle.yaml_base.specs.declared.errors.yaml_error_t.{yaml_error_t}
 use Rattle.yaml_base.specs.declared.kinds.CollectionKind.{CollectionKind}
 use Rattle.yaml_toml.specs.OpenCounts.{count_after}
-use Rattle.yaml_toml.specs.Walk.{Answers, IsStopOf, StepsStop}
+use Rattle.yaml_toml.specs.Walk.{Answers, FailsGiving, IsStopOf, StepsStop}
 use Rattle.yaml_toml.specs.declared.walk.Stop.{Stop}
-use Rattle.yaml_writer.proofs.Taken.{adds_nothing}
 
 -- one that is open ends
 pub fewer_fit : (most n : ℕ) → n ≤ most → pred n ≤ most
@@ -21,20 +20,20 @@ module _ (most : ℕ) (was : WriterState) where
   halts_at_once due before = record {
     given = [];
     begins = record { rest = due; parts = refl };
-    adds = adds_nothing was.emitter;
+    gave = gave_none was;
     few = λ fits. (length before, (fits, refl));
   }
 
   module _ (now : WriterState) where
     -- an event was given, or nothing
     halts_at : (event : Event) (due : List Event) (before : List CollectionKind) (error : yaml_error_t)
-        → (length before ≤ most → count_after event (length before) ≤ most) → FailedGiving was event error now → StepsStop most was (event ∷ due) before now
+        → (length before ≤ most → count_after event (length before) ≤ most) → FailsGiving was event error now → StepsStop most was (event ∷ due) before now
     halts_at event due before error room (inl memory) =
         subst (λ (after : WriterState). StepsStop most was (event ∷ due) before after) (sym memory.1) (halts_at_once (event ∷ due) before)
     halts_at event due before error room (inr failed) = record {
       given = event ∷ [];
       begins = record { rest = due; parts = refl };
-      adds = failed.adds;
+      gave = λ bare. failed.gave;
       few = λ fits. (count_after event (length before), (fits, (room fits, refl)));
     }
 
@@ -60,6 +59,6 @@ halts_after most was between now content due kinds wrote stop =
     record {
       given = scalar content ∷ stop.given;
       begins = record { rest = stop.begins.rest; parts = ap (λ (events : List Event). scalar content ∷ events) stop.begins.parts };
-      adds = adds_then was.emitter between.emitter now.emitter (scalar content ∷ []) stop.given wrote.adds stop.adds;
+      gave = λ bare. gave_events_then was between now (scalar content ∷ []) stop.given wrote (stop.gave wrote.bare);
       few = λ fits. let more = stop.few fits in (more.0, (fits, more.1));
     }

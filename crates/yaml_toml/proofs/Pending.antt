@@ -74,7 +74,7 @@ module _ (most : ℕ) (in_flow : Bool) (was now : WriterState) where
       (1 + pending_size opened) now opened
   steps_leaf content numbers opened have wrote = record {
     given = scalar content ∷ [];
-    moved = moved_event was now (scalar content) (kinds_of opened) wrote;
+    moved = moved_event was now content (kinds_of opened) wrote;
     parts = refl;
     numbers_in = λ pending. (have, pending);
     less = omega arith;
@@ -139,7 +139,7 @@ pub steps_after : (most : ℕ) (in_flow : Bool) (was between now : WriterState) 
     → GaveSome most in_flow between due kinds numbers size now opened → GaveSome most in_flow was (scalar content ∷ due) kinds numbers size now opened
 steps_after most in_flow was between now content due kinds numbers size opened wrote steps = record {
   given = scalar content ∷ steps.given;
-  moved = moved_then was between now (scalar content ∷ []) steps.given kinds kinds (kinds_of opened) (moved_event was between (scalar content) kinds wrote)
+  moved = moved_then was between now (scalar content ∷ []) steps.given kinds kinds (kinds_of opened) (moved_event was between content kinds wrote)
       steps.moved;
   parts =
       ap (λ (events : List Event). scalar content ∷ events)

@@ -7,8 +7,9 @@ use Rattle.toml_ordered.specs.declared.tree.Origin.TheVariants.{Header}
 use Rattle.yaml_toml.specs.Events.{toml_events}
 use Rattle.yaml_base.proofs.Common.{sequence_start, sequence_end, mapping_start, mapping_end, open_count}
 use Rattle.yaml_emitter.proofs.AcceptedLists.{Stays, after_event, few_open}
-use Rattle.yaml_writer.proofs.GivenLemmas.{adds_then, leaves_same}
-use Rattle.yaml_writer.specs.WasGiven.{GivenLeaving}
+use Rattle.yaml_writer.proofs.GivenLemmas.{leaves_same}
+use Rattle.yaml_writer.proofs.OpenLevels.{gave_events_then}
+use Rattle.yaml_writer.specs.WasGiven.{GivenLeaving, IsBare, levels_after}
 use Rattle.yaml_toml.specs.Failing.{GaveFirst}
 use Rattle.yaml_toml.specs.OpenCounts.{OpensAtMost, count_after}
 use Rattle.yaml_toml.specs.Walk.{Moved, GaveSome, StepsStop, KeptAfterStop, KeysHaveNumbers, PendingHaveNumbers, RestHasNumbers, kinds_of, rest_kind}
@@ -70,7 +71,9 @@ pub record Running (most : ℕ) (in_flow : Bool) (start : WriterState) (all : Li
 -- the given events leave these collections open, within those that were
 pub so_given : (most : ℕ) (in_flow : Bool) (start now : WriterState) (all : List Event) (numbers : Type 0) (opened : List Rest)
     → (so : Running most in_flow start all numbers now opened) → GivenLeaving start so.given (start.levels ++ kinds_of opened) now
-so_given most in_flow start now all numbers opened so = so.moved start.levels (sym (append-nil start.levels))
+so_given most in_flow start now all numbers opened so =
+    let moved = so.moved start.levels (sym (append-nil start.levels)) in
+    leaves_same start now so.given (levels_after so.given start.levels) (start.levels ++ kinds_of opened) (sym moved.0.levels ∙ moved.1) moved.0
 
 -- its root table was begun
 module _ (settings : TomlSettings) (start now : WriterState) (root : TomlNodes) (after : List Rest) where
@@ -92,9 +95,9 @@ module _ (settings : TomlSettings) (start now : WriterState) (root : TomlNodes) 
   )
 
   -- or not
-  pub stopped_first : (stopped : Stop) → StepStopped settings (value_due (table Header root)) (walk_at start []) stopped (walk_at now after)
+  pub stopped_first : (stopped : Stop) → IsBare start → StepStopped settings (value_due (table Header root)) (walk_at start []) stopped (walk_at now after)
       → RootStopped settings root start stopped now
-  stopped_first stopped step =
+  stopped_first stopped bare step =
       let stops = subst (λ (events : List Event). StepsStop settings.depth start events [] now) (append-nil root_due) step.stopped in
       let few = stops.few (omega arith) in
       record {
@@ -103,7 +106,7 @@ module _ (settings : TomlSettings) (start now : WriterState) (root : TomlNodes) 
           given = stops.given;
           begins = stops.begins;
           few = few_of settings.depth few.0 stops.given few.1;
-          adds = stops.adds;
+          gave = stops.gave bare;
         };
         kept = step.kept;
       }
@@ -139,7 +142,7 @@ module _ (most : ℕ) (in_flow : Bool) (start between now : WriterState) (all : 
         few =
             few_of most few.0 (so.given ++ stop.given)
             (opens_then most 0 (length (kinds_of left ++ rest_kind r ∷ [])) few.0 so.given stop.given so_few few.1);
-        adds = adds_then start.emitter between.emitter now.emitter so.given stop.given so_far.adds stop.adds;
+        gave = gave_events_then start between now so.given stop.given (so.moved start.levels (sym (append-nil start.levels))).0 (stop.gave so_far.bare);
       }
 
   pub runs_on : (size : ℕ)

@@ -24,7 +24,9 @@ use Rattle.yaml_toml.specs.declared.error.TomlError.{TomlError}
 use Rattle.yaml_toml.specs.declared.error.TomlError.TheVariants as errors
 use Rattle.yaml_toml.proofs.Accepting.{document_shallow, stream_shallow, stream_sound, toml_accepted}
 use Rattle.yaml_toml.proofs.TomlTrees.{all_events, root_of, stream_flat, toml_stream}
-use Rattle.yaml_writer.proofs.Taken.{adds_nothing, moves_taken}
+use Rattle.yaml_writer.proofs.OpenLevels.{gave_none}
+use Rattle.yaml_writer.proofs.Taken.{moves_taken}
+use Rattle.yaml_writer.specs.WasGiven.{IsBare}
 
 -- the beginning of a stream opens nothing
 few_opened : (first : List Event) (depth : ℕ) → ((prefix rest : List Event) → prefix ++ rest ≡ first → open_count prefix ≤ depth) → (prefix rest : List Event)
@@ -135,12 +137,12 @@ some_root : (root : toml.TomlNodes) → ◌≡◌ {A = Option toml.TomlNodes} No
 some_root root is = cc
 
 -- nothing was
-gave_nothing : (depth : ℕ) (due : List Event) (was : WriterState) → GaveFirst depth due was was
-gave_nothing depth due was = record {
+gave_nothing : (depth : ℕ) (due : List Event) (was : WriterState) → IsBare was → GaveFirst depth due was was
+gave_nothing depth due was bare = record {
   given = [];
   begins = record { rest = due; parts = refl };
   few = none_open;
-  adds = adds_nothing was.emitter;
+  gave = gave_none was bare;
 }
   where
     none_open : (prefix rest : List Event) → prefix ++ rest ≡ [] → open_count prefix ≤ depth
@@ -155,10 +157,10 @@ fault_memory (fault.DefinedAgain key first second) = tt
 
 module _ (depth : ℕ) (in_flow : Bool) (text : List ℕ) (was : WriterState) (error : TomlError) where
   -- no document was read
-  pub stops_unread : (found : Fault) → toml_writers_error error ≡ fault_error found → StopsInDocument depth in_flow text was error was
-  stops_unread found is = record {
+  pub stops_unread : (found : Fault) → IsBare was → toml_writers_error error ≡ fault_error found → StopsInDocument depth in_flow text was error was
+  stops_unread found bare is = record {
     none = λ none. (refl, subst (λ (o : Option yaml_error_t). IfSome o (λ code. code ≡ Memory)) (sym is) (fault_memory found));
-    first = λ root read. gave_nothing depth (toml_events was.canonical in_flow (root_of root)) was;
+    first = λ root read. gave_nothing depth (toml_events was.canonical in_flow (root_of root)) was bare;
   }
 
   -- one was
@@ -179,7 +181,7 @@ module _ (given : Settings) (in_flow : Bool) (depth : ℕ) (text : List ℕ) (fi
   by_code code stops None none is = inl (stops.none none).1
   by_code code stops (Some root) read is =
       let gave = subst (λ (c : Bool). GaveFirst depth (toml_events c in_flow (root_of root)) first now) canonical (stops.first root read) in
-      failed_after given in_flow depth text root read gave.given gave.begins gave.few now.emitter (moves_taken gave.adds given opening [] stands).stands code is
+      failed_after given in_flow depth text root read gave.given gave.begins gave.few now.emitter (moves_taken gave.gave.adds given opening [] stands).stands code is
 
   said : (code : yaml_error_t) → StopsInDocument depth in_flow text first (errors.Emitter code) now → HasErrorSaid first (Some code) now
       → TomlFailsBy given in_flow depth text code

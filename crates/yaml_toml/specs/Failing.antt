@@ -11,18 +11,20 @@ use Rattle.yaml_base.specs.declared.errors.yaml_error_t.{yaml_error_t}
 use Rattle.yaml_base.specs.declared.errors.yaml_error_t.TheVariants.{Memory}
 use Rattle.yaml_emitter.specs.Uncut.{IsUncut}
 use Rattle.yaml_writer.specs.Unfinished.{FailsBy, PassesLimit}
-use Rattle.yaml_writer.specs.Writing.{AddsEvents, WriterState, closing, opening}
+use Rattle.yaml_writer.specs.WasGiven.{GaveEvents}
+use Rattle.yaml_writer.specs.Writing.{WriterState, closing, opening}
 use Rattle.yaml_toml.specs.Depth.{NestsDeeper, document_nesting}
 use Rattle.yaml_toml.specs.Events.{toml_events}
 use Rattle.yaml_toml.specs.Walk.{toml_writers_error}
 use Rattle.yaml_toml.specs.declared.error.TomlError.{TomlError}
 
--- the first of these events were given, and never more than `depth` collections were open
+-- The first of these events were given, and never more than `depth` collections were open. The writer can be used further: its form is
+-- unchanged, those collections are open that the given events leave open, and the next node has no anchor and no tag.
 pub record GaveFirst (depth : ℕ) (due : List Event) (was now : WriterState) : Type 0 where
   pub given : List Event
   pub begins : IsPrefix given due
   pub few : (prefix rest : List Event) → prefix ++ rest ≡ given → open_count prefix ≤ depth
-  pub adds : AddsEvents was.emitter given now.emitter
+  pub gave : GaveEvents was given now
 
 -- The writer was given the first events of the document that the text is; if the text is none, nothing changed, and a writer's error tells
 -- of an allocation.

@@ -1,5 +1,5 @@
 -- The events that a writer is given of a document, and the rest of it.
-use Rattle.std.specs.Prelude.{◌≡◌, ℕ, ℤ, ◌<◌, ◌+◌, ◌^◌, Bool, Option, None, Some, Result, Ok, Err, List, [], ◌∷◌, ◌++◌, map, length, ◌≤◌, IfErr, OnOk}
+use Rattle.std.specs.Prelude.{◌≡◌, ◌⊎◌, ℕ, ℤ, ◌<◌, ◌+◌, ◌^◌, Bool, Option, None, Some, Result, Ok, Err, List, [], ◌∷◌, ◌++◌, map, length, ◌≤◌, IfErr, OnOk}
 use Rattle.std.specs.Int.Signed.{mag}
 use Rattle.toml_ordered.specs.Data.{TomlNode, integer, decimal, array, table, tables, Items, no_items, item, TomlNodes, no_nodes, node, items_view}
 use Rattle.toml_ordered.specs.Keys.{live_view}
@@ -15,11 +15,11 @@ use Rattle.yaml_pen.specs.Wrote.{Grows}
 use Rattle.yaml_base.specs.declared.kinds.CollectionKind.{CollectionKind}
 use Rattle.yaml_base.specs.declared.kinds.CollectionKind.TheVariants.{Mapping, Sequence}
 use Rattle.yaml_base.specs.Prefix.{IsPrefix}
-use Rattle.yaml_writer.specs.Failing.{FailedGiving, HasErrorSaid}
-use Rattle.yaml_writer.specs.WasGiven.{GivenLeaving, WasGiven, WroteEvent}
+use Rattle.yaml_writer.specs.Failing.{FailedHaving, HasErrorSaid}
+use Rattle.yaml_writer.specs.WasGiven.{GaveEvents, IsBare, WasGiven, WroteEvent}
 use Rattle.yaml_writer.specs.Contents.{collection_in}
 use Rattle.yaml_writer.specs.NumberParts.{IsNumber, number_in}
-use Rattle.yaml_writer.specs.Writing.{AddsEvents, WriterState}
+use Rattle.yaml_writer.specs.Writing.{WriterState}
 use Rattle.yaml_toml.specs.Events.{toml_events, toml_items_events, keys_events, json_word}
 use Rattle.yaml_toml.specs.OpenCounts.{OpensAtMost}
 use Rattle.yaml_toml.specs.declared.walk.Rest.{Rest}
@@ -132,7 +132,7 @@ HasInnermost writer kinds kind = (outer : List CollectionKind) × (writer.levels
 
 -- these events were given, and these collections are open in place of those, within others
 abbrev pub Moved : WriterState → List Event → (before after : List CollectionKind) → WriterState → Type 0
-Moved was events before after now = (outer : List CollectionKind) → was.levels ≡ outer ++ before → GivenLeaving was events (outer ++ after) now
+Moved was events before after now = (outer : List CollectionKind) → was.levels ≡ outer ++ before → GaveEvents was events now × (now.levels ≡ outer ++ after)
 
 -- Some of the due events were given, and the others are pending; if all pending decimals are numbers, all due ones are; less than this is
 -- left; no more collections than the most are open meanwhile.
@@ -150,7 +150,7 @@ pub record GaveSome (most : ℕ) (in_flow : Bool) (was : WriterState) (due : Lis
 pub record StepsStop (most : ℕ) (was : WriterState) (due : List Event) (before : List CollectionKind) (now : WriterState) : Type 0 where
   pub given : List Event
   pub begins : IsPrefix given due
-  pub adds : AddsEvents was.emitter given now.emitter
+  pub gave : IsBare was → GaveEvents was given now
   pub few : length before ≤ most → (behind : ℕ) × OpensAtMost most (length before) given behind
 
 -- ---- the results of calls
@@ -160,11 +160,15 @@ abbrev pub StaysSoundAfterToml : WriterState → Result (Unit {0}) yaml_error_t 
 StaysSoundAfterToml was (Ok done) now = now.emitter.error ≡ None
 StaysSoundAfterToml was (Err error) now = HasErrorSaid was (Some error) now
 
+-- An allocation failed, and nothing changed; or this event was given to a writer that can be used further, and whose error this is.
+abbrev pub FailsGiving : WriterState → Event → yaml_error_t → WriterState → Type 0
+FailsGiving was event error now = ((error ≡ Memory) × (now ≡ was)) ⊎ FailedHaving was (event ∷ []) error now
+
 -- and its text and its output only grow; after an error this event was given, or nothing changed
 pub record Answers (was : WriterState) (event : Event) (result : Result (Unit {0}) yaml_error_t) (now : WriterState) : Type 0 where
   pub grows : Grows was.emitter.page now.emitter.page
   pub sound : StaysSoundAfterToml was result now
-  pub failed : IfErr result (λ error. FailedGiving was event error now)
+  pub failed : IfErr result (λ error. FailsGiving was event error now)
 
 -- the event of a scalar was given, or there was an error
 pub record GivesScalar (was : WriterState) (content : Content) (result : Result (Unit {0}) yaml_error_t) (now : WriterState) : Type 0 where

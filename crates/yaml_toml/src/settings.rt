@@ -20,7 +20,7 @@ pub struct TomlSettings {
 impl Default for TomlSettings {
     fn default() -> Self
         ensures writer { seen_settings result.writer ≡ given_for_values }
-        ensures flow { result.flow ≡ false }
+        ensures blocks { result.flow ≡ false }
         ensures depth { result.depth ≡ 1000 }
     {
         TomlSettings {

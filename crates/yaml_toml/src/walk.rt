@@ -83,7 +83,7 @@ fn begin<A: Allocator + Copy>(
     in_flow: bool,
 ) -> Result<(), yaml_error_t>
     requires { IsBare writer.old }
-    ensures begun { OnOk result (Moved writer.old (start_event in_flow kind ∷ []) [] (kind ∷ []) writer.new) }
+    ensures begins { OnOk result (Moved writer.old (start_event in_flow kind ∷ []) [] (kind ∷ []) writer.new) }
     ensures kept { Answers writer.old (start_event in_flow kind) result writer.new }
 {
     match kind {

@@ -23,7 +23,7 @@ returns-in-Err g c =
       sound = said_of was fault error says.error;
       refused = λ denies. found.value (denied fault error says.error denies);
       deep = fault_explained s.depth text fault error says.error says.place;
-      stopped = stops_unread s.depth s.flow text was error fault says.error;
+      stopped = stops_unread s.depth s.flow text was error fault c.requires says.error;
       place = placed_of text fault error says.error found.placed says.place;
       reason = says.reason found.reason;
     }

@@ -9,5 +9,5 @@ returns g c =
     let ends = c.end.ensures.ended (bare_awaits_none writer c.requires) in
     record {
       ended = λ kind. on_end writer after c.end.result kind c.requires ends;
-      kept = λ outer kind levels. answers_end writer after c.end.result outer kind levels ends;
+      kept = λ outer kind levels. answers_end writer after c.end.result outer kind levels c.requires ends;
     }

@@ -13,4 +13,4 @@ pub returns : goal.returns
 returns g c =
     let a = c.args in
     step_enter a.settings.now a.writer.now c.begin.new.writer a.opened.now.items c.keep.new.opened.items a.rest c.kind.result c.begin.result
-    c.stop_of.result c.in_default.ensures.kept (grind (arith, common_steps)) c.kind.ensures c.stop_of.ensures c.begin.ensures.kept c.begin.ensures.begun
+    c.stop_of.result c.in_default.ensures.kept (grind (arith, common_steps)) c.kind.ensures c.stop_of.ensures c.begin.ensures.kept c.begin.ensures.begins

@@ -36,7 +36,7 @@ pub returns-in-Err : goal.returns-in-Err
 returns-in-Err g c =
     let root = table_view c.args.root.now in
     let stopped = c.in-Err.stop in
-    stopped_first c.args.settings.now c.args.writer.now c.enter.new.writer root c.enter.new.opened.items stopped
+    stopped_first c.args.settings.now c.args.writer.now c.enter.new.writer root c.enter.new.opened.items stopped c.requires
     (first_step c.args.settings.now c.args.writer.now c.enter.new.writer root (rest.Members c.live_keys.result) c.new-opened.result.items
     c.enter.new.opened.items (Err stopped) c.new-opened.ensures.items
     (ap (table Header) (sym c.live_keys.ensures)) c.in-Err.ensures)
