@@ -16,8 +16,8 @@ use Rattle.toml_ordered.specs.Keys.{table_view}
 use Rattle.toml_ordered.specs.Firsts.{AddsFirsts, IsAgain, keys_firsts, table_firsts}
 use Rattle.toml_ordered.specs.Grammar.{val}
 use Rattle.toml_ordered.specs.Inside.{ArrayUpTo, BracesUpTo, FindsHere, GoesOnInside, IsFoundHere, IsNextInside, IsValueRead, IsValueRefused, NextPair}
-use Rattle.toml_ordered.specs.Nesting.{NestsPast}
-use Rattle.toml_ordered.specs.Places.{EndsWith, PairAt, key_parts}
+use Rattle.toml_ordered.specs.Nesting.{ClashesIn, ItemAt, NestsPast}
+use Rattle.toml_ordered.specs.Places.{EndsWith, IsShutInBraces, PairAt, PairsClash, key_parts}
 use Rattle.toml_ordered.specs.Reading.{IsMemory}
 use Rattle.toml_ordered.specs.Tables.{put}
 use Rattle.toml_ordered.specs.declared.tree.Table.{Table as CodeTable}
@@ -116,13 +116,13 @@ module _ (depth : ℕ) (text : List ℕ) (found : CodeTable) (rest : List ℕ) (
           within = let blank = blank_within rest in omega (arith, is, blank)
 
           pub braces_again : (refused : Fault) → ((IsMemory refused → ⊥) → put key x (table_view found) ≡ None)
-              → IsAgain (key_parts key) here (table_firsts found) refused → IsValueRefused (suc depth) text refused
+              → IsAgain (key_parts key) here (table_firsts found) (IsShutInBraces (table_view found) key x) refused → IsValueRefused (suc depth) text refused
           braces_again refused denies again = (
             λ real.
                 known.value
                 ∙ rw (members_turn (val depth) known.room (table_view found) rest (omega (arith, known.enough)), other, named, read, denies real),
-            (reason_in text (drop 1 text) refused (λ left. NestsPast (suc depth) left text) (λ left. NestsPast (suc depth) left text) (ends_drop 1 text)
-                (λ left deep. deep)
+            (reason_in refused (PairsClash depth (drop 1 text)) (λ name one two. ClashesIn (suc depth) name one two text) (λ left. NestsPast (suc depth) left text)
+                (λ left. NestsPast (suc depth) left text) (λ name one two clash. inr (known.opens, inl clash)) (λ left deep. deep)
                 (pairs_conflict depth (drop 1 text) rest (table_view found) key here (table_firsts found) refused known.knows pair_at within x after
                 (keyval_is (val depth) (skip_blank rest) key at after x named read) denies again (λ left. NestsPast (suc depth) left text))),
           )
@@ -168,27 +168,23 @@ pair_goes_on outer node text' from found (Err fault) known fewer next = λ depth
 
 inside_refused : (depth : ℕ) (text : List ℕ) (outer : Open) (at : List ℕ) (fault : Fault) → IsNextInside depth text outer at → IsValueRefused depth at fault
     → IsValueRefused (suc depth) text fault
-inside_refused depth text (Array found) at fault (rest, known, other, is) refused = (
-  λ real. array_bad depth text _ rest known other (rw is at refused.0 real),
-  (reason_in text at fault (λ left. NestsPast depth left at) (λ left. NestsPast (suc depth) left text)
-      (inside_ends text at (start_ends (drop 1 text) rest at known.ends is))
-      (λ left deep. inl (known.opens, (at, record { rest = rest; ends = known.ends; count = known.count; read = known.read; here = is }, deep))) refused.1),
-)
-inside_refused depth text (Braces found) at fault (rest, known, other, named, is) refused = (
-  λ real. braces_bad depth text found.table rest known other (key_view found.key) at named (refused.0 real),
-  (reason_in text at fault (λ left. NestsPast depth left at) (λ left. NestsPast (suc depth) left text)
-      (inside_ends text at (value_ends (drop 1 text) rest (key_view found.key) at known.ends named))
-      (λ left deep. inr (
-        known.opens,
-        (
-          table_view found.table,
-          key_view found.key,
-          length (skip_blank rest),
-          record { rest = rest; after = at; ends = known.ends; count = known.count; read = known.read; begins = named; here = refl },
-          deep,
-        ),
-      )) refused.1),
-)
+inside_refused depth text (Array found) at fault (rest, known, other, is) refused =
+    let item : ItemAt depth (drop 1 text) at = record { rest = rest; ends = known.ends; count = known.count; read = known.read; here = is } in (
+      λ real. array_bad depth text _ rest known other (rw is at refused.0 real),
+      reason_in fault (λ key one two. ClashesIn depth key one two at) (λ key one two. ClashesIn (suc depth) key one two text) (λ left. NestsPast depth left at)
+          (λ left. NestsPast (suc depth) left text) (λ key one two clash. inl (known.opens, (at, item, clash)))
+          (λ left deep. inl (known.opens, (at, item, deep))) refused.1,
+    )
+inside_refused depth text (Braces found) at fault (rest, known, other, named, is) refused =
+    let pair : PairAt depth (drop 1 text) (table_view found.table) (key_view found.key) (length (skip_blank rest)) = record { rest = rest; after = at; ends = known.ends; count = known.count; read = known.read; begins = named; here = refl } in
+    let name = key_view found.key in
+    let keys = table_view found.table in
+    let here = length (skip_blank rest) in (
+      λ real. braces_bad depth text found.table rest known other name at named (refused.0 real),
+      reason_in fault (λ key one two. ClashesIn depth key one two at) (λ key one two. ClashesIn (suc depth) key one two text) (λ left. NestsPast depth left at)
+          (λ left. NestsPast (suc depth) left text) (λ key one two clash. inr (known.opens, inr (keys, name, here, pair, clash)))
+          (λ left deep. inr (known.opens, (keys, name, here, pair, deep))) refused.1,
+    )
 
 -- The open arrays and tables, from the outermost on, begin the text, and the value inside of all begins here and may nest so deep.
 abbrev pub Stands : List Open → (depth : ℕ) (text : List ℕ) → (inner : ℕ) (at : List ℕ) → Type 0

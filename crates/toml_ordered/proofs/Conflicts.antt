@@ -1,18 +1,18 @@
 -- Keys that are defined again, and the knowledge of the keys so far.
-use Rattle.std.proofs.Common.{Some, suc, ◌≡◌, ℕ, ◌<◌, ◌≤◌, List, length, min, string_bytes, None, sym, subst, ◌∙◌, inl, inr, arith}
+use Rattle.std.proofs.Common.{Some, zero, suc, drop, ap, ◌≡◌, ℕ, ◌<◌, ◌≤◌, List, length, min, string_bytes, None, sym, subst, ◌∙◌, inl, inr, arith}
 use Rattle.toml_parser.specs.Lexical.{right_brace, skip_blank}
-use Rattle.toml_parser.specs.Strings.{Key}
-use Rattle.toml.specs.Parse.{after_element}
+use Rattle.toml_parser.specs.Strings.{Key, recursion_limit}
+use Rattle.toml.specs.Parse.{after_element, key_equals}
 use Rattle.toml_ordered.specs.declared.fault.Fault.{Fault}
 use Rattle.toml_ordered.specs.declared.fault.Fault.TheVariants as fault
 use Rattle.toml_ordered.proofs.Depths.{blank_within, ends_within, pair_nests_within}
-use Rattle.toml_ordered.proofs.Endings.{ends_self, ends_then}
+use Rattle.toml_ordered.proofs.Endings.{end_left, ends_drop, key_equals_ends, value_ends}
 use Rattle.toml_ordered.specs.Data.{TomlNode, TomlNodes}
 use Rattle.toml_ordered.specs.Firsts.{Firsts, no_firsts, HasFirst, AddsFirsts, IsAgain, IsOther, FaultTells}
 use Rattle.toml_ordered.specs.Grammar.{keyval, line, val}
 use Rattle.toml_ordered.specs.Inside.{KnowsPairs}
-use Rattle.toml_ordered.specs.Places.{EndsWith, after_pairs, ReadsUpTo, ExpressionAt, FirstDefines, PairAt, PairsConflict}
-use Rattle.toml_ordered.specs.Nesting.{HasReason, PairNestsPast}
+use Rattle.toml_ordered.specs.Places.{after_pairs, ReadsUpTo, ExpressionAt, FirstDefines, IsShutFor, IsShutInBraces, PairAt, PairsClash}
+use Rattle.toml_ordered.specs.Nesting.{ClashesIn, HasReason, PairClashes, PairNestsPast}
 use Rattle.toml_ordered.specs.Places.{moved_to, moved_within, key_parts, whole_path}
 use Rattle.toml_ordered.specs.Reading.{IsMemory}
 use Rattle.toml_ordered.specs.Tables.{TomlDocument, Expression, define, put}
@@ -57,8 +57,8 @@ knows_more_pairs depth text rest next found name here old new knows at within sh
 pub pairs_conflict : (depth : ℕ) (text rest : List ℕ) (found : TomlNodes) (name : Key) (here : ℕ) (old : Firsts) (refused : Fault)
     → KnowsPairs depth text old rest → (at : PairAt depth text found name here) → here ≤ length rest
     → (value : TomlNode) (after : List ℕ) → keyval (val depth) (skip_blank at.rest) ≡ Some ((name, value), after)
-    → ((IsMemory refused → ⊥) → put name value found ≡ None) → IsAgain (key_parts name) here old refused → (deep : ℕ → Type 0)
-    → FaultTells refused (PairsConflict text) deep
+    → ((IsMemory refused → ⊥) → put name value found ≡ None) → IsAgain (key_parts name) here old (IsShutInBraces found name value) refused
+    → (deep : ℕ → Type 0) → FaultTells refused (PairsClash depth text) deep
 pairs_conflict depth text rest found name here old fault.Memory knows at within value after pair denies again deep = tt
 pairs_conflict depth text rest found name here old (fault.NotToml left) knows at within value after pair denies again deep = tt
 pairs_conflict depth text rest found name here old (fault.TooDeep left) knows at within value after pair denies again deep = absurd again
@@ -67,9 +67,6 @@ pairs_conflict depth text rest found name here old (fault.DefinedAgain key first
     let past = known.1 in
     let is = again.0 in
     record {
-      depth = depth;
-      inside = text;
-      stands = ends_self text;
       path = again.1;
       before = known.0;
       found = found;
@@ -79,6 +76,7 @@ pairs_conflict depth text rest found name here old (fault.DefinedAgain key first
       after = after;
       pair = pair;
       passes = again.3;
+      shut = again.4;
       refused = denies (λ m. other m);
       order = omega (arith, past, within, is);
     }
@@ -86,28 +84,14 @@ pairs_conflict depth text rest found name here old (fault.DefinedAgain key first
     other : fault.DefinedAgain key first second ≡ fault.Memory → ⊥
     other m = cc
 
--- the reasons why an ending of the text isn't read
-pub reason_in : (text middle : List ℕ) (refused : Fault) (inner outer : ℕ → Type 0) → EndsWith text middle → ((left : ℕ) → inner left → outer left)
-    → FaultTells refused (PairsConflict middle) inner → FaultTells refused (PairsConflict text) outer
-reason_in text middle fault.Memory inner outer ends out pairs = tt
-reason_in text middle (fault.NotToml left) inner outer ends out pairs = tt
-reason_in text middle (fault.TooDeep left) inner outer ends out deep = out left deep
-reason_in text middle (fault.DefinedAgain key first second) inner outer ends out pairs = record {
-  depth = pairs.depth;
-  inside = pairs.inside;
-  stands = ends_then text middle pairs.inside ends pairs.stands;
-  path = pairs.path;
-  before = pairs.before;
-  found = pairs.found;
-  name = pairs.name;
-  at = pairs.at;
-  value = pairs.value;
-  after = pairs.after;
-  pair = pairs.pair;
-  passes = pairs.passes;
-  refused = pairs.refused;
-  order = pairs.order;
-}
+-- the reasons of a value, told of the text around it
+pub reason_in : (refused : Fault) (inner outer : List ℕ → ℕ → ℕ → Type 0) (low high : ℕ → Type 0)
+    → ((key : List ℕ) (one two : ℕ) → inner key one two → outer key one two) → ((left : ℕ) → low left → high left)
+    → FaultTells refused inner low → FaultTells refused outer high
+reason_in fault.Memory inner outer low high clash deeper tells = tt
+reason_in (fault.NotToml left) inner outer low high clash deeper tells = tt
+reason_in (fault.TooDeep left) inner outer low high clash deeper tells = deeper left tells
+reason_in (fault.DefinedAgain key first second) inner outer low high clash deeper tells = clash (string_bytes key) first second tells
 
 pair_within : (depth : ℕ) (text : List ℕ) (found : TomlNodes) (name : Key) (left : ℕ) → PairAt depth text found name left → left ≤ length text
 pair_within depth text found name left at =
@@ -115,6 +99,33 @@ pair_within depth text found name left at =
     let blank = blank_within at.rest in
     let within = ends_within text at.rest at.ends in
     omega (arith, here, blank, within)
+
+clashes_within : (depth : ℕ) (key : List ℕ) (one two : ℕ) (text : List ℕ) → ClashesIn depth key one two text → two ≤ length text
+clashes_within zero key one two text clash = absurd clash
+clashes_within (suc depth) key one two text (inl clash) =
+    let (item, at, inner) = clash.1 in
+    let within = clashes_within depth key one two item inner in
+    let is = ap length at.here in
+    let blank = blank_within at.rest in
+    let rest = ends_within (drop 1 text) at.rest at.ends in
+    let behind = ends_within text (drop 1 text) (ends_drop 1 text) in
+    omega (arith, within, is, blank, rest, behind)
+clashes_within (suc depth) key one two text (inr (opens, inl clash)) =
+    let within = pair_within depth (drop 1 text) clash.found clash.name two clash.at in
+    let behind = ends_within text (drop 1 text) (ends_drop 1 text) in
+    omega (arith, within, behind)
+clashes_within (suc depth) key one two text (inr (opens, inr clash)) =
+    let (found, name, here, at, inner) = clash in
+    let within = clashes_within depth key one two at.after inner in
+    let value = ends_within (drop 1 text) at.after (value_ends (drop 1 text) at.rest name at.after at.ends at.begins) in
+    let behind = ends_within text (drop 1 text) (ends_drop 1 text) in
+    omega (arith, within, value, behind)
+
+pair_clashes_within : (text key : List ℕ) (one two : ℕ) → PairClashes text key one two → two ≤ length text
+pair_clashes_within text key one two (name, value, begins, clash) =
+    let within = clashes_within recursion_limit key one two value clash in
+    let ends = ends_within text value (end_left text (key_equals text) name value (key_equals_ends text) begins) in
+    omega (arith, within, ends)
 
 -- ---- expressions
 
@@ -142,11 +153,12 @@ knows_more text rest next doc e here old new knows at within shorter adds path k
 -- an expression that is refused
 pub expressions_conflict : (text rest : List ℕ) (doc : TomlDocument) (e : Expression) (here : ℕ) (old : Firsts) (refused moved : Fault)
     → KnowsFirsts text old rest → ExpressionAt text doc e here → here ≤ length rest → ((IsMemory refused → ⊥) → define doc e ≡ None)
-    → IsAgain (whole_path doc e.0 e.1) here old refused → moved ≡ moved_to here refused → HasReason text moved
+    → IsAgain (whole_path doc e.0 e.1) here old (IsShutFor doc e.0 e.1) refused → moved ≡ moved_to here refused → HasReason text moved
 expressions_conflict text rest doc e here old refused moved knows at within denied again is =
     subst (HasReason text) (sym is) (by refused denied again)
   where
-    by : (f : Fault) → ((IsMemory f → ⊥) → define doc e ≡ None) → IsAgain (whole_path doc e.0 e.1) here old f → HasReason text (moved_to here f)
+    by : (f : Fault) → ((IsMemory f → ⊥) → define doc e ≡ None) → IsAgain (whole_path doc e.0 e.1) here old (IsShutFor doc e.0 e.1) f
+        → HasReason text (moved_to here f)
     by fault.Memory denies found = tt
     by (fault.NotToml left) denies found = tt
     by (fault.TooDeep left) denies found = absurd found
@@ -160,6 +172,7 @@ expressions_conflict text rest doc e here old refused moved knows at within deni
           e = e;
           at = at;
           passes = found.3;
+          shut = found.4;
           refused = denies (λ m. other m);
           order = omega (arith, past, within);
         }
@@ -169,11 +182,11 @@ expressions_conflict text rest doc e here old refused moved knows at within deni
 
 -- an expression in which a value is refused
 pub value_reason : (text rest : List ℕ) (doc : TomlDocument) (refused moved : Fault) → ReadsUpTo text doc rest
-    → FaultTells refused (PairsConflict (skip_blank rest)) (PairNestsPast (skip_blank rest)) → moved ≡ moved_within (length (skip_blank rest)) refused
+    → FaultTells refused (PairClashes (skip_blank rest)) (PairNestsPast (skip_blank rest)) → moved ≡ moved_within (length (skip_blank rest)) refused
     → HasReason text moved
 value_reason text rest doc refused moved read pairs is = subst (HasReason text) (sym is) (by refused pairs)
   where
-    by : (f : Fault) → FaultTells f (PairsConflict (skip_blank rest)) (PairNestsPast (skip_blank rest))
+    by : (f : Fault) → FaultTells f (PairClashes (skip_blank rest)) (PairNestsPast (skip_blank rest))
         → HasReason text (moved_within (length (skip_blank rest)) f)
     by fault.Memory found = tt
     by (fault.NotToml left) found = tt
@@ -182,12 +195,11 @@ value_reason text rest doc refused moved read pairs is = subst (HasReason text) 
         let same : min left (length (skip_blank rest)) ≡ left = omega (arith, within) in
         record { doc = doc; rest = rest; read = read; nests = subst (PairNestsPast (skip_blank rest)) (sym same) found }
     by (fault.DefinedAgain key first second) found =
-        let ends = ends_within (skip_blank rest) found.inside found.stands in
-        let past = pair_within found.depth found.inside found.found found.name second found.at in
-        let same : min second (length (skip_blank rest)) ≡ second = omega (arith, ends, past) in
+        let within = pair_clashes_within (skip_blank rest) (string_bytes key) first second found in
+        let same : min second (length (skip_blank rest)) ≡ second = omega (arith, within) in
         inr record {
           doc = doc;
           rest = rest;
           read = read;
-          pairs = subst (λ (n : ℕ). PairsConflict (skip_blank rest) (string_bytes key) first n) (sym same) found;
+          pairs = subst (λ (n : ℕ). PairClashes (skip_blank rest) (string_bytes key) first n) (sym same) found;
         }

@@ -6,8 +6,8 @@ use Rattle.toml_parser.specs.Strings.{Key}
 use Rattle.toml_ordered.proofs.FirstKeys.{path_steps}
 use Rattle.toml_ordered.specs.Data.{TomlNode, node_view}
 use Rattle.toml_ordered.specs.Keys.{sealed, table_view}
-use Rattle.toml_ordered.specs.Firsts.{AddsFirsts, IsAgain, table_firsts}
-use Rattle.toml_ordered.specs.Places.{key_parts, whole_path}
+use Rattle.toml_ordered.specs.Firsts.{AddsFirsts, IsAgain, IsShutAt, table_firsts}
+use Rattle.toml_ordered.specs.Places.{IsShutFor, IsShutInBraces, key_parts, whole_path}
 use Rattle.toml_ordered.specs.Reading.{Defines, ParsesTo, definition_view}
 use Rattle.toml_ordered.specs.Tables.{Definition, TomlDocument, along, at_key, define, defined_header, defined_pair, key_value, put, steps_along}
 use Rattle.toml_ordered.specs.declared.tree.Table.{Table as CodeTable}
@@ -16,72 +16,77 @@ use Rattle.toml_ordered.specs.declared.tables.Definition as code
 use Rattle.toml_ordered.specs.declared.tables.Definition.TheVariants.{Table, Tables, Value}
 use Rattle.toml_ordered.specs.declared.tree.Node.{Node}
 
--- the definition, the places of first definitions, and the refusal
-pub defines : {A : Type 0} (expected : Option A) (new : A) (whole : List (List ℕ)) (here : ℕ) (from to : CodeTable) (r : Result (Unit {0}) Fault)
-    → ParsesTo (λ _. new) r expected → IfOk r (λ _. AddsFirsts whole here (table_view from) (table_firsts from) (table_firsts to))
-    → IfErr r (IsAgain whole here (table_firsts from)) → Defines expected new whole here from to r
-defines expected new whole here from to (Ok u) value firsts again = (value, firsts)
-defines expected new whole here from to (Err fault) value firsts again = (value, again)
+abbrev Keys : Type 1
+Keys = (path : List (List ℕ)) → (key : List ℕ) → Type 0
 
--- the whole path of a route
-pub along_route : (from to : CodeTable) (here : ℕ) (last : List ℕ) (what : Definition) (header dots : List (List ℕ)) (r : Result (Unit {0}) Fault)
-    → Defines (along (steps_along header dots) (at_key last what) (table_view from)) (table_view to)
-    (map (λ step. step.1) (steps_along header dots) ++ last ∷ []) here from to r
-    → Defines (along (steps_along header dots) (at_key last what) (table_view from)) (table_view to) (header ++ (dots ++ last ∷ [])) here from to r
-along_route from to here last what header dots r =
-    subst (λ (path : List (List ℕ)). Defines (along (steps_along header dots) (at_key last what) (table_view from)) (table_view to) path here from to r)
-    (ap (λ (path : List (List ℕ)). path ++ last ∷ []) (path_steps header dots) ∙ append_assoc header dots (last ∷ []))
+-- the definition, the places of first definitions, and the refusal
+pub defines : {A : Type 0} (expected : Option A) (new : A) (whole : List (List ℕ)) (here : ℕ) (Shut : Keys) (from to : CodeTable)
+    (r : Result (Unit {0}) Fault) → ParsesTo (λ _. new) r expected
+    → IfOk r (λ _. AddsFirsts whole here (table_view from) (table_firsts from) (table_firsts to))
+    → IfErr r (IsAgain whole here (table_firsts from) Shut) → Defines expected new whole here Shut from to r
+defines expected new whole here Shut from to (Ok u) value firsts again = (value, firsts)
+defines expected new whole here Shut from to (Err fault) value firsts again = (value, again)
 
 -- the definition in the root table
-pub in_document : {A B : Type 0} (f : A → B) (expected : Option A) (new : A) (whole : List (List ℕ)) (here : ℕ) (from to : CodeTable)
-    (r : Result (Unit {0}) Fault) → Defines expected new whole here from to r → Defines (option_map f expected) (f new) whole here from to r
-in_document f expected new whole here from to (Ok u) defines = (ap (option_map f) defines.0, defines.1)
-in_document f expected new whole here from to (Err fault) refused = (λ real. ap (option_map f) (refused.0 real), refused.1)
+pub in_document : {A B : Type 0} (f : A → B) (expected : Option A) (new : A) (whole : List (List ℕ)) (here : ℕ) (Shut : Keys) (from to : CodeTable)
+    (r : Result (Unit {0}) Fault) → Defines expected new whole here Shut from to r → Defines (option_map f expected) (f new) whole here Shut from to r
+in_document f expected new whole here Shut from to (Ok u) defines = (ap (option_map f) defines.0, defines.1)
+in_document f expected new whole here Shut from to (Err fault) refused = (λ real. ap (option_map f) (refused.0 real), refused.1)
 
--- a pair of a table in braces, and one of a document
-pub put_defines : (from to : CodeTable) (here : ℕ) (key : Key) (x : TomlNode) (dots : List (List ℕ)) → dots ≡ key.0 → (r : Result (Unit {0}) Fault)
-    → Defines (along (steps_along [] dots) (at_key key.1 (key_value x)) (table_view from)) (table_view to) (dots ++ key.1 ∷ []) here from to r
-    → Defines (put key x (table_view from)) (table_view to) (key_parts key) here from to r
-put_defines from to here key x dots same r defines =
-    subst (λ (d : List (List ℕ)). Defines (along (steps_along [] d) (at_key key.1 (key_value x)) (table_view from)) (table_view to) (d ++ key.1 ∷ [])
-    here from to r) same defines
+module _ (from to : CodeTable) (here : ℕ) (r : Result (Unit {0}) Fault) where
+  -- a definition along the keys of a header and of a dotted key, with this whole path
+  abbrev DefinesBy : (header dots : List (List ℕ)) (last : List ℕ) (what : Definition) (whole : List (List ℕ)) → Type 0
+  DefinesBy header dots last what whole =
+      Defines (along (steps_along header dots) (at_key last what) (table_view from)) (table_view to) whole here
+      (IsShutAt (steps_along header dots) last what (table_view from)) from to r
 
-pub pair_defines : (from to : CodeTable) (here : ℕ) (section : List (List ℕ)) (key : Key) (x : TomlNode) (header dots : List (List ℕ)) → header ≡ section
-    → dots ≡ key.0 → (r : Result (Unit {0}) Fault)
-    → Defines (along (steps_along header dots) (at_key key.1 (key_value x)) (table_view from)) (table_view to) (header ++ (dots ++ key.1 ∷ [])) here from to r
-    → Defines (defined_pair (table_view from, section) key x) (table_view to, section) (section ++ key_parts key) here from to r
-pair_defines from to here section key x header dots first second r defines =
-    in_document {B = TomlDocument} (λ root. (root, section)) _ _ _ here from to r
-    (subst (λ (h : List (List ℕ)). Defines (along (steps_along h key.0) (at_key key.1 (key_value x)) (table_view from)) (table_view to) (h ++ key_parts key)
-    here from to r) first
-    (subst (λ (d : List (List ℕ)). Defines (along (steps_along header d) (at_key key.1 (key_value x)) (table_view from)) (table_view to)
-    (header ++ (d ++ key.1 ∷ [])) here from to r) second defines))
+  -- the whole path of a route
+  pub along_route : (last : List ℕ) (what : Definition) (header dots : List (List ℕ))
+      → DefinesBy header dots last what (map (λ step. step.1) (steps_along header dots) ++ last ∷ [])
+      → DefinesBy header dots last what (header ++ (dots ++ last ∷ []))
+  along_route last what header dots =
+      subst (DefinesBy header dots last what)
+      (ap (λ (path : List (List ℕ)). path ++ last ∷ []) (path_steps header dots) ∙ append_assoc header dots (last ∷ []))
 
-pub header_defines : (from to : CodeTable) (here : ℕ) (key : Key) (what : Definition) (header : List (List ℕ)) (name : List ℕ) → header ≡ key.0 → name ≡ key.1
-    → (r : Result (Unit {0}) Fault)
-    → Defines (along (steps_along header []) (at_key name what) (table_view from)) (table_view to) (header ++ name ∷ []) here from to r
-    → Defines {A = TomlDocument} (option_map (λ root. (root, key_parts key)) (along (steps_along key.0 []) (at_key key.1 what) (table_view from)))
-    (table_view to, key_parts key) (key_parts key) here from to r
-header_defines from to here key what header name first second r defines =
-    in_document {B = TomlDocument} (λ root. (root, key_parts key)) _ _ _ here from to r
-    (subst (λ (h : List (List ℕ)). Defines (along (steps_along h []) (at_key key.1 what) (table_view from)) (table_view to) (h ++ key.1 ∷ [])
-    here from to r) first
-    (subst (λ (n : List ℕ). Defines (along (steps_along header []) (at_key n what) (table_view from)) (table_view to)
-    (header ++ n ∷ []) here from to r) second defines))
+  -- a pair of a table in braces, and one of a document
+  pub put_defines : (key : Key) (x : TomlNode) (dots : List (List ℕ)) → dots ≡ key.0 → DefinesBy [] dots key.1 (key_value x) (dots ++ key.1 ∷ [])
+      → Defines (put key x (table_view from)) (table_view to) (key_parts key) here (IsShutInBraces (table_view from) key x) from to r
+  put_defines key x dots same = subst (λ (d : List (List ℕ)). DefinesBy [] d key.1 (key_value x) (d ++ key.1 ∷ [])) same
+
+  pub pair_defines : (section : List (List ℕ)) (key : Key) (x : TomlNode) (header dots : List (List ℕ)) → header ≡ section → dots ≡ key.0
+      → DefinesBy header dots key.1 (key_value x) (header ++ (dots ++ key.1 ∷ []))
+      → Defines (defined_pair (table_view from, section) key x) (table_view to, section) (section ++ key_parts key) here
+      (IsShutFor (table_view from, section) key (key_value x)) from to r
+  pair_defines section key x header dots one two defines =
+      in_document {B = TomlDocument} (λ root. (root, section)) _ _ _ here _ from to r
+      (subst (λ (h : List (List ℕ)). DefinesBy h key.0 key.1 (key_value x) (h ++ key_parts key)) one
+      (subst (λ (d : List (List ℕ)). DefinesBy header d key.1 (key_value x) (header ++ (d ++ key.1 ∷ []))) two defines))
+
+  pub header_defines : (key : Key) (what : Definition) (header : List (List ℕ)) (name : List ℕ) → header ≡ key.0 → name ≡ key.1
+      → DefinesBy header [] name what (header ++ name ∷ [])
+      → Defines {A = TomlDocument} (option_map (λ root. (root, key_parts key)) (along (steps_along key.0 []) (at_key key.1 what) (table_view from)))
+      (table_view to, key_parts key) (key_parts key) here (IsShutAt (steps_along key.0 []) key.1 what (table_view from)) from to r
+  header_defines key what header name one two defines =
+      in_document {B = TomlDocument} (λ root. (root, key_parts key)) _ _ _ here _ from to r
+      (subst (λ (h : List (List ℕ)). DefinesBy h [] key.1 what (h ++ key.1 ∷ [])) one
+      (subst (λ (n : List ℕ). DefinesBy header [] n what (header ++ n ∷ [])) two defines))
 
 -- an expression
 module _ (doc next : TomlDocument) (key : Key) (here : ℕ) (from to : CodeTable) (r : Result (Unit {0}) Fault) where
   pub value_defines : (d : code.Definition) (node : Node) → d ≡ Value node
-      → Defines (defined_pair doc key (sealed (node_view node))) next (doc.1 ++ key_parts key) here from to r
-      → Defines (define doc (key, definition_view d)) next (whole_path doc key (definition_view d)) here from to r
+      → Defines (defined_pair doc key (sealed (node_view node))) next (doc.1 ++ key_parts key) here
+      (IsShutFor doc key (key_value (sealed (node_view node)))) from to r
+      → Defines (define doc (key, definition_view d)) next (whole_path doc key (definition_view d)) here (IsShutFor doc key (definition_view d)) from to r
   unfolding define
   value_defines d node is defines =
-      subst (λ (what : code.Definition). Defines (define doc (key, definition_view what)) next (whole_path doc key (definition_view what)) here from to r)
+      subst (λ (what : code.Definition). Defines (define doc (key, definition_view what)) next (whole_path doc key (definition_view what)) here
+      (IsShutFor doc key (definition_view what)) from to r)
       (sym is) defines
 
   pub other_defines : (d : code.Definition) → ((node : Node) → d ≡ Value node → ⊥)
-      → Defines (defined_header doc key (definition_view d)) next (key_parts key) here from to r
-      → Defines (define doc (key, definition_view d)) next (whole_path doc key (definition_view d)) here from to r
+      → Defines (defined_header doc key (definition_view d)) next (key_parts key) here (IsShutAt (steps_along key.0 []) key.1 (definition_view d) doc.0)
+      from to r
+      → Defines (define doc (key, definition_view d)) next (whole_path doc key (definition_view d)) here (IsShutFor doc key (definition_view d)) from to r
   unfolding define
   other_defines (Value node) other defines = absurd (other node refl)
   other_defines Table other defines = defines

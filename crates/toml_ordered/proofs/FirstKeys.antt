@@ -1,5 +1,5 @@
 -- The places at which the keys of a table were first defined, before and after a definition.
-use Rattle.std.proofs.Common.{◌≡◌, ℕ, zero, suc, List, [], ◌∷◌, ◌++◌, map, Some, None, String, Vec, Global, string_bytes, refl, sym, ap, subst, ◌∙◌, inl, inr}
+use Rattle.std.proofs.Common.{Option, Ok, Err, ◌≡◌, ℕ, zero, suc, List, [], ◌∷◌, ◌++◌, map, Some, None, String, Vec, Global, string_bytes, refl, sym, ap, subst, ◌∙◌, inl, inr}
 use Rattle.std.proofs.Common.{◌⊎◌, rules, set, get_or, Result}
 use Rattle.std.proofs.lemmas.Result.{IfOk-weaker, IfErr-weaker}
 use Rattle.std.specs.Result.{IfOk, IfErr}
@@ -18,7 +18,7 @@ use Rattle.toml_ordered.specs.Passing.{held}
 use Rattle.toml_ordered.specs.Keys.{HasKey}
 use Rattle.toml_ordered.specs.Firsts.{Firsts, no_firsts, HasFirst, node_firsts, keys_firsts, table_firsts, keys_in}
 use Rattle.toml_ordered.specs.Firsts.{keys_at, PassesKey, IsNewKey, AddsFirsts, IsAgain}
-use Rattle.toml_ordered.specs.Reading.{IsMemory, IsPassed, IsSameKey}
+use Rattle.toml_ordered.specs.Reading.{ParsesTo, IsMemory, IsPassed, IsSameKey}
 use Rattle.toml_ordered.specs.Tables.{get_node, steps_along}
 
 -- ---- values
@@ -47,6 +47,10 @@ held_firsts (holder.Table Closed) t = inr (node_firsts-Closed t)
 
 abbrev Path : Type 0
 Path = List (List ℕ)
+
+-- of keys, each in the table at the end of a path
+abbrev pub Keys : Type 1
+Keys = (path : Path) → (key : List ℕ) → Type 0
 
 -- inside of a key
 abbrev Under : (step : List ℕ) → (inner : Firsts) → Path → (key : List ℕ) → (left : ℕ) → Type 0
@@ -176,23 +180,24 @@ adds_nothing whole here ns old new (inr gone) path key left first = absurd (subs
 -- ---- keys that are defined again
 
 -- a fault of an allocation
-pub again_memory : (whole : Path) (here : ℕ) (old : Firsts) (fault : Fault) → IsMemory fault → IsAgain whole here old fault
-again_memory whole here old fault is = subst (IsAgain whole here old) (sym is) tt
+pub again_memory : (whole : Path) (here : ℕ) (old : Firsts) (Shut : Keys) (fault : Fault) → IsMemory fault → IsAgain whole here old Shut fault
+again_memory whole here old Shut fault is = subst (IsAgain whole here old Shut) (sym is) tt
 
 -- none was defined before in an empty table
-pub again_nothing : (whole all : Path) (here : ℕ) (old : Firsts) (found : Fault) → IsAgain whole here no_firsts found → IsAgain all here old found
-again_nothing whole all here old fault.Memory again = tt
-again_nothing whole all here old (fault.NotToml left) again = tt
-again_nothing whole all here old (fault.TooDeep left) again = again
-again_nothing whole all here old (fault.DefinedAgain key first second) again = absurd again.2
+pub again_nothing : (whole all : Path) (here : ℕ) (old : Firsts) (Inner Shut : Keys) (found : Fault) → IsAgain whole here no_firsts Inner found
+    → IsAgain all here old Shut found
+again_nothing whole all here old Inner Shut fault.Memory again = tt
+again_nothing whole all here old Inner Shut (fault.NotToml left) again = tt
+again_nothing whole all here old Inner Shut (fault.TooDeep left) again = again
+again_nothing whole all here old Inner Shut (fault.DefinedAgain key first second) again = absurd again.2
 
 -- the key itself, at the beginning of the whole path
-pub again_here : (k : List ℕ) (rest : Path) (here : ℕ) (at : ℕ) (es : List Entry) (e : Entry) (found : Fault) → HasKey k at es
-    → get_or es at e ≡ e → IsPassed (string_bytes e.0) e.2 here found → IsAgain (k ∷ rest) here (keys_firsts es) found
-again_here k rest here at es e fault.Memory has is_e passed = tt
-again_here k rest here at es e (fault.NotToml left) has is_e passed = tt
-again_here k rest here at es e (fault.TooDeep left) has is_e passed = passed
-again_here k rest here at es e (fault.DefinedAgain key first second) has is_e passed =
+pub again_here : (k : List ℕ) (rest : Path) (here : ℕ) (at : ℕ) (es : List Entry) (e : Entry) (Shut : Keys) (found : Fault) → HasKey k at es
+    → get_or es at e ≡ e → IsPassed (string_bytes e.0) e.2 here found → ((IsMemory found → ⊥) → Shut [] k) → IsAgain (k ∷ rest) here (keys_firsts es) Shut found
+again_here k rest here at es e Shut fault.Memory has is_e passed shut = tt
+again_here k rest here at es e Shut (fault.NotToml left) has is_e passed shut = tt
+again_here k rest here at es e Shut (fault.TooDeep left) has is_e passed shut = passed
+again_here k rest here at es e Shut (fault.DefinedAgain key first second) has is_e passed shut =
     let is_key : string_bytes key ≡ k = passed.0 ∙ ap (λ (d : Entry). string_bytes d.0) (sym is_e) ∙ sym (name_is k at es e has) in
     let is_first : first ≡ (get_or es at e).2 = passed.1 ∙ ap (λ (d : Entry). d.2) (sym is_e) in (
       passed.2,
@@ -200,20 +205,26 @@ again_here k rest here at es e (fault.DefinedAgain key first second) has is_e pa
       subst (λ (l : List ℕ). HasFirst (keys_firsts es) [] l first) (sym is_key)
           (subst (λ (n : ℕ). HasFirst (keys_firsts es) [] k n) (sym is_first) (has_own k at es e has)),
       (rest, ap (λ (l : List ℕ). l ∷ rest) (sym is_key)),
+      subst (Shut []) (sym is_key) (shut λ memory. other memory),
     )
+  where
+    other : fault.DefinedAgain key first second ≡ fault.Memory → ⊥
+    other memory = cc
 
 -- a key inside of it
-pub again_inside : (k : List ℕ) (whole : Path) (here : ℕ) (at : ℕ) (es : List Entry) (e : Entry) (found : Fault) → HasKey k at es → get_or es at e ≡ e
-    → IsAgain whole here (node_firsts e.1) found → IsAgain (k ∷ whole) here (keys_firsts es) found
-again_inside k whole here at es e fault.Memory has is_e again = tt
-again_inside k whole here at es e (fault.NotToml left) has is_e again = tt
-again_inside k whole here at es e (fault.TooDeep left) has is_e again = again
-again_inside k whole here at es e (fault.DefinedAgain key first second) has is_e again = (
+pub again_inside : (k : List ℕ) (whole : Path) (here : ℕ) (at : ℕ) (es : List Entry) (e : Entry) (Inner Shut : Keys)
+    → ((path : Path) (key : List ℕ) → Inner path key → Shut (k ∷ path) key) → (found : Fault) → HasKey k at es → get_or es at e ≡ e
+    → IsAgain whole here (node_firsts e.1) Inner found → IsAgain (k ∷ whole) here (keys_firsts es) Shut found
+again_inside k whole here at es e Inner Shut outwards fault.Memory has is_e again = tt
+again_inside k whole here at es e Inner Shut outwards (fault.NotToml left) has is_e again = tt
+again_inside k whole here at es e Inner Shut outwards (fault.TooDeep left) has is_e again = again
+again_inside k whole here at es e Inner Shut outwards (fault.DefinedAgain key first second) has is_e again = (
   again.0,
   k ∷ again.1,
   has_inside k at es e has again.1 (string_bytes key) first
       (subst (λ (d : Entry). HasFirst (node_firsts d.1) again.1 (string_bytes key) first) (sym is_e) again.2),
   passes_behind k whole again.1 (string_bytes key) again.3,
+  outwards again.1 (string_bytes key) again.4,
 )
 
 -- the first definitions that an edit in the value of a key adds, or the key that it finds to be defined again
@@ -226,15 +237,18 @@ module _ (all : Path) (k : List ℕ) (whole : Path) (here at : ℕ) (es : List E
       (λ _ inner. subst (λ (p : Path). AddsFirsts p here ns (keys_firsts es) (keys_firsts (set es at w))) (sym is)
       (adds_inside k whole here ns x at es e w found has is_e same inner)) adds
 
-  pub again_along : all ≡ k ∷ whole → HasKey k at es → get_or es at e ≡ e
-      → IfErr r (λ fault. IsPassed (string_bytes e.0) e.2 here fault ⊎ IsAgain whole here (node_firsts e.1) fault)
-      → IfErr r (IsAgain all here (keys_firsts es))
-  again_along is has is_e again =
+  pub again_along : (Shut : Keys) → all ≡ k ∷ whole → HasKey k at es → get_or es at e ≡ e
+      → IfErr r (λ fault. IsPassed (string_bytes e.0) e.2 here fault × ((IsMemory fault → ⊥) → Shut [] k)) → IfErr r (IsAgain all here (keys_firsts es) Shut)
+  again_along Shut is has is_e again =
       IfErr-weaker r _ _
-      (λ fault found. subst (λ (p : Path). IsAgain p here (keys_firsts es) fault) (sym is) (elim found [
-        | inl own ↦ again_here k whole here at es e fault has is_e own
-        | inr inside ↦ again_inside k whole here at es e fault has is_e inside
-      ])) again
+      (λ fault found. subst (λ (p : Path). IsAgain p here (keys_firsts es) Shut fault) (sym is)
+      (again_here k whole here at es e Shut fault has is_e found.0 found.1)) again
+
+-- an error with the refusal of the definition
+pub with_refusal : {B : Type 0} (r : Result (Unit {0}) Fault) (given : B) (expected : Option B) (Says : Fault → Type 0) → ParsesTo (λ _. given) r expected
+    → IfErr r Says → IfErr r (λ fault. Says fault × ((IsMemory fault → ⊥) → expected ≡ None))
+with_refusal (Ok done) given expected Says parses says = tt
+with_refusal (Err fault) given expected Says parses says = (says, parses)
 
 -- ---- routes
 

@@ -8,7 +8,7 @@ use Rattle.toml_ordered.proofs.FirstKeys.{adds_inside, adds_missing, again_here,
 use Rattle.toml_ordered.proofs.Turns.{along_found, along_refused, along_new, along_new_refused}
 use Rattle.toml_ordered.specs.Data.{TomlNode, TomlNodes, no_nodes, node_view, table}
 use Rattle.toml_ordered.specs.Keys.{IsIndexedAt, held_view, keys_view, table_view}
-use Rattle.toml_ordered.specs.Firsts.{Firsts, AddsFirsts, HasFirst, IsAgain, node_firsts, keys_firsts, table_firsts, keys_in, no_firsts}
+use Rattle.toml_ordered.specs.Firsts.{Firsts, AddsFirsts, HasFirst, IsAgain, node_firsts, keys_firsts, table_firsts, keys_in, no_firsts, IsShutAt}
 use Rattle.toml_ordered.specs.Passing.{held, with_value_at, Fills, IsFilled, AreFilled, IsOpened, IsShut, PassesSteps, RefusesSteps, keys_of}
 use Rattle.toml_ordered.specs.Reading.{IsMemory, IsPassed, IsSameKey}
 use Rattle.toml_ordered.specs.Tables.{Edit, along, append, get_node, made_by, passed, replace}
@@ -82,7 +82,8 @@ module _ (by : Way) (k : List ℕ) (rest : List (Way × List ℕ)) (left at : �
   pub refuses_there : (fault : Fault) → IsPassed (string_bytes e.0) e.2 left fault → IsShut by e.1 → RefusesSteps ((by, k) ∷ rest) left outer fault
   refuses_there fault own shut = record {
     value = λ edit real. along_refused by k rest edit (table_view outer) (node_view e.1) found (shut (along rest edit));
-    again = λ key. again_here k (keys_of rest ++ key ∷ []) left at outer.keys.items e fault has.1 is own;
+    again = λ key what. again_here k (keys_of rest ++ key ∷ []) left at outer.keys.items e (IsShutAt ((by, k) ∷ rest) key what (table_view outer)) fault has.1 is
+        own (λ real. (refl, node_view e.1, found, shut));
   }
 
   -- w is in its place after the table inside is taken out
@@ -123,9 +124,11 @@ module _ (by : Way) (k : List ℕ) (rest : List (Way × List ℕ)) (left at : �
       refused = λ edit none.
           along_refused by k rest edit (table_view outer) (node_view e.1) found (opened.0 (along rest edit) ∙ ap (option_map (held_view h)) none);
       firsts = adds_there;
-      again = λ key fault again.
-          again_inside k (keys_of rest ++ key ∷ []) left at outer.keys.items e fault has.1 is
-          (subst (λ (f : Firsts). IsAgain (keys_of rest ++ key ∷ []) left f fault) (sym opened.2) again);
+      again = λ key what fault again.
+          again_inside k (keys_of rest ++ key ∷ []) left at outer.keys.items e (IsShutAt rest key what (table_view inner))
+          (IsShutAt ((by, k) ∷ rest) key what (table_view outer))
+          (λ path l shut. (refl, subst (λ (ns : TomlNodes). IsShutAt rest key what ns path l) (sym (ap keys_in found ∙ opened.1)) shut)) fault has.1 is
+          (subst (λ (f : Firsts). IsAgain (keys_of rest ++ key ∷ []) left f (IsShutAt rest key what (table_view inner)) fault) (sym opened.2) again);
     }
 
 -- a key that is missing, and is put after the others with some value
@@ -165,16 +168,17 @@ module _ (by : Way) (rest : List (Way × List ℕ)) (left at : ℕ) (outer inner
           (subst (λ (es : List Entry). AddsFirsts path left (keys_view es inner.index) (keys_firsts es) (table_firsts new)) empty adds) in
           adds_missing (string_bytes w.0) path left (table_view outer) outer.keys.items whole.keys.items (made new) refl here none inside
           (items_made new whole fills);
-      again = λ key fault again.
-          again_nothing (keys_of rest ++ key ∷ []) (string_bytes w.0 ∷ keys_of rest ++ key ∷ []) left (table_firsts outer) fault
-          (subst (λ (es : List Entry). IsAgain (keys_of rest ++ key ∷ []) left (keys_firsts es) fault) empty again);
+      again = λ key what fault again.
+          again_nothing (keys_of rest ++ key ∷ []) (string_bytes w.0 ∷ keys_of rest ++ key ∷ []) left (table_firsts outer)
+          (IsShutAt rest key what (table_view inner)) (IsShutAt ((by, string_bytes w.0) ∷ rest) key what (table_view outer)) fault
+          (subst (λ (es : List Entry). IsAgain (keys_of rest ++ key ∷ []) left (keys_firsts es) (IsShutAt rest key what (table_view inner)) fault) empty again);
     }
 
 -- an allocation that failed
 pub refuses_memory : (all : List (Way × List ℕ)) (left : ℕ) (outer : CodeTable) (fault : Fault) → IsMemory fault → RefusesSteps all left outer fault
 refuses_memory all left outer fault is = record {
   value = λ edit real. absurd (real is);
-  again = λ key. again_memory (keys_of all ++ key ∷ []) left (table_firsts outer) fault is;
+  again = λ key what. again_memory (keys_of all ++ key ∷ []) left (table_firsts outer) (IsShutAt all key what (table_view outer)) fault is;
 }
 
 -- ---- several
@@ -188,14 +192,14 @@ passes_on all middle rest left outer here inner ps p before step =
       value = λ edit new whole fills known. before.value edit fills.0 whole fills.2 (step.value edit new fills.0 fills.1 known);
       refused = λ edit none. before.refused edit (step.refused edit none);
       firsts = λ key new whole fills adds. before.firsts key fills.0 whole fills.2 (step.firsts key new fills.0 fills.1 adds);
-      again = λ key fault found. before.again key fault (step.again key fault found);
+      again = λ key what fault found. before.again key what fault (step.again key what fault found);
     }
 
 pub refused_on : (all middle : List (Way × List ℕ)) (left : ℕ) (outer here : CodeTable) (Fill : CodeTable → CodeTable → Type 0) (fault : Fault)
     → PassesSteps all middle left outer here Fill → RefusesSteps middle left here fault → RefusesSteps all left outer fault
 refused_on all middle left outer here Fill fault before refused = record {
   value = λ edit real. before.refused edit (refused.value edit real);
-  again = λ key. before.again key fault (refused.again key);
+  again = λ key what. before.again key what fault (refused.again key what);
 }
 
 -- the last of them is filled first

@@ -2,11 +2,12 @@
 use Rattle.std.specs.Prelude.{◌≡◌, ◌⊎◌, ℕ, List, [], ◌∷◌, ◌++◌, map, String, string_bytes, Option, Some, None}
 use Rattle.std.specs.declared.alloc.Global.{Global}
 use Rattle.toml_ordered.specs.Data.{TomlNode, table, tables, TomlNodes, no_nodes}
-use Rattle.toml_ordered.specs.Tables.{get_node}
+use Rattle.toml_ordered.specs.Tables.{Definition, LetsNoPass, get_node, redefine}
 use Rattle.toml_ordered.specs.declared.tree.Node.{Node as CodeNode, fold-Node}
 use Rattle.toml_ordered.specs.declared.tree.Node.TheOpen.{Node-F, Table-F}
 use Rattle.toml_ordered.specs.declared.tree.Table.{Table}
 use Rattle.toml_ordered.specs.declared.tree.Origin.TheVariants.{Closed}
+use Rattle.toml_ordered.specs.declared.route.Way.{Way}
 use Rattle.toml_ordered.specs.declared.fault.Fault.{Fault}
 use Rattle.toml_ordered.specs.declared.fault.Fault.TheVariants as fault
 
@@ -61,6 +62,14 @@ keys_at (step ∷ path) keys = keys_at path (keys_in (get_node step keys))
 abbrev pub PassesKey : (whole path : List (List ℕ)) → (key : List ℕ) → Type 0
 PassesKey whole path key = (more : List (List ℕ)) × (whole ≡ path ++ key ∷ more)
 
+-- True if the key, in the table at the end of the path, takes no more of a definition: a step of the definition doesn't pass it, or it is
+-- the definition's own key and isn't redefined so.
+abbrev pub IsShutAt : List (Way × List ℕ) → (last : List ℕ) → Definition → TomlNodes → (path : List (List ℕ)) → (key : List ℕ) → Type 0
+IsShutAt [] last what keys [] key = (key ≡ last) × (x : TomlNode) × (get_node key keys ≡ Some x) × (redefine what x ≡ None)
+IsShutAt [] last what keys (k ∷ path) key = ⊥
+IsShutAt (step ∷ steps) last what keys [] key = (key ≡ step.1) × (x : TomlNode) × (get_node key keys ≡ Some x) × LetsNoPass step.0 x
+IsShutAt (step ∷ steps) last what keys (k ∷ path) key = (k ≡ step.1) × IsShutAt steps last what (keys_in (get_node k keys)) path key
+
 -- True if a definition along the whole path is the first to define the key: the key was missing.
 abbrev pub IsNewKey : (whole : List (List ℕ)) → (keys : TomlNodes) → (path : List (List ℕ)) → (key : List ℕ) → Type 0
 IsNewKey whole keys path key = PassesKey whole path key × (get_node key (keys_at path keys) ≡ None)
@@ -86,7 +95,8 @@ IfAgain found holds = FaultTells found holds (λ _. ⊥)
 abbrev pub IsOther : Fault → Type 0
 IsOther found = IfAgain found (λ _ _ _. ⊥)
 
--- a definition along the whole path, here, passes a key that was first defined before
-abbrev pub IsAgain : (whole : List (List ℕ)) → (here : ℕ) → (old : Firsts) → Fault → Type 0
-IsAgain whole here old found =
-    IfAgain found (λ key first second. (second ≡ here) × (path : List (List ℕ)) × HasFirst old path key first × PassesKey whole path key)
+-- True of a fault that a definition along the whole path, here, meets a key that was first defined before and is shut.
+abbrev pub IsAgain : (whole : List (List ℕ)) → (here : ℕ) → (old : Firsts) → (Shut : (path : List (List ℕ)) → (key : List ℕ) → Type 0) → Fault → Type 0
+IsAgain whole here old Shut found =
+    IfAgain found
+    (λ key first second. (second ≡ here) × (path : List (List ℕ)) × HasFirst old path key first × PassesKey whole path key × Shut path key)

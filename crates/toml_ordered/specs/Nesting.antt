@@ -6,7 +6,7 @@ use Rattle.toml.specs.Parse.{after_element, key_equals}
 use Rattle.toml_ordered.specs.Data.{TomlNodes}
 use Rattle.toml_ordered.specs.Firsts.{FaultTells}
 use Rattle.toml_ordered.specs.Grammar.{val}
-use Rattle.toml_ordered.specs.Places.{Conflict, EndsWith, PairAt, PairsConflict, ReadsUpTo}
+use Rattle.toml_ordered.specs.Places.{EndsWith, ExpressionsConflict, PairAt, PairsClash, ReadsUpTo}
 use Rattle.toml_ordered.specs.Tables.{TomlDocument}
 use Rattle.toml_ordered.specs.declared.fault.Fault.{Fault}
 
@@ -41,17 +41,32 @@ NestsPast (suc depth) left text =
     ((first text ≡ left_bracket) × InItem depth (NestsPast depth left) (drop 1 text))
     ⊎ ((first text ≡ left_brace) × InPair depth (NestsPast depth left) (drop 1 text))
 
+-- In the value that begins here two pairs of a table in braces clash.
+abbrev pub ClashesIn : (depth : ℕ) → (key : List ℕ) → (one two : ℕ) → (text : List ℕ) → Type 0
+ClashesIn zero key one two text = ⊥
+ClashesIn (suc depth) key one two text =
+    ((first text ≡ left_bracket) × InItem depth (ClashesIn depth key one two) (drop 1 text))
+    ⊎ ((first text ≡ left_brace) × (PairsClash depth (drop 1 text) key one two ⊎ InPair depth (ClashesIn depth key one two) (drop 1 text)))
+
 -- why no value is read: by two definitions of a key in it, or since it nests so deep
 abbrev pub ValueTells : (depth : ℕ) → (text : List ℕ) → Fault → Type 0
-ValueTells depth text found = FaultTells found (PairsConflict text) (λ left. NestsPast depth left text)
+ValueTells depth text found = FaultTells found (λ key one two. ClashesIn depth key one two text) (λ left. NestsPast depth left text)
 
--- it does so past the limit in the value of the pair that begins here
+-- of the value of the pair that begins here
+abbrev pub InValue : (List ℕ → Type 0) → (text : List ℕ) → Type 0
+InValue holds text = (name : Key) × (value : List ℕ) × (key_equals text ≡ Some (name, value)) × holds value
+
+-- it nests so past the limit
 abbrev pub PairNestsPast : (text : List ℕ) → (left : ℕ) → Type 0
-PairNestsPast text left = (name : Key) × (value : List ℕ) × (key_equals text ≡ Some (name, value)) × NestsPast recursion_limit left value
+PairNestsPast text left = InValue (NestsPast recursion_limit left) text
+
+-- two pairs of a table in braces clash in it
+abbrev pub PairClashes : (text : List ℕ) → (key : List ℕ) → (one two : ℕ) → Type 0
+PairClashes text key one two = InValue (ClashesIn recursion_limit key one two) text
 
 -- why no expression is read, likewise
 abbrev pub ExpressionTells : (text : List ℕ) → Fault → Type 0
-ExpressionTells text found = FaultTells found (PairsConflict text) (PairNestsPast text)
+ExpressionTells text found = FaultTells found (PairClashes text) (PairNestsPast text)
 
 -- the text is read up to an expression that is such a pair
 pub record NestsTooDeep (text : List ℕ) (left : ℕ) : Type 0 where
@@ -59,6 +74,17 @@ pub record NestsTooDeep (text : List ℕ) (left : ℕ) : Type 0 where
   pub rest : List ℕ
   pub read : ReadsUpTo text doc rest
   pub nests : PairNestsPast (skip_blank rest) left
+
+-- the text is read up to an expression in which two pairs clash
+pub record PairsConflictIn (text : List ℕ) (key : List ℕ) (one two : ℕ) : Type 0 where
+  pub doc : TomlDocument
+  pub rest : List ℕ
+  pub read : ReadsUpTo text doc rest
+  pub pairs : PairClashes (skip_blank rest) key one two
+
+-- two expressions define the key, or two pairs of a table in braces
+abbrev pub Conflict : (text : List ℕ) → (key : List ℕ) → (one two : ℕ) → Type 0
+Conflict text key one two = ExpressionsConflict text key one two ⊎ PairsConflictIn text key one two
 
 -- why a text is refused: by two definitions of a key, or by a value that nests too deep
 abbrev pub HasReason : (text : List ℕ) → Fault → Type 0

@@ -3,9 +3,9 @@ use Rattle.std.specs.Prelude.{◌≡◌, ℕ, zero, suc, List, [], ◌∷◌, �
 use Rattle.std.specs.declared.alloc.Global.{Global}
 use Rattle.toml_ordered.specs.Data.{node_view}
 use Rattle.toml_ordered.specs.Keys.{held_view, table_view}
-use Rattle.toml_ordered.specs.Firsts.{AddsFirsts, IsAgain, node_firsts, table_firsts, keys_in}
+use Rattle.toml_ordered.specs.Firsts.{AddsFirsts, IsAgain, IsShutAt, node_firsts, table_firsts, keys_in}
 use Rattle.toml_ordered.specs.Reading.{IsMemory}
-use Rattle.toml_ordered.specs.Tables.{Edit, along, passed}
+use Rattle.toml_ordered.specs.Tables.{Definition, Edit, LetsNoPass, along, passed}
 use Rattle.toml_ordered.specs.declared.tree.Node.{Node as CodeNode, Table, Tables}
 use Rattle.toml_ordered.specs.declared.tree.Table.{Table as CodeTable}
 use Rattle.toml_ordered.specs.declared.fault.Fault.{Fault}
@@ -46,7 +46,7 @@ IsOpened by x h inner =
 
 -- no edit passes the value
 abbrev pub IsShut : Way → CodeNode → Type 0
-IsShut by x = (edit : Edit) → passed by edit (node_view x) ≡ None
+IsShut by x = LetsNoPass by (node_view x)
 
 -- the keys of steps
 abbrev pub keys_of : List (Way × List ℕ) → List (List ℕ)
@@ -61,10 +61,12 @@ pub record PassesSteps (all rest : List (Way × List ℕ)) (left : ℕ) (outer i
   pub firsts : (key : List ℕ) (new whole : CodeTable) → Fill new whole
       → AddsFirsts (keys_of rest ++ key ∷ []) left (table_view inner) (table_firsts inner) (table_firsts new)
       → AddsFirsts (keys_of all ++ key ∷ []) left (table_view outer) (table_firsts outer) (table_firsts whole)
-  pub again : (key : List ℕ) (fault : Fault) → IsAgain (keys_of rest ++ key ∷ []) left (table_firsts inner) fault
-      → IsAgain (keys_of all ++ key ∷ []) left (table_firsts outer) fault
+  pub again : (key : List ℕ) (what : Definition) (fault : Fault)
+      → IsAgain (keys_of rest ++ key ∷ []) left (table_firsts inner) (IsShutAt rest key what (table_view inner)) fault
+      → IsAgain (keys_of all ++ key ∷ []) left (table_firsts outer) (IsShutAt all key what (table_view outer)) fault
 
 -- nothing is defined by the steps in the table, and why
 pub record RefusesSteps (all : List (Way × List ℕ)) (left : ℕ) (outer : CodeTable) (fault : Fault) : Type 0 where
   pub value : (edit : Edit) → (IsMemory fault → ⊥) → along all edit (table_view outer) ≡ None
-  pub again : (key : List ℕ) → IsAgain (keys_of all ++ key ∷ []) left (table_firsts outer) fault
+  pub again : (key : List ℕ) (what : Definition)
+      → IsAgain (keys_of all ++ key ∷ []) left (table_firsts outer) (IsShutAt all key what (table_view outer)) fault

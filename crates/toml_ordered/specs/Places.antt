@@ -4,9 +4,10 @@ use Rattle.toml_parser.specs.Lexical.{right_brace, skip_blank}
 use Rattle.toml_parser.specs.Strings.{Key}
 use Rattle.toml.specs.Parse.{after_element, key_equals, skip_bom}
 use Rattle.toml_ordered.specs.Data.{TomlNode, TomlNodes, no_nodes}
-use Rattle.toml_ordered.specs.Firsts.{IsNewKey, PassesKey}
+use Rattle.toml_ordered.specs.Firsts.{IsNewKey, IsShutAt, PassesKey}
 use Rattle.toml_ordered.specs.Grammar.{keyval, line, val}
-use Rattle.toml_ordered.specs.Tables.{Definition, TomlDocument, Expression, define, key_value, put}
+use Rattle.toml_ordered.specs.Tables.{Definition, TomlDocument, Expression, define, key_value, put, steps_along}
+use Rattle.toml_ordered.specs.declared.route.Way.{Way}
 use Rattle.toml_ordered.specs.declared.fault.Fault.{Fault}
 use Rattle.toml_ordered.specs.declared.fault.Fault.TheVariants as fault
 
@@ -75,6 +76,18 @@ abbrev pub whole_path : TomlDocument → Key → Definition → List (List ℕ)
 whole_path doc key (key_value x) = doc.1 ++ key_parts key
 whole_path doc key header = key_parts key
 
+-- the steps to the own key of an expression: those of a pair go on from the last header
+abbrev pub steps_to : TomlDocument → Key → Definition → List (Way × List ℕ)
+steps_to doc key (key_value x) = steps_along doc.1 key.0
+steps_to doc key header = steps_along key.0 []
+
+-- True if the key, in the table at the end of the path, takes no more of the expression, or of a pair of a table in braces.
+abbrev pub IsShutFor : TomlDocument → Key → Definition → (path : List (List ℕ)) → (key : List ℕ) → Type 0
+IsShutFor doc name what = IsShutAt (steps_to doc name what) name.1 what doc.0
+
+abbrev pub IsShutInBraces : (found : TomlNodes) → (name : Key) → TomlNode → (path : List (List ℕ)) → (key : List ℕ) → Type 0
+IsShutInBraces found name value = IsShutAt (steps_along [] name.0) name.1 (key_value value) found
+
 -- an expression begins with this much left, after the text that is read as this document
 pub record ExpressionAt (text : List ℕ) (doc : TomlDocument) (e : Expression) (left : ℕ) : Type 0 where
   pub rest : List ℕ
@@ -90,7 +103,7 @@ pub record FirstDefines (text : List ℕ) (path : List (List ℕ)) (key : List �
   pub at : ExpressionAt text doc e left
   pub new : IsNewKey (whole_path doc e.0 e.1) doc.0 path key
 
--- an expression first defined the key, and a later one, which is refused, passes the key again
+-- An expression first defined the key, and a later one, which is refused, meets the key again, which takes no more.
 pub record ExpressionsConflict (text : List ℕ) (key : List ℕ) (first second : ℕ) : Type 0 where
   pub path : List (List ℕ)
   pub before : FirstDefines text path key first
@@ -98,6 +111,7 @@ pub record ExpressionsConflict (text : List ℕ) (key : List ℕ) (first second 
   pub e : Expression
   pub at : ExpressionAt text doc e second
   pub passes : PassesKey (whole_path doc e.0 e.1) path key
+  pub shut : IsShutFor doc e.0 e.1 path key
   pub refused : define doc e ≡ None
   pub order : second < first
 
@@ -129,11 +143,9 @@ pub record PairFirstDefines (depth : ℕ) (text : List ℕ) (path : List (List �
   pub at : PairAt depth text found name left
   pub new : IsNewKey (key_parts name) found path key
 
--- A pair first defined the key, and a later one in the same table in braces, which is refused, passes the key again; the table is in the text.
-pub record PairsConflict (text : List ℕ) (key : List ℕ) (first second : ℕ) : Type 0 where
-  pub depth : ℕ
-  pub inside : List ℕ
-  pub stands : EndsWith text inside
+-- A pair first defined the key, and a later one in the same table in braces, which is refused, meets the key again, which takes no more; the
+-- text is that of the table, after the brace.
+pub record PairsClash (depth : ℕ) (inside : List ℕ) (key : List ℕ) (first second : ℕ) : Type 0 where
   pub path : List (List ℕ)
   pub before : PairFirstDefines depth inside path key first
   pub found : TomlNodes
@@ -143,16 +155,6 @@ pub record PairsConflict (text : List ℕ) (key : List ℕ) (first second : ℕ)
   pub after : List ℕ
   pub pair : keyval (val depth) (skip_blank at.rest) ≡ Some ((name, value), after)
   pub passes : PassesKey (key_parts name) path key
+  pub shut : IsShutInBraces found name value path key
   pub refused : put name value found ≡ None
   pub order : second < first
-
--- the text is read up to an expression in which two pairs do so
-pub record PairsConflictIn (text : List ℕ) (key : List ℕ) (first second : ℕ) : Type 0 where
-  pub doc : TomlDocument
-  pub rest : List ℕ
-  pub read : ReadsUpTo text doc rest
-  pub pairs : PairsConflict (skip_blank rest) key first second
-
--- two expressions define the key, or two pairs of a table in braces
-abbrev pub Conflict : (text : List ℕ) → (key : List ℕ) → (first second : ℕ) → Type 0
-Conflict text key first second = ExpressionsConflict text key first second ⊎ PairsConflictIn text key first second

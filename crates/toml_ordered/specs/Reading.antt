@@ -7,9 +7,9 @@ use Rattle.toml_parser.specs.Reading.{path_view, key_view}
 use Rattle.toml_parser.specs.declared.error.ParseError.{ParseError}
 use Rattle.toml_parser.specs.declared.error.ParseError.TheVariants as parse
 use Rattle.toml_parser.specs.declared.key.Key as code_key
-use Rattle.toml_ordered.specs.Data.{node_view}
+use Rattle.toml_ordered.specs.Data.{TomlNodes, node_view}
 use Rattle.toml_ordered.specs.Keys.{sealed, table_view}
-use Rattle.toml_ordered.specs.Firsts.{AddsFirsts, IfAgain, IsAgain, IsOther, table_firsts}
+use Rattle.toml_ordered.specs.Firsts.{AddsFirsts, IfAgain, IsAgain, IsOther, IsShutAt, table_firsts}
 use Rattle.toml_ordered.specs.Tables.{Definition, TomlDocument, Edit, Expression, key_value, std_table, array_table, steps_along, along, at_key}
 use Rattle.toml_ordered.specs.declared.route.Way.{Way}
 use Rattle.toml_ordered.specs.declared.document.Document.{Document as CodeDocument}
@@ -49,11 +49,12 @@ abbrev pub ReadsPast : (text : List ℕ) → Option (List ℕ) → Result (Bor (
 ReadsPast text expected r = MatchResult r (λ rest. (expected ≡ Some rest.now) × (length rest.now ≤ length text)) (IsGrammarRefusal expected IsOther)
 
 -- True if the table is the one that the rules give after a definition along the whole path, here; or the definition is refused.
-abbrev pub Defines : {A : Type 0} → Option A → (new : A) → (whole : List (List ℕ)) → (here : ℕ) → (from to : CodeTable) → Result (Unit {0}) Fault → Type 0
-Defines expected new whole here from to r =
+abbrev pub Defines : {A : Type 0} → Option A → (new : A) → (whole : List (List ℕ)) → (here : ℕ) → (Shut : (path : List (List ℕ)) → (key : List ℕ) → Type 0)
+    → (from to : CodeTable) → Result (Unit {0}) Fault → Type 0
+Defines expected new whole here Shut from to r =
     MatchResult r
     (λ _. (expected ≡ Some new) × AddsFirsts whole here (table_view from) (table_firsts from) (table_firsts to))
-    (IsGrammarRefusal expected (IsAgain whole here (table_firsts from)))
+    (IsGrammarRefusal expected (IsAgain whole here (table_firsts from) Shut))
 
 abbrev pub definition_view : code_definition.Definition → Definition
 definition_view (Value x) = key_value (sealed (node_view x))
@@ -77,6 +78,10 @@ whole_of route entry = path_of route ++ string_bytes entry.key ∷ []
 -- the change that an entry makes in the table at the end of a route
 abbrev pub along_route : Route → Entry → Edit
 along_route route entry = along (steps_of route) (at_key (string_bytes entry.key) (definition_view entry.what))
+
+-- the keys that an entry finds shut in the table at the end of a route
+abbrev pub IsShutTo : Route → Entry → TomlNodes → (path : List (List ℕ)) → (key : List ℕ) → Type 0
+IsShutTo route entry = IsShutAt (steps_of route) (string_bytes entry.key) (definition_view entry.what)
 
 -- the fault of a key that is there and takes no more, here
 abbrev pub IsPassed : (key : List ℕ) → (first here : ℕ) → Fault → Type 0

@@ -1,6 +1,6 @@
 -- The rules by which keys and headers define tables (TOML 1.1, Keys, Table, Inline Table and Array of Tables). A new key comes after those
 -- that are there.
-use Rattle.std.specs.Prelude.{ℕ, List, [], ◌∷◌, ◌++◌, map, Option, Some, None, option_map, bytes_eq, if◌then◌else◌}
+use Rattle.std.specs.Prelude.{◌≡◌, ℕ, List, [], ◌∷◌, ◌++◌, map, Option, Some, None, option_map, bytes_eq, if◌then◌else◌}
 use Rattle.toml_parser.specs.Strings.{Key}
 use Rattle.toml_ordered.specs.Data.{TomlNode, table, tables, TomlNodes, no_nodes, node, no_items, push_item}
 use Rattle.toml_ordered.specs.declared.route.Way.{Way}
@@ -47,6 +47,10 @@ passed way.Header edit (table origin inner) = past_header edit origin inner
 passed way.Header edit (tables done last) = option_map (tables done) (edit last)
 passed way.Dots edit (table origin inner) = past_dot edit origin inner
 passed by edit other = None
+
+-- True if no key passes the value in this way.
+abbrev pub LetsNoPass : Way → TomlNode → Type 0
+LetsNoPass by x = (edit : Edit) → passed by edit x ≡ None
 
 -- the origin of a table that a key makes by passing
 abbrev pub made_by : Way → Origin

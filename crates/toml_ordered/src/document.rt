@@ -1,16 +1,16 @@
 //! Documents, expression by expression.
-ghost use Rattle.std.specs.Prelude.{◌≡◌, ◌≤◌, ◌++◌, IfErr, length};
+ghost use Rattle.std.specs.Prelude.{◌≡◌, ◌≤◌, ◌++◌, [], IfErr, length, string_bytes};
 ghost use Rattle.toml_parser.specs.Lexical.{first};
 ghost use Rattle.toml_parser.specs.Reading.{key_view, path_view};
 ghost use Rattle.toml.specs.Parse.{ends_line, skip_bom};
 ghost use Rattle.toml_ordered.specs.Data.{node_view};
 ghost use Rattle.toml_ordered.specs.Keys.{sealed, table_view};
-ghost use Rattle.toml_ordered.specs.Firsts.{IsOther};
+ghost use Rattle.toml_ordered.specs.Firsts.{IsOther, IsShutAt};
 ghost use Rattle.toml_ordered.specs.Grammar as spec;
 ghost use Rattle.toml_ordered.specs.Nesting.{ExpressionTells, HasReason};
-ghost use Rattle.toml_ordered.specs.Places.{FaultIsPlaced, key_parts, whole_path};
+ghost use Rattle.toml_ordered.specs.Places.{FaultIsPlaced, IsShutFor, key_parts, whole_path};
 ghost use Rattle.toml_ordered.specs.Reading.{Defines, ParsesTo, ReadsExpected, definition_view, document_view, expression_view};
-ghost use Rattle.toml_ordered.specs.Tables.{define, defined_header, defined_pair};
+ghost use Rattle.toml_ordered.specs.Tables.{define, defined_header, defined_pair, key_value, steps_along};
 
 use crate::fault::{Fault, not_toml};
 use crate::route::Route;
@@ -37,7 +37,8 @@ impl Document {
         left: usize,
     ) -> Result<(), Fault>
         ensures { Defines (define (document_view self.old) (expression_view expression)) (document_view self.new)
-            (whole_path (document_view self.old) (key_view expression.0) (definition_view expression.1)) left self.old.root self.new.root result }
+            (whole_path (document_view self.old) (key_view expression.0) (definition_view expression.1)) left
+            (IsShutFor (document_view self.old) (key_view expression.0) (definition_view expression.1)) self.old.root self.new.root result }
     {
         let (key, what) = expression;
         match what {
@@ -49,7 +50,8 @@ impl Document {
     /// Defines a pair, in the table of the last header.
     fn define_pair(&mut self, alloc: Global, key: Key, node: Node, left: usize) -> Result<(), Fault>
         ensures { Defines (defined_pair (document_view self.old) (key_view key) (sealed (node_view node))) (document_view self.new)
-            (path_view self.old.section.items ++ key_parts (key_view key)) left self.old.root self.new.root result }
+            (path_view self.old.section.items ++ key_parts (key_view key)) left
+            (IsShutFor (document_view self.old) (key_view key) (key_value (sealed (node_view node)))) self.old.root self.new.root result }
     {
         let Key { path, last } = key;
         let route = Route {
@@ -73,7 +75,8 @@ impl Document {
         left: usize,
     ) -> Result<(), Fault>
         ensures { Defines (defined_header (document_view self.old) (key_view key) (definition_view what)) (document_view self.new)
-            (key_parts (key_view key)) left self.old.root self.new.root result }
+            (key_parts (key_view key)) left (IsShutAt (steps_along (path_view key.path.items) []) (string_bytes key.last) (definition_view what) (table_view self.old.root))
+            self.old.root self.new.root result }
     {
         let Key { mut path, last } = key;
         let route = Route {

@@ -2,9 +2,9 @@
 ghost use Rattle.std.specs.Prelude.{◌≡◌, ◌⊎◌, ℕ, List, [], ◌∷◌, IfErr, IfOk, MatchResult, reverse, string_bytes};
 ghost use Rattle.toml_ordered.specs.Data.{items_view, node_view, push_item, table};
 ghost use Rattle.toml_ordered.specs.Keys.{table_view};
-ghost use Rattle.toml_ordered.specs.Firsts.{node_firsts, no_firsts};
+ghost use Rattle.toml_ordered.specs.Firsts.{IsShutAt, node_firsts, no_firsts};
 ghost use Rattle.toml_ordered.specs.Passing.{AreFilled, IsFilled, IsOpened, IsShut, PassesSteps, RefusesSteps};
-ghost use Rattle.toml_ordered.specs.Reading.{Defines, ParsesTo, IsPassed, IsSameKey, along_route, definition_view, steps_of, whole_of};
+ghost use Rattle.toml_ordered.specs.Reading.{Defines, IsShutTo, ParsesTo, IsPassed, IsSameKey, along_route, definition_view, steps_of, whole_of};
 ghost use Rattle.toml_ordered.specs.Tables as spec;
 ghost use Rattle.toml_ordered.specs.declared.route.Way.{Way};
 ghost use Rattle.toml_ordered.specs.declared.tree.Origin.TheVariants.{Closed};
@@ -51,7 +51,7 @@ pub(crate) fn define_at(
     entry: Entry,
 ) -> Result<(), Fault>
     ensures { Defines (along_route route.entry entry (table_view table.old)) (table_view table.new) (whole_of route.entry entry) entry.left
-        table.old table.new result }
+        (IsShutTo route.entry entry (table_view table.old)) table.old table.new result }
 {
     let outermost = mem::replace(table, Table::new(alloc));
     let (passed, mut last) = match descend(alloc, outermost, route, entry.left) {
@@ -158,7 +158,8 @@ fn take_out(
 /// Defines an entry in a table.
 fn at_key(alloc: Global, table: &mut Table, entry: Entry) -> Result<(), Fault>
     ensures { Defines (spec.at_key (string_bytes entry.key) (definition_view entry.what) (table_view table.old)) (table_view table.new)
-        (string_bytes entry.key ∷ []) entry.left table.old table.new result }
+        (string_bytes entry.key ∷ []) entry.left (IsShutAt [] (string_bytes entry.key) (definition_view entry.what) (table_view table.old))
+        table.old table.new result }
 {
     let Entry { key, what, left } = entry;
     match table.find(key.as_str()) {

@@ -8,7 +8,7 @@ ghost use Rattle.toml_ordered.specs.Firsts.{IsOther};
 ghost use Rattle.toml_ordered.specs.Grammar as spec;
 ghost use Rattle.toml_ordered.specs.Inside.{FindsHere, GoesOnInside, NextItem, NextPair};
 ghost use Rattle.toml_ordered.specs.Nesting.{ValueTells};
-ghost use Rattle.toml_ordered.specs.Places.{key_parts};
+ghost use Rattle.toml_ordered.specs.Places.{IsShutInBraces, key_parts};
 ghost use Rattle.toml_ordered.specs.Reading.{Defines, ReadsExpected, ReadsPast};
 ghost use Rattle.toml_ordered.specs.Tables as tables;
 
@@ -171,7 +171,7 @@ fn next_pair(alloc: Global, table: Table, s: &str) -> Result<(Found, &str), Faul
 /// Defines a pair of a table in braces.
 fn put(alloc: Global, table: &mut Table, key: Key, value: Node, left: usize) -> Result<(), Fault>
     ensures { Defines (tables.put (key_view key) (sealed (node_view value)) (table_view table.old)) (table_view table.new) (key_parts (key_view key)) left
-        table.old table.new result }
+        (IsShutInBraces (table_view table.old) (key_view key) (sealed (node_view value))) table.old table.new result }
 {
     let Key { path, last } = key;
     let route = Route {

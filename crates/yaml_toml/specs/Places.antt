@@ -1,7 +1,7 @@
 -- The places at which errors say that a text is refused.
 use Rattle.std.specs.Prelude.{ℕ, ◌-◌, List, length, string_bytes}
-use Rattle.toml_ordered.specs.Nesting.{NestsTooDeep}
-use Rattle.toml_ordered.specs.Places.{Conflict, StopsAtExpression}
+use Rattle.toml_ordered.specs.Nesting.{Conflict, NestsTooDeep}
+use Rattle.toml_ordered.specs.Places.{StopsAtExpression}
 use Rattle.yaml_writer.specs.Places.{AreOf}
 use Rattle.yaml_toml.specs.Walk.{DeniesToml}
 use Rattle.yaml_toml.specs.declared.error.TomlError.{TomlError}

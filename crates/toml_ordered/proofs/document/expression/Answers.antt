@@ -1,12 +1,10 @@
 use Rattle.std.proofs.Common.{arith}
 use Rattle.toml_parser.specs.Reading.{key_view}
 use Rattle.toml_parser.specs.Strings.{recursion_limit}
-use Rattle.toml.specs.Parse.{key_equals}
 use Rattle.toml_ordered.proofs.Conflicts.{other_than, reason_in}
-use Rattle.toml_ordered.proofs.Endings.{end_left, key_equals_ends}
 use Rattle.toml_ordered.proofs.Heads.{pair_bad, pair_is, pair_nameless, reads_tells}
 use Rattle.toml_ordered.specs.Data.{node_view}
-use Rattle.toml_ordered.specs.Nesting.{NestsPast, PairNestsPast}
+use Rattle.toml_ordered.specs.Nesting.{ClashesIn, NestsPast, PairClashes, PairNestsPast}
 use Rattle.toml_ordered.proofs.document.expression.Goals as goal
 
 pub returns-then-first-eq91 : goal.returns-then-first-eq91
@@ -33,6 +31,6 @@ returns-in-Err-value c =
     let s = c.args.s.now in
     let at = c.in-Ok.read.1.now in (
       λ real. pair_bad s c.first.result c.first.ensures c.if-first-eq91.false (key_view c.in-Ok.read.0) at c.in-Ok.ensures.0 (c.in-Err-value.ensures.0 real),
-      reason_in s at _ (λ left. NestsPast recursion_limit left at) (PairNestsPast s) (end_left s (key_equals s) _ at (key_equals_ends s) c.in-Ok.ensures.0)
-          (λ left deep. (_, at, c.in-Ok.ensures.0, deep)) c.in-Err-value.ensures.1,
+      reason_in c.in-Err-value.fault (λ key one two. ClashesIn recursion_limit key one two at) (PairClashes s) (λ left. NestsPast recursion_limit left at)
+          (PairNestsPast s) (λ key one two clash. (_, at, c.in-Ok.ensures.0, clash)) (λ left deep. (_, at, c.in-Ok.ensures.0, deep)) c.in-Err-value.ensures.1,
     )

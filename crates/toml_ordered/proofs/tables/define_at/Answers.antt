@@ -8,7 +8,7 @@ pub returns-in-Err : goal.returns-in-Err
 returns-in-Err c =
     let edit : Edit = at_key (string_bytes c.args.entry.key) (definition_view c.args.entry.what) in
     let same = c.replace-outermost.ensures.value in
-    (λ real. rw same at (c.in-Err.ensures.value edit real), rw same at (c.in-Err.ensures.again (string_bytes c.args.entry.key)))
+    (λ real. rw same at (c.in-Err.ensures.value edit real), rw same at (c.in-Err.ensures.again (string_bytes c.args.entry.key) (definition_view c.args.entry.what)))
 
 pub returns-in-Err-at_key : goal.returns-in-Err-at_key
 returns-in-Err-at_key c =
@@ -16,7 +16,7 @@ returns-in-Err-at_key c =
     let same = c.replace-outermost.ensures.value in
     let refused = c.in-Err-at_key.ensures in (
       λ real. rw same at (c.in-Ok.ensures.refused edit (along_end edit _ ∙ refused.0 real)),
-      rw same at (c.in-Ok.ensures.again (string_bytes c.args.entry.key) c.in-Err-at_key.fault refused.1),
+      rw same at (c.in-Ok.ensures.again (string_bytes c.args.entry.key) (definition_view c.args.entry.what) c.in-Err-at_key.fault refused.1),
     )
 
 pub returns : goal.returns

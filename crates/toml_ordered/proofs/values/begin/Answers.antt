@@ -10,7 +10,7 @@ use Rattle.toml_ordered.proofs.Heads.{val_opens}
 use Rattle.toml_ordered.proofs.Turns.{val_atom}
 use Rattle.toml_ordered.specs.Data.{items_view}
 use Rattle.toml_ordered.specs.Inside.{IsFoundHere}
-use Rattle.toml_ordered.specs.Places.{PairsConflict}
+use Rattle.toml_ordered.specs.Nesting.{ClashesIn}
 use Rattle.toml_ordered.proofs.values.begin.Goals as goal
 
 pub returns-in-Ok : goal.returns-in-Ok
@@ -33,7 +33,7 @@ returns-then-depth-eq0 c =
     let opening : (first s ≡ 91) ⊎ (first s ≡ 123) = grind (arith, common_steps) in
     let zero : c.args.depth ≡ 0 = c.if-depth-eq0.true in (
       λ real. rw zero (val_opens s opening),
-      nests_here c.args.depth s c.too_deep.result (PairsConflict s) zero opening c.too_deep.ensures,
+      nests_here c.args.depth s c.too_deep.result (λ key one two. ClashesIn c.args.depth key one two s) zero opening c.too_deep.ensures,
     )
 
 pub returns-then-byte-eq91 : goal.returns-then-byte-eq91

@@ -12,6 +12,5 @@ returns c =
     let to = c.define_at.new.table in
     let x = sealed (node_view c.args.value) in
     let dots = path_view c.deref.result.now in
-    put_defines from to c.args.left (key_view c.args.key) x dots (ap path_view c.deref.ensures.value) c.define_at.result
-    (along_route from to c.args.left (string_bytes c.args.key.last) (key_value x) [] dots c.define_at.result
-    c.define_at.ensures)
+    put_defines from to c.args.left c.define_at.result (key_view c.args.key) x dots (ap path_view c.deref.ensures.value)
+    (along_route from to c.args.left c.define_at.result (string_bytes c.args.key.last) (key_value x) [] dots c.define_at.ensures)

@@ -15,7 +15,7 @@ returns-in-Err c depth text at (rest, known, other, named, is) read =
     let member : TomlNode = node_view c.args.value in
     let same : sealed member ≡ member = val_sealed depth at member c.args.s.now read.0 in
     braces_again depth text c.args.braces.table rest known other key at named member c.args.s.now read.0 c.args.braces.left is c.in-Err.fault
-    (λ real. rw same at (c.in-Err.ensures.0 real)) c.in-Err.ensures.1
+    (λ real. rw same at (c.in-Err.ensures.0 real)) (rw same at c.in-Err.ensures.1)
 
 pub returns-in-Ok : goal.returns-in-Ok
 returns-in-Ok c =

@@ -13,9 +13,8 @@ returns-in-Err c =
     let what = definition_view c.args.what in
     let header = path_view c.deref.result.now in
     let name = string_bytes c.in-Ok.key in
-    header_defines from to c.args.left (key_view c.args.key) what header name (ap path_view c.deref.ensures.value) c.in-Ok.ensures.cases
-    (Err c.in-Err.fault)
-    (along_route from to c.args.left name what header [] (Err c.in-Err.fault) c.in-Err.ensures)
+    header_defines from to c.args.left (Err c.in-Err.fault) (key_view c.args.key) what header name (ap path_view c.deref.ensures.value) c.in-Ok.ensures.cases
+    (along_route from to c.args.left (Err c.in-Err.fault) name what header [] c.in-Err.ensures)
 
 pub returns : goal.returns
 returns c =
@@ -25,8 +24,8 @@ returns c =
     let header = path_view c.deref.result.now in
     let name = string_bytes c.in-Ok.key in
     let defines =
-    header_defines from to c.args.left (key_view c.args.key) what header name (ap path_view c.deref.ensures.value) c.in-Ok.ensures.cases (Ok tt)
-    (along_route from to c.args.left name what header [] (Ok tt) c.in_default-define_at.ensures) in
+    header_defines from to c.args.left (Ok tt) (key_view c.args.key) what header name (ap path_view c.deref.ensures.value) c.in-Ok.ensures.cases
+    (along_route from to c.args.left (Ok tt) name what header [] c.in_default-define_at.ensures) in
     let section : path_view c.push.new.self.items ≡ path_view c.args.key.path.items ++ string_bytes c.args.key.last ∷ [] =
     ap path_view c.in_default-push.ensures.items ∙ map-append string_bytes c.args.key.path.items (c.args.key.last ∷ []) in
     (defines.0 ∙ ap (λ (path : List (List ℕ)). Some (table_view to, path)) (sym section), defines.1)

@@ -13,7 +13,6 @@ returns c =
     let x = sealed (node_view c.args.node) in
     let header = path_view c.deref.result.now in
     let dots = path_view c.deref-2.result.now in
-    pair_defines from to c.args.left (path_view c.args.self.now.section.items) (key_view c.args.key) x header dots (ap path_view c.deref.ensures.value)
-    (ap path_view c.deref-2.ensures.value) c.define_at.result
-    (along_route from to c.args.left (string_bytes c.args.key.last) (key_value x) header dots c.define_at.result
-    c.define_at.ensures)
+    pair_defines from to c.args.left c.define_at.result (path_view c.args.self.now.section.items) (key_view c.args.key) x header dots
+    (ap path_view c.deref.ensures.value) (ap path_view c.deref-2.ensures.value)
+    (along_route from to c.args.left c.define_at.result (string_bytes c.args.key.last) (key_value x) header dots c.define_at.ensures)
