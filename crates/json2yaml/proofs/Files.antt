@@ -20,7 +20,7 @@ use Rattle.yaml_program.specs.Conversions.{WroteStream}
 use Rattle.yaml_program.specs.Streams.{BeganDocument, SentStream}
 use Rattle.yaml_program.proofs.FilesInTurn.{each_sent}
 
--- ---- texts behind others
+-- ---- texts after others
 
 both_json : (depth : ℕ) (parts more : List (List ℕ × Json)) → AreJson depth parts → AreJson depth more → AreJson depth (parts ++ more)
 both_json depth [] more each others = others
@@ -45,10 +45,10 @@ both_events canonical in_flow first (second ∷ rest) next more =
     (ap (λ (events : List Event). events ++ last) (append_assoc between later between) ∙ append_assoc between (later ++ between) last
     ∙ ap (λ (events : List Event). between ++ events) (both_events canonical in_flow second rest next more))
 
--- ---- files behind others
+-- ---- files after others
 
--- the texts of these files, one at least, are JSON nested at most `depth` deep, with each name once in its object where that is asked
--- for; their events were given, a document each, and the sink was given the bytes that were taken
+-- True if the texts of these files, at least one, are JSON nested at most `depth` deep, with each name once in its object if that is asked
+-- for, their events were given, a document each, and the sink was given the bytes that were taken.
 pub record SentJsonFiles (settings : JsonSettings) (files : List (List ℕ)) (was : WriterState) (before : Option (List ℕ)) (now : WriterState)
     (after : Option (List ℕ)) : Type 0 where
   pub first : List ℕ × Json

@@ -1,4 +1,4 @@
--- What the options ask for, and what is sent on of the texts of several files.
+-- The settings that the options ask for, and what a sink is given of the texts of several files.
 use Rattle.std.specs.Prelude.{◌≡◌, ℕ, List, ◌++◌, codes, flat_map, map}
 use Rattle.clap.specs.declared.parser.matches.ArgMatches.{ArgMatches}
 use Rattle.json.specs.Json.{Json}
@@ -12,20 +12,20 @@ use Rattle.yaml_json.specs.declared.settings.JsonSettings.{JsonSettings}
 use Rattle.yaml_program.specs.Options.{AreWriterSettings, IsCountOf, IsOff, IsOn, value_of}
 use Rattle.yaml_program.specs.Streams.{Sending}
 
--- the settings are those that the options ask for
+-- True if the settings are those that the options ask for.
 pub record AreJsonSettings (matches : ArgMatches) (settings : JsonSettings) : Type 0 where
   pub writer : AreWriterSettings matches settings.writer
   pub flow : IsOn (value_of matches (codes "flow")) settings.flow
   pub names : IsOff (value_of matches (codes "allow-duplicates")) settings.unique_names
   pub depth : IsCountOf (value_of matches (codes "depth")) 1000 settings.depth
 
--- ---- what is sent on
+-- ---- what a sink is given
 
--- the texts of this file were sent
+-- True if the texts of this file were sent.
 abbrev pub SentJsonFile : JsonSettings → Sending
 SentJsonFile settings = SentTexts settings.depth settings.unique_names settings.flow
 
--- the bytes are the stream of the texts of these files, a document each, under these settings
+-- True if the bytes are the stream of the texts of these files, a document each, by these settings.
 pub record IsYamlOfJsonFiles (settings : JsonSettings) (files : List (List ℕ)) (bytes : List ℕ) : Type 0 where
   pub parts : List (List ℕ × Json)
   pub cut : map (λ part. part.0) parts ≡ flat_map texts_in files

@@ -5,7 +5,7 @@ use Rattle.yaml_json.specs.declared.error.StreamError.{StreamError}
 use Rattle.yaml_json.specs.declared.error.StreamError.TheVariants as faults
 use Rattle.yaml_program.specs.Faults.{emitter_status}
 
--- 1 where a text is refused, 3 where reading, writing or memory failed
+-- The status of an error: 1 if a text is refused, 3 if reading, writing or memory failed.
 abbrev pub json_status : StreamError → ℕ
 json_status (faults.Refused (errors.Emitter error)) = emitter_status error
 json_status (faults.Refused error) = 1

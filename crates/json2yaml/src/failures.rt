@@ -6,7 +6,7 @@ ghost use Rattle.yaml_program.specs.Faults as faults;
 use yaml_json::{JsonError, StreamError};
 use yaml_program::{Failure, Reason};
 
-/// Returns the failure of a text that is refused at this place, since it is this.
+/// Returns the failure of a text that is refused at this place for this reason.
 fn refused(line: usize, column: usize, words: &'static str) -> Failure
     ensures { faults.failure_status result ≡ 1 }
 {
@@ -16,7 +16,7 @@ fn refused(line: usize, column: usize, words: &'static str) -> Failure
     }
 }
 
-/// Returns what an error is for the program.
+/// Converts a stream error to the program's failure.
 pub fn failure_of(error: StreamError) -> Failure
     ensures { faults.failure_status result ≡ statuses.json_status error }
 {

@@ -22,7 +22,7 @@ impl Format for JsonFormat {
 
     ghost is_asked_by = { λ matches format. AreJsonSettings matches format.settings };
 
-    ghost is_bounded = { λ format. is_allowed format.settings.writer format.settings.flow format.settings.depth };
+    ghost allows_depth = { λ format. is_allowed format.settings.writer format.settings.flow format.settings.depth };
 
     ghost ending = { codes ".json" };
 
@@ -45,7 +45,7 @@ impl Format for JsonFormat {
         ".json"
     }
 
-    fn is_bounded(&self) -> bool {
+    fn allows_depth(&self) -> bool {
         let JsonSettings {
             writer,
             flow,

@@ -1,4 +1,4 @@
-//! The YAML of a file of JSON texts, sent on by the settings that are asked for.
+//! The YAML of a file of JSON texts, written by the settings that are asked for.
 ghost use Rattle.json2yaml.specs.Conversions.{SentJsonFile};
 
 use crate::failures::failure_of;

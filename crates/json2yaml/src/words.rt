@@ -1,7 +1,7 @@
 //! The program's name, and the words of its help.
 use yaml_program::{Wording, wording};
 
-/// Returns what the program is called, and what its help says.
+/// Returns the program's name and the words of its help.
 pub fn words() -> &'static Wording {
     &WORDS
 }
@@ -14,8 +14,8 @@ static WORDS: Wording = wording!(
     "write_canonical of the crate yaml_value gives, what yaml_canonical_from_json of the library yaml_c gives of JSON whose numbers are \
     integers, and what yaml_is_canonical of that library takes",
     "Files of JSON texts; - is standard input",
-    "Files of JSON texts, which are written one after another. The name - means standard input, which is also read where there is \
-    no name.{n}Example: json2yaml first.json - last.json",
+    "Files of JSON texts, which are written one after another. The name - means standard input, which is also read if no name \
+    is given.{n}Example: json2yaml first.json - last.json",
     &[(
         "allow-duplicates",
         "Lets a name come several times in one object",

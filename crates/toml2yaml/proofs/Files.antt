@@ -15,11 +15,11 @@ use Rattle.yaml_program.proofs.FilesInTurn.{each_sent}
 use Rattle.yaml_toml.specs.declared.settings.TomlSettings.{TomlSettings}
 use Rattle.toml2yaml.specs.Conversions.{AreToml, IsYamlOfTomlFiles, SentTomlFile, toml_parts_events, root_events}
 
--- ---- documents behind others
+-- ---- documents after others
 
-both_toml : (parts more : List (List ℕ × TomlNodes)) → AreToml parts → AreToml more → AreToml (parts ++ more)
-both_toml [] more each others = others
-both_toml (part ∷ parts) more each others = (each.0, both_toml parts more each.1 others)
+both_toml : (depth : ℕ) (parts more : List (List ℕ × TomlNodes)) → AreToml depth parts → AreToml depth more → AreToml depth (parts ++ more)
+both_toml depth [] more each others = others
+both_toml depth (part ∷ parts) more each others = (each.0, both_toml depth parts more each.1 others)
 
 -- with a document begun between them
 both_events : (canonical in_flow : Bool) (first : List ℕ × TomlNodes) (rest : List (List ℕ × TomlNodes)) (next : List ℕ × TomlNodes)
@@ -36,30 +36,30 @@ both_events canonical in_flow first (second ∷ rest) next =
     (ap (λ (events : List Event). events ++ last) (append_assoc between later between) ∙ append_assoc between (later ++ between) last
     ∙ ap (λ (events : List Event). between ++ events) (both_events canonical in_flow second rest next))
 
--- ---- files behind others
+-- ---- files after others
 
--- these files, one at least, are documents of TOML; their events were given, a document each, and the sink was given the bytes that were
--- taken
+-- True if these files, at least one, are documents of TOML, their events were given, a document each, and the sink was given the bytes that
+-- were taken.
 pub record SentTomlFiles (settings : TomlSettings) (files : List (List ℕ)) (was : WriterState) (before : Option (List ℕ)) (now : WriterState)
     (after : Option (List ℕ)) : Type 0 where
   pub first : List ℕ × TomlNodes
   pub rest : List (List ℕ × TomlNodes)
   pub are : map (λ part. part.0) (first ∷ rest) ≡ files
-  pub each : AreToml (first ∷ rest)
+  pub each : AreToml settings.depth (first ∷ rest)
   pub handed : List ℕ
   pub sends : Appends before after handed
   pub wrote : WroteTaking was (toml_parts_events was.canonical settings.flow (first ∷ rest)) handed now
 
 module _ (settings : TomlSettings) where
   -- a file
-  file_sent : (file : List ℕ) (was now : WriterState) (held after : Option (List ℕ)) → SentTomlFile settings.flow file was held now after
+  file_sent : (file : List ℕ) (was now : WriterState) (held after : Option (List ℕ)) → SentTomlFile settings file was held now after
       → SentTomlFiles settings (file ∷ []) was held now after
-  file_sent file was now held after ((utf8, wrote), same) =
+  file_sent file was now held after ((utf8, nests, wrote), same) =
       record {
         first = (file, wrote.root);
         rest = [];
         are = refl;
-        each = ((utf8, wrote.read), tt);
+        each = ((utf8, wrote.read, nests), tt);
         handed = [];
         sends = subst (λ (holds : Option (List ℕ)). Appends held holds []) (sym same) (Appends-nil held);
         wrote = took_none was now (root_events was.canonical settings.flow wrote.root) wrote.wrote;
@@ -68,8 +68,8 @@ module _ (settings : TomlSettings) where
   -- and another
   next_sent : (files : List (List ℕ)) (file : List ℕ) (was middle begun now : WriterState) (start held holds after : Option (List ℕ))
       → SentTomlFiles settings files was start middle held → BeganDocument middle held begun holds
-      → SentTomlFile settings.flow file begun holds now after → SentTomlFiles settings (files ++ file ∷ []) was start now after
-  next_sent files file was middle begun now start held holds after sent began ((utf8, one), stays) =
+      → SentTomlFile settings file begun holds now after → SentTomlFiles settings (files ++ file ∷ []) was start now after
+  next_sent files file was middle begun now start held holds after sent began ((utf8, nests, one), stays) =
       let begins = begun_taken middle began.begun begun (output_left began.begun.emitter.page) held holds sent.wrote.bare began.passed began.takes
       began.kept began.sends in
       let next : List ℕ × TomlNodes = (file, one.root) in
@@ -81,7 +81,7 @@ module _ (settings : TomlSettings) where
         first = sent.first;
         rest = sent.rest ++ next ∷ [];
         are = map-append (λ (part : List ℕ × TomlNodes). part.0) parts (next ∷ []) ∙ ap (λ (texts : List (List ℕ)). texts ++ file ∷ []) sent.are;
-        each = both_toml parts (next ∷ []) sent.each ((utf8, one.read), tt);
+        each = both_toml settings.depth parts (next ∷ []) sent.each ((utf8, one.read, nests), tt);
         handed = handed;
         sends = subst (λ (all : Option (List ℕ)). Appends start all handed) (sym stays)
             (Appends-trans start held holds sent.handed begins.bytes sent.sends begins.sends);
@@ -95,12 +95,12 @@ module _ (settings : TomlSettings) where
       }
 
   -- and all
-  pub all_wrote : (files : List (List ℕ)) (before after : Option (List ℕ)) → SentStream (SentTomlFile settings.flow) settings.writer files before after
+  pub all_wrote : (files : List (List ℕ)) (before after : Option (List ℕ)) → SentStream (SentTomlFile settings) settings.writer files before after
       → WroteStream (IsYamlOfTomlFiles settings) files before after
   all_wrote files before after whole =
       let given = seen_settings settings.writer in
       let was = whole.first in
-      let sent = each_sent (SentTomlFile settings.flow) (λ all now holds. SentTomlFiles settings all was before now holds)
+      let sent = each_sent (SentTomlFile settings) (λ all now holds. SentTomlFiles settings all was before now holds)
       (λ some file middle begun now held holds later. next_sent some file was middle begun now before held holds later) files was whole.last before
       whole.held (λ file now holds. file_sent file was now before holds) whole.documents in
       let parts = sent.first ∷ sent.rest in

@@ -1,4 +1,4 @@
--- What the options ask for, and what is sent on of several files of TOML.
+-- The settings that the options ask for, and what a sink is given of several files of TOML.
 use Rattle.std.specs.Prelude.{◌≡◌, ℕ, Some, List, [], ◌∷◌, ◌++◌, codes, map, Bool, IsUtf8}
 use Rattle.clap.specs.declared.parser.matches.ArgMatches.{ArgMatches}
 use Rattle.toml_ordered.specs.Data.{TomlNodes, table}
@@ -8,47 +8,49 @@ use Rattle.yaml_base.specs.Event.{Event}
 use Rattle.yaml_emitter.specs.Given.{seen_settings}
 use Rattle.yaml_writer.specs.Writing.{IsStream, WriterState, closing, opening}
 use Rattle.yaml_writer.specs.WasGiven.{between}
+use Rattle.yaml_toml.specs.Depth.{NestsWithin}
 use Rattle.yaml_toml.specs.Events.{toml_events}
 use Rattle.yaml_toml.specs.Walk.{WroteToml}
 use Rattle.yaml_toml.specs.declared.settings.TomlSettings.{TomlSettings}
 use Rattle.yaml_program.specs.Options.{AreWriterSettings, IsCountOf, IsOn, value_of}
 use Rattle.yaml_program.specs.Streams.{Sending}
 
--- the settings are those that the options ask for
+-- True if the settings are those that the options ask for.
 pub record AreTomlSettings (matches : ArgMatches) (settings : TomlSettings) : Type 0 where
   pub writer : AreWriterSettings matches settings.writer
   pub flow : IsOn (value_of matches (codes "flow")) settings.flow
   pub depth : IsCountOf (value_of matches (codes "depth")) 1000 settings.depth
 
--- ---- what is sent on
+-- ---- what a sink is given
 
--- each of some texts is UTF-8 and a document of TOML, with its root table
-abbrev pub AreToml : List (List ℕ × TomlNodes) → Type 0
-AreToml [] = Unit {0}
-AreToml (part ∷ parts) = (IsUtf8 part.0 × (ordered_document part.0 ≡ Some part.1)) × AreToml parts
+-- True if each of some texts is UTF-8 and a document of TOML whose root table is beside it, and nests at most `depth` deep.
+abbrev pub AreToml : (depth : ℕ) → List (List ℕ × TomlNodes) → Type 0
+AreToml depth [] = Unit {0}
+AreToml depth (part ∷ parts) =
+    (IsUtf8 part.0 × (ordered_document part.0 ≡ Some part.1) × NestsWithin depth part.0) × AreToml depth parts
 
 abbrev pub root_events : (canonical in_flow : Bool) → TomlNodes → List Event
 root_events canonical in_flow root = toml_events canonical in_flow (table Header root)
 
--- the events of their tables, a document each, within the start of the first document and the end of the last
+-- The events of their tables, a document each, between the start of the first document and the end of the last.
 abbrev pub toml_parts_events : (canonical in_flow : Bool) → List (List ℕ × TomlNodes) → List Event
 toml_parts_events canonical in_flow [] = []
 toml_parts_events canonical in_flow (part ∷ []) = root_events canonical in_flow part.1
 toml_parts_events canonical in_flow (part ∷ next ∷ rest) =
     root_events canonical in_flow part.1 ++ (between ++ toml_parts_events canonical in_flow (next ∷ rest))
 
--- the file is UTF-8 and a document of TOML, whose events were given
-abbrev pub WroteFile : (in_flow : Bool) → List ℕ → WriterState → WriterState → Type 0
-WroteFile in_flow file was now = IsUtf8 file × WroteToml in_flow file was now
+-- True if the file is UTF-8 and a document of TOML that nests at most `depth` deep, and its events were given.
+abbrev pub WroteFile : (depth : ℕ) → (in_flow : Bool) → List ℕ → WriterState → WriterState → Type 0
+WroteFile depth in_flow file was now = IsUtf8 file × NestsWithin depth file × WroteToml in_flow file was now
 
--- and nothing was sent on of it yet
-abbrev pub SentTomlFile : (in_flow : Bool) → Sending
-SentTomlFile in_flow file was before now after = WroteFile in_flow file was now × (after ≡ before)
+-- The same, and the sink was given nothing.
+abbrev pub SentTomlFile : TomlSettings → Sending
+SentTomlFile settings file was before now after = WroteFile settings.depth settings.flow file was now × (after ≡ before)
 
--- the bytes are the stream of these files, a document each, under these settings
+-- True if the bytes are the stream of these files, a document each, by these settings.
 pub record IsYamlOfTomlFiles (settings : TomlSettings) (files : List (List ℕ)) (bytes : List ℕ) : Type 0 where
   pub parts : List (List ℕ × TomlNodes)
   pub are : map (λ part. part.0) parts ≡ files
-  pub each : AreToml parts
+  pub each : AreToml settings.depth parts
   pub stream : IsStream (seen_settings settings.writer)
       (opening ++ toml_parts_events settings.writer.canonical settings.flow parts ++ closing) bytes

@@ -8,7 +8,7 @@ use yaml_toml::TomlError;
 
 const TOO_DEEP: &str = "arrays and tables nest too deep";
 
-/// Returns the failure of a text that is refused at this place, since it is this.
+/// Returns the failure of a text that is refused at this place for this reason.
 pub fn refused(line: usize, column: usize, words: &'static str) -> Failure
     ensures { faults.failure_status result ≡ 1 }
 {
@@ -18,7 +18,7 @@ pub fn refused(line: usize, column: usize, words: &'static str) -> Failure
     }
 }
 
-/// Returns what an error is for the program.
+/// Converts an error of a text to the program's failure.
 pub fn failure_of(error: TomlError) -> Failure
     ensures { faults.failure_status result ≡ statuses.toml_status error }
 {

@@ -22,7 +22,7 @@ impl Format for TomlFormat {
 
     ghost is_asked_by = { λ matches format. AreTomlSettings matches format.settings };
 
-    ghost is_bounded = { λ format. is_allowed format.settings.writer format.settings.flow format.settings.depth };
+    ghost allows_depth = { λ format. is_allowed format.settings.writer format.settings.flow format.settings.depth };
 
     ghost ending = { codes ".toml" };
 
@@ -44,7 +44,7 @@ impl Format for TomlFormat {
         ".toml"
     }
 
-    fn is_bounded(&self) -> bool {
+    fn allows_depth(&self) -> bool {
         let TomlSettings {
             writer,
             flow,

@@ -9,7 +9,7 @@ mod words;
 use crate::formats::TomlFormat;
 use std::process::ExitCode;
 
-/// Ends with the run's status, also where what went wrong can't be reported.
+/// Exits with the run's status, even if reporting the failure fails.
 fn main(rt: HostRuntime) -> ExitCode {
     ExitCode::from(yaml_program::run::<TomlFormat>(&rt))
 }

@@ -1,4 +1,4 @@
-//! The YAML of a file of TOML, sent on by the settings that are asked for.
+//! The YAML of a file of TOML, written by the settings that are asked for.
 ghost use Rattle.std.specs.Prelude.{◌≡◌, OnOk};
 ghost use Rattle.yaml_writer.specs.WasGiven.{IsBare};
 ghost use Rattle.toml2yaml.specs.Conversions.{SentTomlFile, WroteFile};
@@ -12,7 +12,7 @@ use yaml_base::place_of;
 use yaml_program::{Failure, SendsFile, Sources, read_file};
 use yaml_toml::{TomlSettings, Writer, write_toml};
 
-/// Gives a writer the events of a document.
+/// Gives a writer the events of a document, if the bytes are one.
 fn write_bytes(
     alloc: Global,
     writer: &mut Writer<Global>,
@@ -21,7 +21,7 @@ fn write_bytes(
 ) -> Result<(), Failure>
     requires { IsBare writer.old }
     ensures bare { OnOk result (IsBare writer.new) }
-    ensures wrote { OnOk result (WroteFile settings.now.flow bytes.now writer.old writer.new) }
+    ensures wrote { OnOk result (WroteFile settings.now.depth settings.now.flow bytes.now writer.old writer.new) }
 {
     let text = match str::from_utf8(bytes) {
         Ok(text) => text,
@@ -37,7 +37,7 @@ fn write_bytes(
 }
 
 impl SendsFile for TomlFormat {
-    ghost sent = { λ format. SentTomlFile format.settings.flow };
+    ghost sent = { λ format. SentTomlFile format.settings };
 
     fn send_file<S: Sources + AllocGlobal, W: Write>(
         &self,

@@ -1,7 +1,7 @@
 //! The program's name, and the words of its help.
 use yaml_program::{Wording, wording};
 
-/// Returns what the program is called, and what its help says.
+/// Returns the program's name and the words of its help.
 pub fn words() -> &'static Wording {
     &WORDS
 }
@@ -13,7 +13,7 @@ static WORDS: Wording = wording!(
     "arrays and tables",
     "write_canonical of the crate yaml_value gives, and what yaml_is_canonical of the library yaml_c takes",
     "Files of TOML, a text each; - is standard input",
-    "Files of TOML, a text each, which are written one after another. The name - means standard input, which is also read where there is \
-    no name.{n}Example: toml2yaml first.toml - last.toml",
+    "Files of TOML, a text each, which are written one after another. The name - means standard input, which is also read if no name \
+    is given.{n}Example: toml2yaml first.toml - last.toml",
     &[]
 );

@@ -6,7 +6,7 @@ use Rattle.yaml_writer.specs.Writing.{WriterState}
 use Rattle.yaml_program.specs.Conversions.{AreBytesOf, names_read}
 use Rattle.yaml_program.specs.Streams.{BeganDocument, Sending, SentBehind, SentFiles}
 
--- the last of some files
+-- The last of some files.
 cut_last : (bytes_of : List ℕ → Option (List ℕ)) (names : List (List ℕ)) (name : List ℕ) (files : List (List ℕ))
     → AreBytesOf bytes_of (names ++ name ∷ []) files
     → (front : List (List ℕ)) × (last : List ℕ) × (files ≡ front ++ last ∷ []) × AreBytesOf bytes_of names front × (bytes_of name ≡ Some last)
@@ -24,7 +24,7 @@ module _ (sent : Sending) (bytes_of : List ℕ → Option (List ℕ)) where
   behind_none writer held [] are = (refl, refl)
   behind_none writer held (file ∷ files) are = absurd are
 
-  -- one more
+  -- One more file.
   behind_more : (files : List (List ℕ)) (file : List ℕ) (was middle begun now : WriterState) (before held holds after : Option (List ℕ))
       → SentBehind sent files was before middle held → BeganDocument middle held begun holds → sent file begun holds now after
       → SentBehind sent (files ++ file ∷ []) was before now after
@@ -47,7 +47,7 @@ module _ (sent : Sending) (bytes_of : List ℕ → Option (List ℕ)) where
     behind_more files file then middle begun now had held holds after rest begins one,
   )
 
-  -- the next name of a list
+  -- The next name of a list.
   pub next_behind : (names : List (Bor (List ℕ))) (index : ℕ) (name : Bor (List ℕ)) (was middle begun now : WriterState)
       (before held holds after : Option (List ℕ)) → index < length names
       → ((files : List (List ℕ)) → AreBytesOf bytes_of (map (λ n. n.now) (take index names)) files → SentBehind sent files was before middle held)
@@ -63,7 +63,7 @@ module _ (sent : Sending) (bytes_of : List ℕ → Option (List ℕ)) where
       subst (λ (all : List (List ℕ)). SentBehind sent all was before now after) (sym is)
       (behind_more front last was middle begun now before held holds after (behind front others) begins (one last known))
 
-  -- standard input
+  -- Standard input.
   pub stream_sent : (names : List (Bor (List ℕ))) (was now : WriterState) (before after : Option (List ℕ)) → length names ≡ 0
       → ((file : List ℕ) → bytes_of (codes "-") ≡ Some file → sent file was before now after)
       → (files : List (List ℕ)) → AreBytesOf bytes_of (names_read (map (λ n. n.now) names)) files → SentFiles sent files was before now after
@@ -72,7 +72,7 @@ module _ (sent : Sending) (bytes_of : List ℕ → Option (List ℕ)) where
   stream_sent [] was now before after none one (file ∷ next ∷ files) are = absurd are.1
   stream_sent (name ∷ names) was now before after none one files are = absurd (omega arith)
 
-  -- the files that are named
+  -- The files that are named.
   named_from : (name : List ℕ) (others : List (List ℕ)) (was middle now : WriterState) (before held after : Option (List ℕ))
       → ((file : List ℕ) → bytes_of name ≡ Some file → sent file was before middle held)
       → ((files : List (List ℕ)) → AreBytesOf bytes_of others files → SentBehind sent files middle held now after)
@@ -89,7 +89,7 @@ module _ (sent : Sending) (bytes_of : List ℕ → Option (List ℕ)) where
       named_from name.now (map (λ n. n.now) others) was middle now before held after one behind files
       (subst (λ (all : List (Bor (List ℕ))). AreBytesOf bytes_of (names_read (map (λ n. n.now) all)) files) is are)
 
--- what holds of one file, and goes on with each that is sent behind others, holds of all
+-- A predicate that holds of one file, and is kept by each file that is sent after others, holds of all files.
 module _ (sent : Sending)
     (P : List (List ℕ) → WriterState → Option (List ℕ) → Type 0)
     (next : (files : List (List ℕ)) (file : List ℕ) (middle begun now : WriterState) (held holds after : Option (List ℕ)) → P files middle held

@@ -1,4 +1,4 @@
--- What follows a heading.
+-- A stream after a heading.
 use Rattle.std.proofs.Common.{ℕ, Option, List, ◌++◌, refl}
 use Rattle.std.specs.Io.KnownBytes.{Appends}
 use Rattle.std.proofs.KnownBytes.{Appends-trans}

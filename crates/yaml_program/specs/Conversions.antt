@@ -1,6 +1,6 @@
--- What is asked for, and what is done of it with files, where the bytes that their names stand for are known. `IsYaml` says which bytes are
--- the stream of the texts of some files.
-use Rattle.std.specs.Prelude.{◌≡◌, ℕ, Option, Some, List, [], ◌∷◌, ◌++◌, codes, chars, encode_utf8_all, map, option_map, None, Bool, true, false}
+-- The conversion that options ask for, and what a conversion does with files whose bytes are known. `IsYaml` relates some files and the
+-- bytes of the stream of their texts.
+use Rattle.std.specs.Prelude.{◌≡◌, ◌⊎◌, ℕ, Option, Some, List, [], ◌∷◌, ◌++◌, codes, chars, encode_utf8_all, map, option_map, None, Bool, true, false}
 use Rattle.std.specs.Io.KnownBytes.{Appends}
 use Rattle.clap.specs.Words.{first_value, found_of}
 use Rattle.clap.specs.declared.parser.matches.ArgMatches.{ArgMatches}
@@ -8,9 +8,9 @@ use Rattle.yaml_writer.specs.Headings.{comment_lines}
 use Rattle.yaml_program.specs.Options.{IsOn, files_named, value_of}
 use Rattle.yaml_program.specs.declared.arguments.Conversion.{Conversion}
 
--- ---- what is asked for
+-- ---- the conversion that is asked for
 
--- the heading, the file that is written and the files that are read are those that the options name, and so is what is done
+-- True if the heading, the file that is written, the files that are read and the kind of conversion are those that the options name.
 pub record IsAskedBy {F : Type 0} (matches : ArgMatches) (conversion : Conversion F) : Type 0 where
   pub heading : option_map (λ text. text.now) conversion.heading ≡ first_value (found_of matches) (codes "heading")
   pub checks : IsOn (value_of matches (codes "check")) conversion.checks
@@ -18,18 +18,18 @@ pub record IsAskedBy {F : Type 0} (matches : ArgMatches) (conversion : Conversio
   pub output : option_map (λ name. name.now) conversion.output ≡ first_value (found_of matches) (codes "output")
   pub files : map (λ name. name.now) conversion.files.items ≡ files_named matches
 
--- what is read: the files that are named, and standard input where there are none
+-- The names of what is read: the given ones, or that of standard input if none is given.
 abbrev pub names_read : List (List ℕ) → List (List ℕ)
 names_read [] = codes "-" ∷ []
 names_read (name ∷ names) = name ∷ names
 
--- these are the bytes of these names, of each its own
+-- True if the files are the known bytes of the names, in order.
 abbrev pub AreBytesOf : (List ℕ → Option (List ℕ)) → List (List ℕ) → List (List ℕ) → Type 0
 AreBytesOf bytes_of [] [] = Unit {0}
 AreBytesOf bytes_of (name ∷ names) (file ∷ files) = (bytes_of name ≡ Some file) × AreBytesOf bytes_of names files
 AreBytesOf bytes_of _ _ = ⊥
 
--- what holds of the bytes of all that is read by these names, where they are known
+-- True if the predicate holds of the bytes of all that is read by these names, if all of them are known.
 abbrev pub OfNames : (List ℕ → Option (List ℕ)) → List (List ℕ) → (List (List ℕ) → Type 0) → Type 0
 OfNames bytes_of names holds = (files : List (List ℕ)) → AreBytesOf bytes_of (names_read names) files → holds files
 
@@ -39,7 +39,7 @@ names_of conversion = map (λ name. name.now) conversion.files.items
 abbrev pub OfFiles : {F : Type 0} → (List ℕ → Option (List ℕ)) → Conversion F → (List (List ℕ) → Type 0) → Type 0
 OfFiles bytes_of conversion holds = OfNames bytes_of (names_of conversion) holds
 
--- a heading's lines
+-- The bytes of the lines of a heading.
 abbrev pub heading_bytes : Option (List ℕ) → List ℕ
 heading_bytes None = []
 heading_bytes (Some text) = encode_utf8_all (comment_lines (chars text))
@@ -47,52 +47,64 @@ heading_bytes (Some text) = encode_utf8_all (comment_lines (chars text))
 abbrev pub heading_of : {F : Type 0} → Conversion F → Option (List ℕ)
 heading_of conversion = option_map (λ text. text.now) conversion.heading
 
--- ---- what is sent on
+-- ---- what a sink is given
 
--- the sink was given the stream of these files
+-- True if the sink was given the stream of these files.
 abbrev pub WroteStream : (IsYaml : List (List ℕ) → List ℕ → Type 0) → List (List ℕ) → Option (List ℕ) → Option (List ℕ) → Type 0
 WroteStream IsYaml files before after = (bytes : List ℕ) × Appends before after bytes × IsYaml files bytes
 
--- the bytes are the heading's lines, and then that stream
+-- True if the bytes are the heading's lines and then the stream of these files.
 abbrev pub IsYamlBehind : (IsYaml : List (List ℕ) → List ℕ → Type 0) → (heading : Option (List ℕ)) → List (List ℕ) → List ℕ → Type 0
 IsYamlBehind IsYaml heading files bytes = (yaml : List ℕ) × (bytes ≡ heading_bytes heading ++ yaml) × IsYaml files yaml
 
--- the sink was given them
+-- True if the sink was given the heading's lines and then the stream of these files.
 abbrev pub WroteFiles : (IsYaml : List (List ℕ) → List ℕ → Type 0) → (heading : Option (List ℕ)) → List (List ℕ) → Option (List ℕ)
     → Option (List ℕ) → Type 0
 WroteFiles IsYaml heading files before after = (bytes : List ℕ) × Appends before after bytes × IsYamlBehind IsYaml heading files bytes
 
--- there is such a stream
+-- True if the conversion writes to standard output, since it names no other file.
+abbrev pub IsToStream : {F : Type 0} → Conversion F → Type 0
+IsToStream conversion =
+    (option_map (λ name. name.now) conversion.output ≡ None) ⊎ (option_map (λ name. name.now) conversion.output ≡ Some (codes "-"))
+
+-- True if standard output was given the heading's lines and the stream of the files that are read, if the conversion writes there.
+abbrev pub WroteToStream : {F : Type 0} → (is_yaml : F → List (List ℕ) → List ℕ → Type 0) → (List ℕ → Option (List ℕ)) → Conversion F
+    → Option (List ℕ) → Option (List ℕ) → Type 0
+WroteToStream is_yaml bytes_of conversion before after =
+    IsToStream conversion → conversion.checks ≡ false
+    → OfFiles bytes_of conversion (λ files. WroteFiles (is_yaml conversion.format) (heading_of conversion) files before after)
+
+-- True if these files have a stream.
 abbrev pub HaveYaml : (IsYaml : List (List ℕ) → List ℕ → Type 0) → List (List ℕ) → Type 0
 HaveYaml IsYaml files = (bytes : List ℕ) × IsYaml files bytes
 
 -- ---- what is done
 
--- what this name stands for, where it is known, is the heading and the stream
+-- True if the bytes of what has this name, if they are known, are the heading's lines and the stream of the files that are read.
 abbrev pub IsThere : (List ℕ → Option (List ℕ)) → (IsYaml : List (List ℕ) → List ℕ → Type 0) → (heading : Option (List ℕ)) → List (List ℕ)
     → (name : List ℕ) → Type 0
 IsThere bytes_of IsYaml heading names name =
     OfNames bytes_of names (λ files. (there : List ℕ) → bytes_of name ≡ Some there → IsYamlBehind IsYaml heading files there)
 
--- there is a stream of all that is read by these names; where files are compared, it is there
+-- True if the files that are read have a stream and, if files are compared, the target's bytes are the heading and that stream.
 pub record IsDoneAs (bytes_of : List ℕ → Option (List ℕ)) (IsYaml : List (List ℕ) → List ℕ → Type 0) (heading : Option (List ℕ)) (checks : Bool)
     (names : List (List ℕ)) (target : Option (List ℕ)) : Type 0 where
   pub stream : OfNames bytes_of names (HaveYaml IsYaml)
   pub there : checks ≡ true → (name : List ℕ) → target ≡ Some name → IsThere bytes_of IsYaml heading names name
 
--- so of a conversion, by the relation of its format
+-- The same of a conversion, by the relation of its format.
 abbrev pub IsDone : {F : Type 0} → (is_yaml : F → List (List ℕ) → List ℕ → Type 0) → (List ℕ → Option (List ℕ)) → Conversion F
     → (target : Option (List ℕ)) → Type 0
 IsDone is_yaml bytes_of conversion target =
     IsDoneAs bytes_of (is_yaml conversion.format) (heading_of conversion) conversion.checks (names_of conversion) target
 
--- the file beside another: its name ends in `.yaml` in place of the format's ending
+-- True if the target's name is the name with `.yaml` in place of the format's ending.
 pub record IsBeside (ending name target : List ℕ) : Type 0 where
   pub stem : List ℕ
   pub ends : name ≡ stem ++ ending
   pub is : target ≡ stem ++ codes ".yaml"
 
--- so of one file, by itself, and the file beside it
+-- True if one file is converted by itself to the file beside it.
 pub record IsDoneBeside {F : Type 0} (is_yaml : F → List (List ℕ) → List ℕ → Type 0) (ending : List ℕ) (bytes_of : List ℕ → Option (List ℕ))
     (conversion : Conversion F) (name : List ℕ) : Type 0 where
   pub target : List ℕ
@@ -107,7 +119,7 @@ abbrev pub EachIsDone : {F : Type 0} → (is_yaml : F → List (List ℕ) → Li
     → Conversion F → List (List ℕ) → Type 0
 EachIsDone is_yaml ending bytes_of conversion names = HoldsOfEach (IsDoneBeside is_yaml ending bytes_of conversion) names
 
--- each file is done by itself, or all of them together
+-- True if each file is converted by itself, or all of them together.
 abbrev pub AllDone : {F : Type 0} → (is_yaml : F → List (List ℕ) → List ℕ → Type 0) → (ending : List ℕ) → (List ℕ → Option (List ℕ))
     → Conversion F → (each : Bool) → Type 0
 AllDone is_yaml ending bytes_of conversion true = EachIsDone is_yaml ending bytes_of conversion (names_of conversion)

@@ -1,4 +1,4 @@
--- What the options say.
+-- The meaning of the options.
 use Rattle.std.specs.Prelude.{◌≡◌, ℕ, ◌<◌, ◌^◌, ℤ, Bool, true, false, List, [], Option, None, Some, FitsSigned, codes, option_map, unwrap_or}
 use mir.Syntax.{w32}
 use Rattle.std.specs.Str.Parse.{IsNumeral, digits_value, signed_digits_value, without_leading_plus, without_leading_sign}
@@ -9,35 +9,36 @@ use Rattle.yaml_emitter.specs.declared.settings.Settings.{Settings}
 use Rattle.yaml_writer.specs.Given.{given_for_values}
 use Rattle.yaml_program.specs.declared.arguments.CommonSettings.{CommonSettings}
 
--- the text of an option's value, if it has one
+-- The text of an option's value, if it has one.
 abbrev pub value_of : ArgMatches → List ℕ → Option (List ℕ)
 value_of matches name = one_text (found_of matches) name
 
--- an option without a value is on where it was given, and off where it wasn't
+-- True if the setting of an option without a value is on if it was given, and off if it wasn't.
 abbrev pub IsOn : Option (List ℕ) → Bool → Type 0
 IsOn value on =
     (value ≡ None → on ≡ false) × (value ≡ Some (codes "false") → on ≡ false) × (value ≡ Some (codes "true") → on ≡ true)
 
--- and the other way round
+-- True if the setting is off if the option was given, and on if it wasn't.
 abbrev pub IsOff : Option (List ℕ) → Bool → Type 0
 IsOff value on =
     (value ≡ None → on ≡ true) × (value ≡ Some (codes "false") → on ≡ true) × (value ≡ Some (codes "true") → on ≡ false)
 
--- an option's number is what its text spells in decimal digits, behind a sign or none; where it wasn't given it is as by default
+-- True if the number is the default if the option wasn't given, and else the one that its text spells in decimal digits, with or
+-- without a sign before them.
 abbrev pub IsNumberOf : Option (List ℕ) → (default number : Option ℤ) → Type 0
 IsNumberOf value default number =
     (value ≡ None → number ≡ default)
     × ((text : List ℕ) → value ≡ Some text → IsNumeral 10 (without_leading_sign text) → FitsSigned w32 (signed_digits_value 10 text)
     → number ≡ Some (signed_digits_value 10 text))
 
--- and a count, which has a default
+-- The same of a count, which has a default.
 abbrev pub IsCountOf : Option (List ℕ) → (default count : ℕ) → Type 0
 IsCountOf value default count =
     (value ≡ None → count ≡ default)
     × ((text : List ℕ) → value ≡ Some text → IsNumeral 10 (without_leading_plus text) → digits_value 10 (without_leading_plus text) < 2 ^ 64
     → count ≡ digits_value 10 (without_leading_plus text))
 
--- the writer's settings are those that the options ask for; what no option sets is as it is for values
+-- True if the writer's settings are those that the options ask for; what no option sets is as it is for values.
 pub record AreWriterSettings (matches : ArgMatches) (settings : Settings) : Type 0 where
   pub canonical : IsOn (value_of matches (codes "canonical")) settings.canonical
   pub breaks : IsOn (value_of matches (codes "no-document-start")) settings.line_breaks_1_2
@@ -57,12 +58,12 @@ pub record AreWriterSettings (matches : ArgMatches) (settings : Settings) : Type
     width = settings.width;
   }
 
--- and so are all that every format has
+-- True if the settings that every format has are those that the options ask for.
 pub record AreCommonSettings (matches : ArgMatches) (settings : CommonSettings) : Type 0 where
   pub writer : AreWriterSettings matches settings.writer
   pub flow : IsOn (value_of matches (codes "flow")) settings.flow
   pub depth : IsCountOf (value_of matches (codes "depth")) 1000 settings.depth
 
--- the files that are named, in order
+-- The files that are named, in order.
 abbrev pub files_named : ArgMatches → List (List ℕ)
 files_named matches = unwrap_or (option_map raw_values (matched_of (found_of matches) (codes "files"))) []

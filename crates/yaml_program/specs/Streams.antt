@@ -1,4 +1,4 @@
--- What is sent on of several files, one after another.
+-- What a sink is given of several files, one after another.
 use Rattle.std.specs.Prelude.{◌≡◌, ℕ, Option, Ok, List, [], ◌∷◌, true}
 use Rattle.std.specs.Io.KnownBytes.{Appends}
 use Rattle.yaml_base.specs.Event.{document_end}
@@ -8,11 +8,11 @@ use Rattle.yaml_emitter.specs.State.{State, with_all_taken}
 use Rattle.yaml_emitter.specs.declared.settings.Settings.{Settings}
 use Rattle.yaml_writer.specs.Writing.{Finishes, PassedEvents, StandsTaken, TakesBytes, WriterState, opening, plain_start}
 
--- what is sent on of a file of these bytes, by a writer and to a sink that were so before, and are so after it
+-- A relation of a file's bytes, and of a writer and a sink before and after the file is sent.
 abbrev pub Sending : Type 1
 Sending = List ℕ → WriterState → Option (List ℕ) → WriterState → Option (List ℕ) → Type 0
 
--- the next document was begun, and the sink was given all that was written before it
+-- True if the next document was begun, and the sink was given all that was written before it.
 pub record BeganDocument (was : WriterState) (before : Option (List ℕ)) (now : WriterState) (after : Option (List ℕ)) : Type 0 where
   pub begun : WriterState
   pub passed : PassedEvents was (document_end true ∷ plain_start ∷ []) (Ok tt) begun
@@ -21,24 +21,24 @@ pub record BeganDocument (was : WriterState) (before : Option (List ℕ)) (now :
   pub kept : now ≡ record begun { emitter = with_all_taken begun.emitter }
 
 module _ (sent : Sending) where
-  -- these files were sent behind others, a document begun before each
+  -- True if these files were sent after others, with a document begun before each.
   abbrev pub SentBehind : List (List ℕ) → WriterState → Option (List ℕ) → WriterState → Option (List ℕ) → Type 0
   SentBehind [] was before now after = (now ≡ was) × (after ≡ before)
   SentBehind (file ∷ files) was before now after =
       (begun : WriterState) × (held : Option (List ℕ)) × (middle : WriterState) × (holds : Option (List ℕ)) × BeganDocument was before begun held
       × sent file begun held middle holds × SentBehind files middle holds now after
 
-  -- these files were sent, one at least
+  -- True if these files were sent, at least one.
   abbrev pub SentFiles : List (List ℕ) → WriterState → Option (List ℕ) → WriterState → Option (List ℕ) → Type 0
   SentFiles [] was before now after = ⊥
   SentFiles (file ∷ files) was before now after =
       (middle : WriterState) × (holds : Option (List ℕ)) × sent file was before middle holds × SentBehind files middle holds now after
 
--- the stream was finished, and the sink was given the rest of it
+-- True if the stream was finished, and the sink was given the rest of it.
 abbrev pub WroteLast : State → Option (List ℕ) → Option (List ℕ) → Type 0
 WroteLast emitter before after = (bytes : List ℕ) × Appends before after bytes × Finishes emitter bytes
 
--- a new writer under these settings sent these files, and finished the stream
+-- True if a new writer with these settings sent these files and finished the stream.
 pub record SentStream (sent : Sending) (settings : Settings) (files : List (List ℕ)) (before after : Option (List ℕ)) : Type 0 where
   pub first : WriterState
   pub stands : StandsTaken (seen_settings settings) opening [] first.emitter

@@ -12,7 +12,7 @@ use std::rt::Runtime;
 use std::{env, io};
 use yaml_writer::{Quotes, Settings, value_settings};
 
-/// The maximum nesting depth of collections where no option says it.
+/// The maximum nesting depth of collections if no option sets it.
 const DEFAULT_DEPTH: usize = 1_000;
 
 /// The settings that every format has.
@@ -20,30 +20,30 @@ const DEFAULT_DEPTH: usize = 1_000;
 pub struct CommonSettings {
     /// The settings of the writer.
     pub writer: Settings,
-    /// Collections stand in flow.
+    /// Collections are written in flow style.
     pub flow: bool,
     /// The maximum nesting depth of collections.
     pub depth: usize,
 }
 
-/// A conversion: what is written, where and how.
+/// A conversion: the files that are read, and the place and the form of the YAML.
 #[derive(Drop)]
 pub struct Conversion<'a, F> {
     /// The format that the files hold, with the settings by which it is written.
     pub format: F,
-    /// The text that stands in comments before the stream.
+    /// The text that comments before the stream hold.
     pub heading: Option<&'a str>,
-    /// Nothing is written: what is there is compared.
+    /// Nothing is written; the files that are there are compared.
     pub checks: bool,
-    /// Each file is written to one beside it.
+    /// Each file is converted to one beside it.
     pub each: bool,
-    /// Standard output where there is none.
+    /// The file that is written; standard output if it is `None`.
     pub output: Option<&'a str>,
-    /// Standard input where there are none.
+    /// The files that are read; standard input if the list is empty.
     pub files: Vec<&'a str>,
 }
 
-/// Returns whether portable mode is on, where no option turns it off, and none leaves it.
+/// Returns whether portable mode is on: neither of the two options that end it was given.
 fn is_portable(is_off: bool, is_left: bool) -> bool
     ensures { result ≡ (not is_off && not is_left) }
 {
@@ -112,7 +112,11 @@ pub fn conversion_by<'a, F: Format>(
     })
 }
 
-/// Returns what the arguments after a program's name ask for, or why they ask for no conversion, which may be that they ask for help.
+/// Returns the conversion that the arguments after a program's name ask for.
+///
+/// # Errors
+///
+/// The arguments ask for no conversion: they aren't understood, or ask for help or for the version; or an allocation failed.
 pub(crate) fn conversion_of<'a, F: Format>(
     alloc: Global,
     arguments: &'a [String],

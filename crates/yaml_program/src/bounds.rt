@@ -4,15 +4,15 @@ ghost use Rattle.yaml_program.specs.Bounds as bounds;
 
 use crate::arguments::CommonSettings;
 
-/// The maximum nesting depth of collections where lines are indented by their depth.
+/// The maximum nesting depth of collections if lines are indented by their depth.
 const MOST_INDENTED: usize = 10_000;
 
-/// Returns whether collections may nest as deep as the settings say. Where lines are indented, the output grows with the square of the
-/// depth, and a document lies in memory until it ends.
+/// Returns whether collections may nest as deep as the settings say. If lines are indented, the output grows with the square of the depth,
+/// and a document is in memory until it ends.
 pub fn is_allowed(settings: &CommonSettings) -> bool
     ensures { result ≡ bounds.is_allowed settings.now.writer settings.now.flow settings.now.depth }
 {
-    // In flow no line is indented where nothing is folded: all of a document stands in one.
+    // In flow, if nothing is folded, a document is one line, and no line is indented.
     let folds = match settings.writer.width {
         Some(column) => column >= 0,
         None => true,

@@ -1,4 +1,4 @@
-//! The comparison of a file with what would be written to it.
+//! The comparison of a file with the YAML that would be written to it.
 ghost use Rattle.std.specs.Prelude.{◌≡◌, ◌≤◌};
 ghost use Rattle.yaml_program.specs.Conversions.{HaveYaml, IsThere, OfFiles, heading_of, names_of};
 
@@ -8,18 +8,20 @@ use crate::formats::Format;
 use crate::sending::send_all;
 use crate::sources::{Sources, read_file};
 use std::io::{ErrorKind, Write};
+use yaml_base::Quoted;
 
-/// Says that a file differs from what would be written, or is missing.
+/// Reports that a file differs from the YAML that would be written to it, or is missing.
 fn tell_difference<W: Write>(name: &str, faults: &mut Messages<W>) -> u8
     ensures { result ≡ 1 }
 {
     faults.end_line();
     let program = faults.words.name;
+    let name = Quoted(name);
     let _reported = writeln!(&mut faults.sink, "{program}: {name} would be changed");
     1
 }
 
-/// Compares a file with what would be written to it, says what went wrong or where it differs, and returns the status.
+/// Compares a file with the YAML that would be written to it, reports a difference or a failure, and returns the status.
 pub fn check<F: Format, S: Sources + AllocGlobal, W: Write>(
     sources: &S,
     conversion: &Conversion<'_, F>,

@@ -1,4 +1,4 @@
-//! Each file, converted by itself to one beside it.
+//! The conversion of each file by itself, to one beside it.
 ghost use Rattle.std.specs.Prelude.{◌≡◌, ◌≤◌, ◌++◌, IfOk, false};
 ghost use Rattle.yaml_program.specs.Conversions.{EachIsDone, IsDoneBeside, names_of};
 
@@ -10,11 +10,12 @@ use crate::program::perform;
 use crate::sources::Sources;
 use std::alloc::AllocError;
 use std::io::{IsTerminal, Write};
+use yaml_base::Quoted;
 
-/// From so many files on a line tells how far the program is.
+/// The number of files from which on a line on the terminal counts those that are done.
 const MANY: usize = 20;
 
-/// Converts a file, whose name is a stem and the format's ending, to the one beside it.
+/// Converts a file whose name is a stem and the format's ending to the file beside it.
 fn convert_stem<'a, F: Format + Copy + Drop, S: Sources + AllocGlobal, W: Write>(
     rt: &HostRuntime,
     sources: &S,
@@ -38,10 +39,10 @@ fn convert_stem<'a, F: Format + Copy + Drop, S: Sources + AllocGlobal, W: Write>
         output: None,
         files,
     };
-    Ok(perform(rt, sources, &one, Some(target.as_str()), faults))
+    Ok(perform(rt, sources, &one, target.as_str(), faults))
 }
 
-/// Converts a file to the one beside it, if its name says which.
+/// Converts a file to the file beside it, if its name has the format's ending.
 fn convert_beside<'a, F: Format + Copy + Drop, S: Sources + AllocGlobal, W: Write>(
     rt: &HostRuntime,
     sources: &S,
@@ -61,6 +62,7 @@ fn convert_beside<'a, F: Format + Copy + Drop, S: Sources + AllocGlobal, W: Writ
         None => {
             faults.end_line();
             let program = faults.words.name;
+            let name = Quoted(name);
             let _reported = writeln!(
                 &mut faults.sink,
                 "{program}: {name}: --each wants names that end in {ending}"
@@ -81,7 +83,7 @@ fn worse(first: u8, second: u8) -> u8
     if first < second { second } else { first }
 }
 
-/// Tells in the last line of a terminal how many files are done, and ends that line with the last of them.
+/// Writes to the last line of a terminal how many files are done, and ends that line after the last file.
 fn tell_progress<W: Write>(done: usize, all: usize, faults: &mut Messages<W>)
     ensures { all ≤ done → faults.new.has_open_line ≡ false }
 {
@@ -93,7 +95,7 @@ fn tell_progress<W: Write>(done: usize, all: usize, faults: &mut Messages<W>)
     }
 }
 
-/// Converts each file to the one beside it, says what went wrong, and returns the worst status.
+/// Converts each file to the file beside it, reports each failure, and returns the worst status.
 pub fn convert_each<F: Format + Copy + Drop, S: Sources + AllocGlobal, W: Write>(
     rt: &HostRuntime,
     sources: &S,

@@ -1,4 +1,4 @@
-//! The failures of a program, its words for them, and its status.
+//! The failures of a program, its messages for them, and its status.
 ghost use Rattle.std.specs.Prelude.{◌≡◌, ◌≤◌, IsOk, false};
 ghost use Rattle.yaml_program.specs.Faults as statuses;
 
@@ -6,14 +6,15 @@ use crate::sources::STREAM;
 use crate::words::Wording;
 use std::io::{ErrorKind, Write};
 use std::{fmt, io};
+use yaml_base::Quoted;
 use yaml_writer::yaml_error_t;
 
 /// The reason why a text is refused.
 #[derive(Drop)]
 pub enum Reason {
-    /// It is this.
+    /// The reason in words.
     Words(&'static str),
-    /// A second definition of this name; the first is at this line and column.
+    /// The text defines this name a second time. The first definition begins at this line and column.
     Twice {
         name: String,
         line: usize,
@@ -26,6 +27,7 @@ impl fmt::Display for Reason {
         match self {
             Reason::Words(words) => f.write_str(words),
             Reason::Twice { name, line, column } => {
+                let name = Quoted(name.as_str());
                 write!(
                     f,
                     "{name} is defined at line {line}, column {column}, and takes no more"
@@ -35,10 +37,10 @@ impl fmt::Display for Reason {
     }
 }
 
-/// The reason why files aren't written as YAML to their end.
+/// The reason why files aren't converted to their end.
 #[derive(Drop)]
 pub enum Failure {
-    /// A text is refused, at this line and column, or as a whole.
+    /// A text is refused, at this line and column, or as a whole (`None`).
     Refused {
         place: Option<(usize, usize)>,
         reason: Reason,
@@ -51,7 +53,7 @@ pub enum Failure {
     WriteFailed(io::Error),
 }
 
-/// Writes why, without the place.
+/// Writes the reason, without the place.
 impl fmt::Display for Failure {
     fn fmt<W: fmt::Write>(&self, f: &mut fmt::Formatter<W>) -> fmt::Result {
         match self {
@@ -62,20 +64,20 @@ impl fmt::Display for Failure {
     }
 }
 
-/// The failure that is reported where no memory is left.
+/// The failure that is reported if no memory is left.
 pub const NO_MEMORY: Failure = Failure::Unwritten(yaml_error_t::Memory);
 
-/// The output on which a program says what goes wrong.
+/// The output to which a program reports failures.
 #[derive(Drop)]
 pub struct Messages<W> {
     pub words: &'static Wording,
     pub sink: W,
-    /// A line that tells how far the program is stands unended.
+    /// The last line on the sink counts the files that are done, and isn't ended.
     pub(crate) has_open_line: bool,
 }
 
 impl<W: Write> Messages<W> {
-    /// Says it on this sink, on which no line has begun.
+    /// Returns messages to this sink, whose last line is ended.
     pub fn new(words: &'static Wording, sink: W) -> Self
         ensures { result.has_open_line ≡ false }
     {
@@ -86,7 +88,7 @@ impl<W: Write> Messages<W> {
         }
     }
 
-    /// Ends the line that tells how far the program is, if it stands.
+    /// Ends the line that counts the files that are done, if there is one.
     pub(crate) fn end_line(&mut self)
         ensures { self.new.has_open_line ≡ false }
     {
@@ -97,7 +99,7 @@ impl<W: Write> Messages<W> {
     }
 }
 
-/// Returns whether no memory was left.
+/// Returns whether a failure is that no memory was left.
 fn is_out_of_memory(error: &Failure) -> bool {
     match error {
         Failure::Unwritten(yaml_error_t::Memory) => true,
@@ -108,8 +110,8 @@ fn is_out_of_memory(error: &Failure) -> bool {
     }
 }
 
-/// Returns what couldn't be done with the file, where anything is to be said of it.
-fn deed_of(error: &Failure) -> &'static str {
+/// Returns the words for the operation that failed, or no words if none did.
+fn operation_of(error: &Failure) -> &'static str {
     match error {
         Failure::ReadFailed(_) => "cannot read ",
         Failure::WriteFailed(_) => "cannot write ",
@@ -117,25 +119,41 @@ fn deed_of(error: &Failure) -> &'static str {
     }
 }
 
-/// Returns the name of the file that can't be read or written, or whose text is refused.
-fn name_of<'a>(error: &Failure, name: Option<&'a str>) -> &'a str {
-    match name {
-        Some(name) if name != STREAM => name,
-        _ => match error {
-            Failure::WriteFailed(_) => "standard output",
-            _ => "standard input",
-        },
+/// A file or a stream in a message. The name of a stream has no quotes, so no file's name looks like it.
+#[derive(Clone, Copy)]
+enum Place<'a> {
+    File(Quoted<'a>),
+    Stream(&'static str),
+}
+
+impl fmt::Display for Place<'_> {
+    fn fmt<W: fmt::Write>(&self, f: &mut fmt::Formatter<W>) -> fmt::Result {
+        match self {
+            Place::File(name) => name.fmt(f),
+            Place::Stream(name) => f.write_str(name),
+        }
     }
 }
 
-/// Says in a line what went wrong, with the name of the file.
+/// Returns the file or the stream that can't be read or written, or whose text is refused.
+fn place_of<'a>(error: &Failure, name: Option<&'a str>) -> Place<'a> {
+    match name {
+        Some(name) if name != STREAM => Place::File(Quoted(name)),
+        _ => Place::Stream(match error {
+            Failure::WriteFailed(_) => "standard output",
+            _ => "standard input",
+        }),
+    }
+}
+
+/// Writes a failure as a line, with the name of the file.
 fn write_error<W: Write>(
     error: &Failure,
     name: Option<&str>,
     faults: &mut Messages<W>,
 ) -> io::Result<()> {
     faults.end_line();
-    let name = name_of(error, name);
+    let name = place_of(error, name);
     if let Failure::Refused {
         place: Some((line, column)),
         reason,
@@ -144,11 +162,11 @@ fn write_error<W: Write>(
         return writeln!(&mut faults.sink, "{name}:{line}:{column}: {reason}");
     }
     let program = faults.words.name;
-    let deed = deed_of(error);
-    writeln!(&mut faults.sink, "{program}: {deed}{name}: {error}")
+    let operation = operation_of(error);
+    writeln!(&mut faults.sink, "{program}: {operation}{name}: {error}")
 }
 
-/// Says why a program does nothing or no more, and returns the status where its arguments are at fault.
+/// Reports why the arguments are refused, and returns the status for that.
 pub fn refuse<W: Write>(why: &str, faults: &mut Messages<W>) -> u8
     ensures { result ≡ 2 }
 {
@@ -158,7 +176,7 @@ pub fn refuse<W: Write>(why: &str, faults: &mut Messages<W>) -> u8
     2
 }
 
-/// Says that no memory is left, and returns the status.
+/// Reports that no memory is left, and returns the status.
 pub fn run_out<W: Write>(faults: &mut Messages<W>) -> u8
     ensures { result ≡ 3 }
 {
@@ -166,8 +184,8 @@ pub fn run_out<W: Write>(faults: &mut Messages<W>) -> u8
     3
 }
 
-/// Says what went wrong, unless it is that nobody reads what is written, and returns the status: 1 where a text isn't written as YAML,
-/// 3 where reading, writing or memory failed.
+/// Reports a failure, unless it is that nobody reads the output, and returns the status: 1 if a text isn't written as YAML, 3 if reading,
+/// writing or memory failed.
 pub fn give_up<W: Write>(error: Failure, name: Option<&str>, faults: &mut Messages<W>) -> u8
     ensures status { result ≡ statuses.failure_status error }
     ensures some { 1 ≤ result }
@@ -186,7 +204,7 @@ pub fn give_up<W: Write>(error: Failure, name: Option<&str>, faults: &mut Messag
     }
 }
 
-/// Says what went wrong, if anything did, and returns the status.
+/// Reports the failure, if there is one, and returns the status.
 pub fn report<W: Write>(
     sent: Result<(), (Option<&str>, Failure)>,
     output: Option<&str>,

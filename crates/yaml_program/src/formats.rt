@@ -11,38 +11,38 @@ use std::io::Write;
 
 /// A format of texts, with the settings by which they are written as YAML.
 pub trait Format {
-    // The bytes are the stream of the texts of these files, by these settings.
+    // True if the bytes are the stream of the texts of these files, by these settings.
     ghost is_yaml: { Self → List (List ℕ) → List ℕ → Type 0 };
 
-    // The settings are those that the options ask for.
+    // True if the settings are those that the options ask for.
     ghost is_asked_by: { ArgMatches → Self → Type 0 };
 
-    // Whether the settings allow no deeper nesting than they can.
-    ghost is_bounded: { Self → Bool };
+    // Whether collections may nest as deep as the settings say.
+    ghost allows_depth: { Self → Bool };
 
-    // What the names of files of such texts end in.
+    // The ending of the names of files of such texts.
     ghost ending: { List ℕ };
 
-    /// Returns what the program is called that reads such texts, and what its help says.
+    /// Returns the name of the program that reads such texts, and the words of its help.
     fn words() -> &'static Wording;
 
     /// Returns the format with the settings that the options ask for.
     fn from_options(matches: &ArgMatches<'_>) -> Self
         ensures { is_asked_by matches.now result };
 
-    /// Returns what the names of files of such texts end in, as `.json`.
+    /// Returns the ending of the names of files of such texts, as `.json`.
     fn ending(&self) -> &'static str
         ensures { result.now ≡ ending };
 
-    /// Returns whether the settings allow no deeper nesting than they can.
-    fn is_bounded(&self) -> bool
-        ensures { result ≡ is_bounded self.now };
+    /// Returns whether collections may nest as deep as the settings say.
+    fn allows_depth(&self) -> bool
+        ensures { result ≡ allows_depth self.now };
 
-    /// Sends on the YAML of the texts of these files, or of standard input where there are none, as one stream.
+    /// Writes the YAML of the texts of these files as one stream. If no file is named, standard input is read.
     ///
     /// # Errors
     ///
-    /// Why it failed, with the file at which it did.
+    /// The failure, with the name of the file at which it occurred, if it was at one that is named.
     fn send_files<'a, S: Sources + AllocGlobal, W: Write>(
         &self,
         sources: &S,

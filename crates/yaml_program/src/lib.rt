@@ -1,5 +1,5 @@
-//! Programs that write files of texts as YAML, whatever the texts are: their options, the files that they read and write, their messages
-//! and statuses. A program brings its format (`Format`), how it sends one file (`SendsFile`), and what it is called (`Wording`).
+//! Programs that convert files of texts to YAML: their options, the files that they read and write, their messages and statuses. A program
+//! adds its format (`Format`), the conversion of one file (`SendsFile`), and its name and the words of its help (`Wording`).
 #![tactic(auto)]
 
 mod arguments;
@@ -22,7 +22,7 @@ pub use arguments::{CommonSettings, Conversion, common_settings_of, conversion_b
 pub use bounds::is_allowed;
 pub use faults::{Failure, Messages, NO_MEMORY, Reason};
 pub use formats::Format;
-pub use program::{run, serve};
+pub use program::{Streams, run, serve};
 pub use sources::{STREAM, Sources, read_file};
 pub use streams::{SendsFile, send_stream};
 pub use version::VERSION;

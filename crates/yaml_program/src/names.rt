@@ -4,14 +4,14 @@ ghost use Rattle.yaml_program.specs.Conversions.{IsBeside};
 
 use std::alloc::{AllocError, Global};
 
-/// Returns a name without this ending, if it has that.
+/// Returns a name without this ending, or `None` if it ends otherwise.
 pub fn stem_of<'a>(name: &'a str, ending: &str) -> Option<&'a str>
     ensures { IfSome result (λ stem. name.now ≡ stem.now ++ ending.now) }
 {
     name.strip_suffix(ending)
 }
 
-/// Returns the name of the file beside one whose name is this and an ending.
+/// Returns the name of the YAML file beside a file whose name is this stem and an ending.
 pub fn yaml_name(alloc: Global, stem: &str) -> Result<String, AllocError>
     ensures { (ending : List ℕ) → IfOk result (λ target. IsBeside ending (stem.now ++ ending) (string_bytes target)) }
 {

@@ -1,4 +1,4 @@
-//! The options of a program, and what its help says of them.
+//! The options of a program, and the words of its help.
 use crate::version::VERSION;
 use crate::words::Wording;
 use clap::builder::ValueParser;
@@ -16,17 +16,17 @@ const WIDTH_HELP: &str = "Folds texts of several words past this column [default
 
 const HEADING_HELP: &str = "Writes a text as comments before all else";
 
-/// The options without a value, each with a line of help and a longer one, of a program whose files have this ending, whose texts hold such
-/// collections, and whose help names these calls for canonical bytes.
+/// The options without a value, each with a line of help and a longer text. The arguments are the program's name, the ending of its files,
+/// the format's word for collections, and the calls that give or take canonical bytes.
 #[macro_export]
 macro_rules! flags {
     ($program:literal, $ending:literal, $collections:literal, $canonical_calls:literal) => { &[
     (
         "check",
-        "Writes nothing; status 1 where --output or --each would change a file",
+        "Writes nothing; status 1 if --output or --each would change a file",
         concat!(
-        "Writes nothing, and compares what would be written with what is there: by --output, or by --each. Where a file differs or is missing, \
-        a line names it, and the status is 1.{n}Example: ", $program, " --check --output=out.yaml in", $ending),
+        "Writes nothing, and compares what would be written by --output or by --each with what is there. If a file differs or is missing, a \
+        line names it, and the status is 1.{n}Example: ", $program, " --check --output=out.yaml in", $ending),
     ),
     (
         "flow",
@@ -44,16 +44,19 @@ macro_rules! flags {
     ),
     (
         "no-portable",
-        "Portable mode off: no --- where none is needed",
+        "Portable mode off: no --- unless one is needed",
         concat!(
-        "Leaves portable mode: no --- before the first document where none is needed, and U+2028 and U+2029 as themselves.\
+        "Turns portable mode off: no --- before the first document unless one is needed, and U+2028 and U+2029 as themselves. A root text that \
+        begins with a blank or a line break may then be a block whose header has a digit, which readers count in two ways.\
         {n}Example: ", $program, " --no-portable in", $ending),
     ),
     (
         "no-document-start",
         "No --- before the first document",
         concat!(
-        "Writes no --- before the first document. U+2028 and U+2029 are escaped as in portable mode, which this leaves.\
+        "Writes no --- before the first document, and turns portable mode off, but for one rule: U+2028 and U+2029 are escaped. A root text \
+        that begins with a blank or a line break may be a block whose header has a digit, which readers count in two ways; portable mode \
+        writes it in quotes.\
         {n}Example: ", $program, " --no-document-start in", $ending),
     ),
     (
@@ -97,7 +100,7 @@ fn option_with_value<'a>(
         .long_help(long_help)
 }
 
-/// Returns the files that are read.
+/// Returns the argument for the files that are read.
 fn files_argument<'a>(alloc: Global, words: &Wording) -> Arg<'a> {
     Arg::new(alloc, "files")
         .value_name("FILE")
@@ -106,7 +109,7 @@ fn files_argument<'a>(alloc: Global, words: &Wording) -> Arg<'a> {
         .num_args(0..)
 }
 
-/// Returns the option by which each file is written to one beside it.
+/// Returns the option by which each file is converted to one beside it.
 fn each_option<'a>(alloc: Global, words: &Wording) -> Result<Arg<'a>, AllocError> {
     let option = flag(alloc, "each", words.each, words.each_long);
     match option.conflicts_with("output") {
@@ -134,7 +137,7 @@ fn depth_option<'a>(alloc: Global, words: &Wording) -> Arg<'a> {
     option.value_parser(ValueParser::unsigned(0, 1_000_000))
 }
 
-/// An argument that has a value, or depends on what else is there.
+/// An argument that has a value, or depends on other arguments.
 enum Setting {
     Output,
     Each,
@@ -166,7 +169,7 @@ fn argument_of<'a>(
     }
 }
 
-/// Adds options that have none.
+/// Adds options without a value.
 fn push_flags<'a>(
     alloc: Global,
     flags: &[(&'static str, &'static str, &'static str)],
@@ -199,7 +202,7 @@ fn push_arguments<'a>(
     push_flags(alloc, words.own_flags, arguments)
 }
 
-/// Returns the command line of a program, whose words come without the program's name.
+/// Returns the command line of a program. Its words come without the program's name.
 pub fn command_of<'a>(alloc: Global, words: &Wording) -> Result<Command<'a>, AllocError> {
     let mut arguments = Vec::new(alloc);
     push_arguments(alloc, words, &mut arguments)?;

@@ -1,7 +1,8 @@
-//! The program: what its arguments ask for is done with files and the standard streams.
-ghost use Rattle.std.specs.Prelude.{◌≡◌, ◌≤◌, IfErr, IfOk, OnOk, false, option_map};
+//! The program: the conversion that its arguments ask for, with files and the standard streams.
+ghost use Rattle.std.specs.Prelude.{◌≡◌, ◌≤◌, IfErr, IfOk, OnOk, Some, false, option_map};
+ghost use Rattle.std.specs.Io.Buffered.{writer_contents, writer_inner};
 ghost use Rattle.clap.specs.Values.{kind_of};
-ghost use Rattle.yaml_program.specs.Conversions.{AllDone, HaveYaml, IsDone, OfFiles};
+ghost use Rattle.yaml_program.specs.Conversions.{AllDone, HaveYaml, IsDone, OfFiles, WroteToStream};
 ghost use Rattle.yaml_program.specs.Faults as statuses;
 
 use crate::arguments::{Conversion, conversion_of, read_arguments};
@@ -10,23 +11,23 @@ use crate::each::convert_each;
 use crate::faults::{Failure, Messages, give_up, refuse, report, run_out};
 use crate::formats::Format;
 use crate::output::{Beside, is_written_in_place};
-use crate::sending::send_buffered;
+use crate::sending::{BUFFER_SIZE, send_buffered, send_to_sink};
 use crate::sources::{STREAM, Sources};
 use clap::Error as UsageError;
 use clap::error::ErrorKind as UsageKind;
-use std::io::{ErrorKind, IsTerminal, Write};
+use std::io::{BufWriter, ErrorKind, IsTerminal, Write};
 use std::os::fd::AsFd;
 use std::rt::Runtime;
 use std::{fs, io};
 
-/// The message where collections can't nest as deep as is asked for. (Its number is `MOST_INDENTED`.)
+/// The message if collections can't nest as deep as the options ask for. (Its number is `MOST_INDENTED`.)
 const DEPTH_REFUSED: &str =
     "--depth past 10000 needs --flow, and neither --width nor --canonical: else the output grows with the square of the depth";
 
-/// The message where there is nothing to compare with.
+/// The message if no file to compare with is named.
 const CHECK_REFUSED: &str = "--check needs --each, or --output with a file";
 
-/// Writes what is to be converted to a file, which appears whole or not at all.
+/// Writes the YAML of a conversion to a file, which changes as a whole or not at all.
 fn send_to_file<'a, F: Format, S: Sources + AllocGlobal>(
     rt: &HostRuntime,
     sources: &S,
@@ -39,8 +40,8 @@ fn send_to_file<'a, F: Format, S: Sources + AllocGlobal>(
         Ok(made) => made,
         Err(error) => return Err((None, Failure::WriteFailed(error))),
     };
-    match send_buffered(sources, conversion, beside.file()) {
-        Ok(()) => match beside.replace(rt) {
+    match send_to_sink(sources, conversion, beside.file()) {
+        Ok(_file) => match beside.replace(rt) {
             Ok(()) => Ok(()),
             Err(error) => Err((None, Failure::WriteFailed(error))),
         },
@@ -51,32 +52,27 @@ fn send_to_file<'a, F: Format, S: Sources + AllocGlobal>(
     }
 }
 
-/// Writes what is to be converted to a file, or to standard output.
-fn send<'a, F: Format, S: Sources + AllocGlobal>(
+/// Writes the YAML of a conversion to a device or a pipe.
+fn send_to_device<'a, F: Format, S: Sources + AllocGlobal>(
     rt: &HostRuntime,
     sources: &S,
     conversion: &Conversion<'a, F>,
-    target: Option<&str>,
+    name: &str,
 ) -> Result<(), (Option<&'a str>, Failure)>
     ensures { OnOk result (OfFiles (S.bytes_of sources.now) conversion.now (HaveYaml (F.is_yaml conversion.now.format))) }
 {
-    match target {
-        Some(name) if name != STREAM => {
-            if is_written_in_place(rt, name) {
-                match fs::create(rt, name) {
-                    Ok(file) => send_buffered(sources, conversion, file),
-                    Err(error) => Err((None, Failure::WriteFailed(error))),
-                }
-            } else {
-                send_to_file(rt, sources, conversion, name)
-            }
-        }
-        _ => send_buffered(sources, conversion, io::writer(rt)),
+    let file = match fs::create(rt, name) {
+        Ok(file) => file,
+        Err(error) => return Err((None, Failure::WriteFailed(error))),
+    };
+    match send_to_sink(sources, conversion, file) {
+        Ok(_file) => Ok(()),
+        Err(stop) => Err(stop),
     }
 }
 
-/// Checks standard input where it is to be read: says on a terminal that the program waits for what is typed, and returns the system's
-/// error if it is closed. (A file that is opened before that is noticed has the number of standard input, and would be read in its place.)
+/// Checks standard input if it is to be read: on a terminal, reports that the program waits for input; if it is closed, returns the system's
+/// error. (A file that is opened before has the number of standard input then, and would be read in its place.)
 fn check_stream<F, I: IsTerminal + AsFd, W: Write>(
     conversion: &Conversion<'_, F>,
     stdin: &I,
@@ -96,48 +92,89 @@ fn check_stream<F, I: IsTerminal + AsFd, W: Write>(
     Ok(())
 }
 
-/// Writes what is to be converted to a file, or to standard output, or compares it with what is there; says what went wrong, and returns the status.
+/// Writes the YAML of a conversion to a file, or compares it with the file; reports a failure, and returns the status.
 pub fn perform<F: Format, S: Sources + AllocGlobal, W: Write>(
     rt: &HostRuntime,
     sources: &S,
     conversion: &Conversion<'_, F>,
-    target: Option<&str>,
+    name: &str,
     faults: &mut Messages<W>,
 ) -> u8
     ensures known { result ≤ 3 }
-    ensures done { result ≡ 0 → IsDone F.is_yaml (S.bytes_of sources.now) conversion.now (option_map (λ name. name.now) target.entry) }
+    ensures done { result ≡ 0 → IsDone F.is_yaml (S.bytes_of sources.now) conversion.now (Some name.now) }
 {
-    match target {
-        Some(name) if conversion.checks => check(sources, conversion, name, faults),
+    if conversion.checks {
+        return check(sources, conversion, name, faults);
+    }
+    let sent = if is_written_in_place(rt, name) {
+        send_to_device(rt, sources, conversion, name)
+    } else {
+        send_to_file(rt, sources, conversion, name)
+    };
+    report(sent, Some(name), faults)
+}
+
+/// Writes the YAML of a conversion to a file, to which it may be compared, or to standard output; reports a failure, and returns the status.
+fn convert_together<F: Format, S: Sources + AllocGlobal, O: Write + Drop, W: Write>(
+    rt: &HostRuntime,
+    sources: &S,
+    conversion: &Conversion<'_, F>,
+    stdout: &mut BufWriter<O>,
+    faults: &mut Messages<W>,
+) -> u8
+    ensures known { result ≤ 3 }
+    ensures done { result ≡ 0 → IsDone F.is_yaml (S.bytes_of sources.now) conversion.now (option_map (λ name. name.now) conversion.now.output) }
+    ensures wrote { result ≡ 0 → WroteToStream F.is_yaml (S.bytes_of sources.now) conversion.now (writer_contents O.contents stdout.old)
+        (O.contents (writer_inner stdout.new)) }
+{
+    match conversion.output {
+        Some(name) if conversion.checks || name != STREAM => {
+            perform(rt, sources, conversion, name, faults)
+        }
         _ => {
-            let sent = send(rt, sources, conversion, target);
-            report(sent, target, faults)
+            let sent = send_buffered(sources, conversion, stdout);
+            report(sent, conversion.output, faults)
         }
     }
 }
 
-/// Converts each file by itself or all together, says what went wrong, and returns the status.
-fn convert<F: Format + Copy + Drop, S: Sources + AllocGlobal, I: IsTerminal + AsFd, W: Write>(
+/// Standard input, and a buffer before standard output.
+#[derive(Drop)]
+pub struct Streams<I, O: Write + Drop> {
+    pub input: I,
+    pub output: BufWriter<O>,
+}
+
+/// Converts each file by itself, or all of them together, reports failures, and returns the status.
+fn convert<
+    F: Format + Copy + Drop,
+    S: Sources + AllocGlobal,
+    I: IsTerminal + AsFd,
+    O: Write + Drop,
+    W: Write,
+>(
     rt: &HostRuntime,
     sources: &S,
     conversion: &Conversion<'_, F>,
-    stdin: &I,
+    streams: &mut Streams<I, O>,
     faults: &mut Messages<W>,
 ) -> u8
     ensures known { result ≤ 3 }
     ensures done { result ≡ 0 → AllDone F.is_yaml F.ending (S.bytes_of sources.now) conversion.now conversion.now.each }
+    ensures wrote { result ≡ 0 → conversion.now.each ≡ false → WroteToStream F.is_yaml (S.bytes_of sources.now) conversion.now
+        (writer_contents O.contents streams.old.output) (O.contents (writer_inner streams.new.output)) }
 {
-    if let Err(error) = check_stream(conversion, stdin, faults) {
+    if let Err(error) = check_stream(conversion, &streams.input, faults) {
         return give_up(Failure::ReadFailed(error), None, faults);
     }
     if conversion.each {
         convert_each(rt, sources, conversion, faults)
     } else {
-        perform(rt, sources, conversion, conversion.output, faults)
+        convert_together(rt, sources, conversion, &mut streams.output, faults)
     }
 }
 
-/// Says why the arguments can't be read, and returns the program's status.
+/// Reports why the arguments can't be read, and returns the program's status.
 fn refuse_arguments<W: Write>(error: &io::Error, faults: &mut Messages<W>) -> u8
     ensures { result ≤ 3 }
 {
@@ -147,7 +184,7 @@ fn refuse_arguments<W: Write>(error: &io::Error, faults: &mut Messages<W>) -> u8
     refuse("an argument isn't UTF-8", faults)
 }
 
-/// Says why the arguments ask for no conversion, which may be that they ask for help, and returns the program's status.
+/// Prints the help or the version if the arguments ask for it, or reports why they aren't understood, and returns the program's status.
 fn answer<R: Runtime, W: Write>(rt: &R, error: &UsageError, faults: &mut Messages<W>) -> u8
     ensures known { result ≤ 3 }
     ensures status { statuses.IsStatusOfUsage (kind_of error.now) result }
@@ -165,48 +202,62 @@ fn answer<R: Runtime, W: Write>(rt: &R, error: &UsageError, faults: &mut Message
     }
 }
 
-/// Does what the arguments ask for, says on `faults` what went wrong, and returns the program's status.
-pub fn serve<F: Format + Copy + Drop, S: Sources + AllocGlobal, I: IsTerminal + AsFd, W: Write>(
+/// Does what the arguments ask for, reports failures on `faults`, and returns the program's status.
+pub fn serve<
+    F: Format + Copy + Drop,
+    S: Sources + AllocGlobal,
+    I: IsTerminal + AsFd,
+    O: Write + Drop,
+    W: Write,
+>(
     rt: &HostRuntime,
     sources: &S,
     asked: &Result<Conversion<'_, F>, UsageError>,
-    stdin: &I,
+    streams: &mut Streams<I, O>,
     faults: &mut Messages<W>,
 ) -> u8
     ensures known { result ≤ 3 }
+    ensures wrote { result ≡ 0 → IfOk asked.now (λ conversion. conversion.each ≡ false → WroteToStream F.is_yaml (S.bytes_of sources.now) conversion
+        (writer_contents O.contents streams.old.output) (O.contents (writer_inner streams.new.output))) }
     ensures done { result ≡ 0 → IfOk asked.now (λ conversion. AllDone F.is_yaml F.ending (S.bytes_of sources.now) conversion conversion.each) }
-    ensures bounded { IfOk asked.now (λ conversion. F.is_bounded conversion.format ≡ false → result ≡ 2) }
+    ensures bounded { IfOk asked.now (λ conversion. F.allows_depth conversion.format ≡ false → result ≡ 2) }
     ensures refused { IfErr asked.now (λ error. statuses.IsStatusOfUsage (kind_of error) result) }
 {
     match asked {
-        Ok(conversion) if !conversion.format.is_bounded() => refuse(DEPTH_REFUSED, faults),
-        // There is no file that what would be written can be compared with.
+        Ok(conversion) if !conversion.format.allows_depth() => refuse(DEPTH_REFUSED, faults),
+        // No file is named with which the YAML could be compared.
         Ok(conversion)
             if conversion.checks
                 && !conversion.each
                 && !matches!(conversion.output, Some(name) if name != STREAM) => {
             refuse(CHECK_REFUSED, faults)
         }
-        Ok(conversion) => convert(rt, sources, conversion, stdin, faults),
+        Ok(conversion) => convert(rt, sources, conversion, streams, faults),
         Err(error) => answer(rt, error, faults),
     }
 }
 
-/// Runs a program that converts texts of a format: does what its arguments ask for with files and the standard streams, says on standard
-/// error what went wrong, and returns the status, 0 where all was done. Where what went wrong can't be said, the status is the same.
+/// Runs a program that converts texts of a format: does what its arguments ask for with files and the standard streams, reports failures on
+/// standard error, and returns the status, which is 0 if all was done. If a report fails, the status is the same.
 pub fn run<F: Format + Copy + Drop>(rt: &HostRuntime) -> u8
     ensures { result ≤ 3 }
 {
-    let stdin = rt.stdin();
     let stderr = rt.stderr();
     let mut faults = Messages::new(F::words(), io::writer(&stderr));
+    let Ok(output) = BufWriter::with_capacity(rt.alloc(), BUFFER_SIZE, io::writer(rt)) else {
+        return run_out(&mut faults);
+    };
+    let mut streams = Streams {
+        input: rt.stdin(),
+        output,
+    };
     match read_arguments(rt) {
         Ok(words) => {
             let asked: Result<Conversion<'_, F>, UsageError> = conversion_of(
                 rt.alloc(),
                 words.as_slice(),
             );
-            serve(rt, rt, &asked, &stdin, &mut faults)
+            serve(rt, rt, &asked, &mut streams, &mut faults)
         }
         Err(error) => refuse_arguments(&error, &mut faults),
     }

@@ -1,7 +1,8 @@
-//! The output of files, sent on: a heading, and their YAML.
-ghost use Rattle.std.specs.Prelude.{OnOk, option_map};
+//! The output of a conversion: a heading, and the YAML of the files.
+ghost use Rattle.std.specs.Prelude.{IfOk, OnOk, option_map};
+ghost use Rattle.std.specs.Io.Buffered.{writer_contents, writer_inner};
 ghost use Rattle.std.specs.Io.KnownBytes.{Appends};
-ghost use Rattle.yaml_program.specs.Conversions.{HaveYaml, OfFiles, WroteFiles, heading_bytes, heading_of};
+ghost use Rattle.yaml_program.specs.Conversions.{OfFiles, WroteFiles, heading_bytes, heading_of};
 
 use crate::arguments::Conversion;
 use crate::faults::{Failure, NO_MEMORY};
@@ -10,10 +11,10 @@ use crate::sources::Sources;
 use std::io::{BufWriter, Write};
 use yaml_writer::comment_lines;
 
-/// The number of bytes that are written at once.
-const BUFFER_SIZE: usize = 65_536;
+/// The number of bytes that are written in one call.
+pub(crate) const BUFFER_SIZE: usize = 65_536;
 
-/// Sends on the lines of a heading, if there is one.
+/// Writes the lines of a heading, if there is one.
 fn send_heading<S: Sources + AllocGlobal, W: Write>(
     sources: &S,
     heading: Option<&str>,
@@ -33,7 +34,11 @@ fn send_heading<S: Sources + AllocGlobal, W: Write>(
     }
 }
 
-/// Sends on the heading and the YAML of all that is to be converted. Returns the file at which it failed, and why.
+/// Writes the heading and the YAML of a conversion.
+///
+/// # Errors
+///
+/// The failure, with the name of the file at which it occurred, if it was at one that is named.
 pub fn send_all<'a, F: Format, S: Sources + AllocGlobal, W: Write>(
     sources: &S,
     conversion: &Conversion<'a, F>,
@@ -52,19 +57,20 @@ pub fn send_all<'a, F: Format, S: Sources + AllocGlobal, W: Write>(
     }
 }
 
-/// Sends on all that is to be converted through a buffer, which is flushed at the end, whatever went wrong.
+/// Writes the heading and the YAML of a conversion to a buffer, which is flushed at the end, even after a failure.
+///
+/// # Errors
+///
+/// As for `send_all`.
 pub fn send_buffered<'a, F: Format, S: Sources + AllocGlobal, W: Write + Drop>(
     sources: &S,
     conversion: &Conversion<'a, F>,
-    sink: W,
+    buffer: &mut BufWriter<W>,
 ) -> Result<(), (Option<&'a str>, Failure)>
-    ensures { OnOk result (OfFiles (S.bytes_of sources.now) conversion.now (HaveYaml (F.is_yaml conversion.now.format))) }
+    ensures { OnOk result (OfFiles (S.bytes_of sources.now) conversion.now (λ files. WroteFiles (F.is_yaml conversion.now.format) (heading_of conversion.now) files
+        (writer_contents W.contents buffer.old) (W.contents (writer_inner buffer.new)))) }
 {
-    let mut buffer = match BufWriter::with_capacity(sources.alloc(), BUFFER_SIZE, sink) {
-        Ok(buffer) => buffer,
-        Err(error) => return Err((None, Failure::WriteFailed(error))),
-    };
-    let sent = send_all(sources, conversion, &mut buffer);
+    let sent = send_all(sources, conversion, buffer);
     let flushed = buffer.flush();
     if let Err(stop) = sent {
         return Err(stop);
@@ -73,4 +79,28 @@ pub fn send_buffered<'a, F: Format, S: Sources + AllocGlobal, W: Write + Drop>(
         Ok(()) => Ok(()),
         Err(error) => Err((None, Failure::WriteFailed(error))),
     }
+}
+
+/// Writes the heading and the YAML of a conversion to a sink through a buffer, and returns the sink.
+///
+/// # Errors
+///
+/// As for `send_all`.
+pub fn send_to_sink<'a, F: Format, S: Sources + AllocGlobal, W: Write + Drop>(
+    sources: &S,
+    conversion: &Conversion<'a, F>,
+    sink: W,
+) -> Result<W, (Option<&'a str>, Failure)>
+    ensures { IfOk result (λ written. OfFiles (S.bytes_of sources.now) conversion.now (λ files. WroteFiles (F.is_yaml conversion.now.format) (heading_of conversion.now)
+        files (W.contents sink) (W.contents written))) }
+{
+    let mut buffer = match BufWriter::with_capacity(sources.alloc(), BUFFER_SIZE, sink) {
+        Ok(buffer) => buffer,
+        Err(error) => return Err((None, Failure::WriteFailed(error))),
+    };
+    if let Err(stop) = send_buffered(sources, conversion, &mut buffer) {
+        return Err(stop);
+    }
+    let (written, _empty) = buffer.into_parts();
+    Ok(written)
 }

@@ -5,12 +5,12 @@ use std::fs::File;
 use std::io;
 use std::io::{Read, Stdin};
 
-/// The name that means standard input, or standard output for the file that is written.
+/// The name of standard input among the files that are read, and of standard output as the file that is written.
 pub const STREAM: &str = "-";
 
 /// A source of files, by name.
 pub trait Sources {
-    // The bytes that a name stands for, where they are known.
+    // The bytes of what has a name, if they are known.
     ghost bytes_of: { Self → List ℕ → Option (List ℕ) } = { λ _ _. None };
 
     type Reader: Read + Drop;

@@ -1,4 +1,4 @@
-//! The YAML of some files, sent on one after another as one stream.
+//! The YAML of several files, written one after another as one stream.
 ghost use Rattle.std.specs.Prelude.{◌≡◌, ℕ, List, Some, OnOk, false, map};
 ghost use Rattle.yaml_writer.specs.Writing.{awaits_node};
 ghost use Rattle.yaml_program.specs.Conversions.{AreBytesOf, OfNames};
@@ -12,14 +12,15 @@ use yaml_writer::{Settings, Writer};
 
 /// A format that gives the YAML of a file to a writer.
 pub trait SendsFile {
-    // What is sent on of a file.
+    // Relates a file and the states before and after it is sent.
     ghost sent: { Self → Sending };
 
-    /// Sends on the YAML of a file, or of standard input for its name, but for the last document, which is left to the writer.
+    /// Gives a writer the YAML of a file, or of standard input for its name, and writes to the sink all but the last document, which the
+    /// writer keeps.
     ///
     /// # Errors
     ///
-    /// Why it failed.
+    /// The failure.
     fn send_file<S: Sources + AllocGlobal, W: Write>(
         &self,
         sources: &S,
@@ -33,7 +34,7 @@ pub trait SendsFile {
             → sent self.now file writer.old (W.contents sink.old) writer.new (W.contents sink.new)) };
 }
 
-/// Begins the next document of a writer, and sends on those before it.
+/// Begins the next document of a writer, and writes those before it to the sink.
 fn begin_next<W: Write>(writer: &mut Writer<Global>, sink: &mut W) -> Result<(), Failure>
     requires { awaits_node writer.old ≡ false }
     ensures free { OnOk result (awaits_node writer.new ≡ false) }
@@ -48,8 +49,11 @@ fn begin_next<W: Write>(writer: &mut Writer<Global>, sink: &mut W) -> Result<(),
     }
 }
 
-/// Sends on the YAML of some files, each after those that were sent, but for the last document, which is left to the writer. Returns the
-/// file at which it failed, and why.
+/// Writes the YAML of these files after that of others: all but the last document, which the writer keeps.
+///
+/// # Errors
+///
+/// The failure, with the name of the file at which it occurred.
 fn send_others<'a, F: SendsFile, S: Sources + AllocGlobal, W: Write>(
     format: &F,
     sources: &S,
@@ -72,8 +76,11 @@ fn send_others<'a, F: SendsFile, S: Sources + AllocGlobal, W: Write>(
     Ok(())
 }
 
-/// Sends on the YAML of these files, or of standard input where there are none, but for the last document, which is left to the writer.
-/// Returns the file at which it failed, and why.
+/// Writes the YAML of these files, or of standard input if none is named: all but the last document, which the writer keeps.
+///
+/// # Errors
+///
+/// The failure, with the name of the file at which it occurred, if it was at one that is named.
 fn send_documents<'a, F: SendsFile, S: Sources + AllocGlobal, W: Write>(
     format: &F,
     sources: &S,
@@ -97,11 +104,11 @@ fn send_documents<'a, F: SendsFile, S: Sources + AllocGlobal, W: Write>(
     send_others(format, sources, others, writer, sink)
 }
 
-/// Sends on the YAML of these files, or of standard input where there are none, as one stream, written by these settings.
+/// Writes the YAML of these files, or of standard input if none is named, as one stream by these settings.
 ///
 /// # Errors
 ///
-/// Why it failed, with the file at which it did.
+/// The failure, with the name of the file at which it occurred, if it was at one that is named.
 pub fn send_stream<'a, F: SendsFile, S: Sources + AllocGlobal, W: Write>(
     format: &F,
     settings: Settings,

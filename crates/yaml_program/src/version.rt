@@ -1,4 +1,4 @@
-//! Which programs these are.
+//! The version of the programs.
 
-/// The project's own version, and the version of libyaml whose layout it follows.
-pub const VERSION: &str = "0.2.0 (layout of libyaml 0.2.11)";
+/// The project's own version, and the version of unsafe-libyaml whose layout it follows.
+pub const VERSION: &str = "0.2.0 (layout of unsafe-libyaml 0.2.11)";

@@ -1,7 +1,6 @@
 //! A program's name, and the words of its help.
 
-/// The words of a program: what it is called, what it reads, and what its help says of its arguments, in a line and at length. The macro
-/// `wording` makes them.
+/// The words of a program: its name, its format, and the help for its arguments, in a line and at length. The macro `wording` makes them.
 #[derive(Clone, Copy)]
 pub struct Wording {
     /// The program's name.
@@ -21,12 +20,12 @@ pub struct Wording {
     pub depth_long: &'static str,
     /// The options without a value.
     pub flags: &'static [(&'static str, &'static str, &'static str)],
-    /// Those that only this program has.
+    /// The options without a value that only this program has.
     pub own_flags: &'static [(&'static str, &'static str, &'static str)],
 }
 
-/// Makes the wording of a program by its name, its format, the ending of its files, what its texts hold, which calls give or take canonical
-/// bytes, and what only it says.
+/// Makes the wording of a program. The arguments are its name, its format, the ending of its files, the format's word for collections, the
+/// calls that give or take canonical bytes, the help for its files in a line and at length, and its own options.
 #[macro_export]
 macro_rules! wording {
     (
@@ -40,7 +39,7 @@ macro_rules! wording {
             files: $files,
             files_long: $files_long,
             output: concat!(
-                "The file to write in place of standard output. It is made or replaced once all texts are written.{n}Example: ",
+                "The file to write in place of standard output. It is made or replaced after all texts are written.{n}Example: ",
                 $program, " -o out.yaml in", $ending
             ),
             indent: concat!("Columns for each level, 2 to 9; 2 by default.{n}Example: ", $program, " --indent=4 in", $ending),
@@ -50,7 +49,7 @@ macro_rules! wording {
                 $program, " --width=80 in", $ending
             ),
             heading: concat!(
-                "Writes a text before all else, each line of it as a comment: behind # and a space.{n}Example: ",
+                "Writes a text before all else, each line of it as a comment, after # and a space.{n}Example: ",
                 $program, " --heading=Generated in", $ending
             ),
             each: concat!("Writes each FILE", $ending, " to FILE.yaml beside it"),
@@ -61,8 +60,8 @@ macro_rules! wording {
             ),
             depth: concat!("How deep ", $collections, " may nest, up to 10000 [default: 1000]"),
             depth_long: concat!(
-                "How deep ", $collections, " may nest: up to 10000, and up to 1000000 with --flow and neither --width nor --canonical, \
-                where all of a document stands in one line; 1000 by default.{n}Example: ",
+                "How deep ", $collections, " may nest: up to 10000, and up to 1000000 with --flow and neither --width nor --canonical, so \
+                that a document is one line; 1000 by default.{n}Example: ",
                 $program, " --depth=5000 deep", $ending
             ),
             flags: $crate::flags!($program, $ending, $collections, $canonical_calls),
