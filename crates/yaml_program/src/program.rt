@@ -15,6 +15,7 @@ use crate::sending::{BUFFER_SIZE, send_buffered, send_to_sink};
 use crate::sources::{STREAM, Sources};
 use clap::Error as UsageError;
 use clap::error::ErrorKind as UsageKind;
+use std::alloc::{AllocError, Global};
 use std::io::{BufWriter, ErrorKind, IsTerminal, Write};
 use std::os::fd::AsFd;
 use std::rt::Runtime;
@@ -184,8 +185,27 @@ fn refuse_arguments<W: Write>(error: &io::Error, faults: &mut Messages<W>) -> u8
     refuse("an argument isn't UTF-8", faults)
 }
 
+/// Returns the words of an error about arguments. Characters of an argument that don't print are escaped, but for line feeds.
+fn printable(alloc: Global, error: &UsageError) -> Result<String, AllocError> {
+    let mut shown = String::new(alloc);
+    for character in error.to_string(alloc)?.as_str().chars() {
+        if matches!(character, '\n' | '\'' | '"' | '\\') {
+            shown.push(character)?;
+        } else {
+            for part in character.escape_debug() {
+                shown.push(part)?;
+            }
+        }
+    }
+    Ok(shown)
+}
+
 /// Prints the help or the version if the arguments ask for it, or reports why they aren't understood, and returns the program's status.
-fn answer<R: Runtime, W: Write>(rt: &R, error: &UsageError, faults: &mut Messages<W>) -> u8
+fn answer<R: Runtime + AllocGlobal, W: Write>(
+    rt: &R,
+    error: &UsageError,
+    faults: &mut Messages<W>,
+) -> u8
     ensures known { result ≤ 3 }
     ensures status { statuses.IsStatusOfUsage (kind_of error.now) result }
 {
@@ -196,7 +216,14 @@ fn answer<R: Runtime, W: Write>(rt: &R, error: &UsageError, faults: &mut Message
             Err(error) => give_up(Failure::WriteFailed(error), None, faults),
         },
         _ => {
-            let _reported = write!(&mut faults.sink, "{error}");
+            match printable(rt.alloc(), error) {
+                Ok(words) => {
+                    let _reported = faults.sink.write_all(words.as_bytes());
+                }
+                Err(_) => {
+                    run_out(faults);
+                }
+            }
             2
         }
     }
