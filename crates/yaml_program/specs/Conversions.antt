@@ -62,17 +62,22 @@ abbrev pub WroteFiles : (IsYaml : List (List ℕ) → List ℕ → Type 0) → (
     → Option (List ℕ) → Type 0
 WroteFiles IsYaml heading files before after = (bytes : List ℕ) × Appends before after bytes × IsYamlBehind IsYaml heading files bytes
 
+-- True if the sink was given the heading's lines and the stream of the files that the conversion reads.
+abbrev pub WroteConversion : {F : Type 0} → (is_yaml : F → List (List ℕ) → List ℕ → Type 0) → (List ℕ → Option (List ℕ)) → Conversion F
+    → Option (List ℕ) → Option (List ℕ) → Type 0
+WroteConversion is_yaml bytes_of conversion before after =
+    OfFiles bytes_of conversion (λ files. WroteFiles (is_yaml conversion.format) (heading_of conversion) files before after)
+
 -- True if the conversion writes to standard output, since it names no other file.
 abbrev pub IsToStream : {F : Type 0} → Conversion F → Type 0
 IsToStream conversion =
     (option_map (λ name. name.now) conversion.output ≡ None) ⊎ (option_map (λ name. name.now) conversion.output ≡ Some (codes "-"))
 
--- True if standard output was given the heading's lines and the stream of the files that are read, if the conversion writes there.
+-- True if standard output was given the heading's lines and the stream of the files, if the conversion writes there.
 abbrev pub WroteToStream : {F : Type 0} → (is_yaml : F → List (List ℕ) → List ℕ → Type 0) → (List ℕ → Option (List ℕ)) → Conversion F
     → Option (List ℕ) → Option (List ℕ) → Type 0
 WroteToStream is_yaml bytes_of conversion before after =
-    IsToStream conversion → conversion.checks ≡ false
-    → OfFiles bytes_of conversion (λ files. WroteFiles (is_yaml conversion.format) (heading_of conversion) files before after)
+    IsToStream conversion → conversion.checks ≡ false → WroteConversion is_yaml bytes_of conversion before after
 
 -- True if these files have a stream.
 abbrev pub HaveYaml : (IsYaml : List (List ℕ) → List ℕ → Type 0) → List (List ℕ) → Type 0

@@ -2,7 +2,7 @@
 ghost use Rattle.std.specs.Prelude.{IfOk, OnOk, option_map};
 ghost use Rattle.std.specs.Io.Buffered.{writer_contents, writer_inner};
 ghost use Rattle.std.specs.Io.KnownBytes.{Appends};
-ghost use Rattle.yaml_program.specs.Conversions.{OfFiles, WroteFiles, heading_bytes, heading_of};
+ghost use Rattle.yaml_program.specs.Conversions.{WroteConversion, heading_bytes};
 
 use crate::arguments::Conversion;
 use crate::faults::{Failure, NO_MEMORY};
@@ -44,8 +44,7 @@ pub fn send_all<'a, F: Format, S: Sources + AllocGlobal, W: Write>(
     conversion: &Conversion<'a, F>,
     sink: &mut W,
 ) -> Result<(), (Option<&'a str>, Failure)>
-    ensures { OnOk result (OfFiles (S.bytes_of sources.now) conversion.now (λ files.
-        WroteFiles (F.is_yaml conversion.now.format) (heading_of conversion.now) files (W.contents sink.old) (W.contents sink.new))) }
+    ensures { OnOk result (WroteConversion F.is_yaml (S.bytes_of sources.now) conversion.now (W.contents sink.old) (W.contents sink.new)) }
 {
     if let Err(error) = send_heading(sources, conversion.heading, sink) {
         return Err((None, error));
@@ -67,8 +66,8 @@ pub fn send_buffered<'a, F: Format, S: Sources + AllocGlobal, W: Write + Drop>(
     conversion: &Conversion<'a, F>,
     buffer: &mut BufWriter<W>,
 ) -> Result<(), (Option<&'a str>, Failure)>
-    ensures { OnOk result (OfFiles (S.bytes_of sources.now) conversion.now (λ files. WroteFiles (F.is_yaml conversion.now.format) (heading_of conversion.now) files
-        (writer_contents W.contents buffer.old) (W.contents (writer_inner buffer.new)))) }
+    ensures { OnOk result (WroteConversion F.is_yaml (S.bytes_of sources.now) conversion.now (writer_contents W.contents buffer.old)
+        (W.contents (writer_inner buffer.new))) }
 {
     let sent = send_all(sources, conversion, buffer);
     let flushed = buffer.flush();
@@ -91,8 +90,7 @@ pub fn send_to_sink<'a, F: Format, S: Sources + AllocGlobal, W: Write + Drop>(
     conversion: &Conversion<'a, F>,
     sink: W,
 ) -> Result<W, (Option<&'a str>, Failure)>
-    ensures { IfOk result (λ written. OfFiles (S.bytes_of sources.now) conversion.now (λ files. WroteFiles (F.is_yaml conversion.now.format) (heading_of conversion.now)
-        files (W.contents sink) (W.contents written))) }
+    ensures { IfOk result (λ written. WroteConversion F.is_yaml (S.bytes_of sources.now) conversion.now (W.contents sink) (W.contents written)) }
 {
     let mut buffer = match BufWriter::with_capacity(sources.alloc(), BUFFER_SIZE, sink) {
         Ok(buffer) => buffer,
