@@ -1,5 +1,5 @@
-/* Writes JSON texts as the documents of a stream, each text converted once, and what is written taken after each; and a text that isn't
- * JSON, before which all stands. */
+/* Writes JSON texts as the documents of a stream. Each text is converted once, and the output is taken after each. Before a text that isn't
+ * JSON all documents are written. */
 #include <inttypes.h>
 #include <stdio.h>
 #include <stdlib.h>

@@ -1,4 +1,4 @@
-/* Keeps an emitter from call to call: events are given one by one, and what is flushed is written after each document, and once within
+/* Keeps an emitter from call to call: events are given one by one, and the flushed bytes are written after each document, and once within
  * one. */
 #include <stdio.h>
 #include <string.h>
@@ -14,7 +14,7 @@ static int give(uint32_t kind) {
     return yaml_c_emitter_emit(&emitter, &event, NULL, 0, NULL, 0, &result) == YAML_DONE;
 }
 
-/* Gives a text, which stays a text: "yes" stands in quotes, since it would be read as true without them. */
+/* Gives a text, which stays a text: "yes" is written in quotes, since it would be read as true without them. */
 static int give_text(const char *text) {
     static const char tag[] = YAML_C_STR_TAG;
     uint8_t texts[64];
@@ -27,14 +27,14 @@ static int give_text(const char *text) {
     return yaml_c_emitter_emit(&emitter, &event, NULL, 0, texts, tag_length + length, &result) == YAML_DONE;
 }
 
-/* Writes what is flushed, and how many bytes that are. */
+/* Writes the flushed bytes, and their number. */
 static int write_flushed(void) {
     uint8_t out[64];
     if (yaml_c_emitter_take_output(&emitter, out, sizeof out, &result) != YAML_DONE) return 0;
     return fwrite(out, 1, result.length, stdout) == result.length && printf(" # %zu bytes\n", result.length) > 0;
 }
 
-/* Writes what stands of a document that isn't ended. */
+/* Writes the part of a document that isn't ended. */
 static int write_so_far(void) { return yaml_c_emitter_flush(&emitter, &result) == YAML_DONE && write_flushed(); }
 
 static int give_document(const char *first, const char *second) {

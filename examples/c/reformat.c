@@ -3,9 +3,9 @@
  *
  *   reformat [--indent=COLUMNS] [--width=COLUMN] [--indented-sequences] [--portable] [--canonical] < IN > OUT
  *
- * Lost are comments and blank lines, where lines were broken, and how escapes were spelled. Kept are documents, directives, anchors,
- * tags, the order of keys, and which texts and collections stand in which style, where that style can hold them. It links with -lyaml.
- * Status: 0 done, 1 what is read is no YAML or is refused, 2 the arguments aren't understood, 3 reading, writing or memory failed.
+ * Comments, blank lines, the places of line breaks and the spelling of escapes are lost. Documents, directives, anchors, tags, the order of
+ * keys, and the style of each text and collection are kept, if that style can hold them. It links with -lyaml.
+ * Status: 0 done, 1 the input is no YAML or is refused, 2 the arguments aren't understood, 3 reading, writing or memory failed.
  */
 #include <stdio.h>
 #include <stdlib.h>
@@ -84,7 +84,7 @@ static struct yaml_c_event read_event(const yaml_event_t *event) {
     return record;
 }
 
-/* Gives an event, and writes what is flushed: at the end of each document. */
+/* Gives an event, and writes the flushed bytes, at the end of each document. */
 static void give(const yaml_event_t *event) {
     struct yaml_c_event record = read_event(event);
     int32_t status = yaml_c_emitter_emit(&emitter, &record, directives.bytes, record.directives.length, texts.bytes, texts_length, &result);
@@ -95,7 +95,7 @@ static void give(const yaml_event_t *event) {
     if (fwrite(out.bytes, 1, result.length, stdout) != result.length) stop(3, "cannot write");
 }
 
-/* Says why the parser stopped, and where: a reader's error has no place. */
+/* Prints the parser's error and its place, which a reader's error doesn't have. */
 static void stop_reading(const yaml_parser_t *parser) {
     if (parser->error == YAML_MEMORY_ERROR) stop(3, "out of memory");
     if (ferror(stdin)) stop(3, "cannot read");
@@ -104,7 +104,7 @@ static void stop_reading(const yaml_parser_t *parser) {
     stop(1, parser->problem);
 }
 
-/* A number behind `=`, or a flag. */
+/* A number after `=`, or a flag. */
 static int is_set(const char *word, const char *option, int32_t *number, uint32_t *flag) {
     size_t length = strlen(option);
     char *end = NULL;

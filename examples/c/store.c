@@ -99,7 +99,7 @@ int main(void) {
     bytes[22] ^= 1;
     entry.digest[31] ^= 1;
     opens(&entry);
-    /* What isn't canonical isn't sealed; nor is it opened under its own digest. */
+    /* Bytes that aren't canonical aren't sealed, nor opened under their own digest. */
     if (seal(padded, sizeof padded - 1, &other, &result) == YAML_DONE) return 1;
     sha256(padded, sizeof padded - 1, other.digest);
     opens(&other);

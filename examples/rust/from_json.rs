@@ -28,7 +28,7 @@ extern "C" {
     ) -> i32;
 }
 
-/// One call: its status, and what it came to.
+/// Makes a call, and returns its status and its results.
 fn from_json_into(text: &str, settings: &Settings, out: &mut [u8]) -> (i32, Report) {
     let mut report = Report::default();
     // SAFETY: the pointers and lengths are those of slices that are borrowed for the call, and `report` is written.
@@ -38,7 +38,7 @@ fn from_json_into(text: &str, settings: &Settings, out: &mut [u8]) -> (i32, Repo
     (status, report)
 }
 
-/// The YAML of a JSON text, or where its error is.
+/// Returns the YAML of a JSON text, or the place of its error.
 fn from_json(text: &str, settings: &Settings) -> Result<Vec<u8>, Report> {
     let (_, needed) = from_json_into(text, settings, &mut [0; 8]);
     let mut yaml = vec![0; needed.length];

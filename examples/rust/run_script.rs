@@ -24,7 +24,7 @@ enum RunError {
     NoMemory,
 }
 
-/// One call; `Ok(Err(needed))` where the buffer has less room than is needed.
+/// Makes a call; returns `Ok(Err(needed))` if the buffer has less room than is needed.
 fn run_into(script: &str, out: &mut [u8]) -> Result<Result<usize, usize>, RunError> {
     let mut report = Report::default();
     // SAFETY: the pointers and lengths are those of slices that are borrowed for the call, and `report` is written.

@@ -23,7 +23,7 @@ static void tell(const char *name, int32_t status, int good) {
                (unsigned long)result.line, (unsigned long)result.column);
 }
 
-/* What so many bytes are. */
+/* Checks the status and the place of so many bytes. */
 static void check_bytes(const char *name, const uint8_t *bytes, size_t length, int32_t status, uint64_t line, uint64_t column) {
     int32_t got;
     memset(&result, 0xff, sizeof result);
@@ -35,7 +35,7 @@ static void expect_check(const char *bytes, int32_t status, uint64_t line, uint6
     check_bytes(bytes, (const uint8_t *)bytes, strlen(bytes), status, line, column);
 }
 
-/* Bytes, and the line and the column of the first word that can't stand where it stands, worked out by hand. */
+/* Bytes, and the line and the column of the first word that no canonical bytes have there, worked out by hand. */
 static const struct {
     const char *bytes;
     uint64_t line, column;
@@ -122,11 +122,11 @@ static const struct {
     {"---\n!!bool \"false\"\n", 0},
     /* Each other digit. */
     {"---\n!!int \"7\"\n", 9},
-    /* Neither a first 0 nor a 0 behind a sign: in place of the sign 9 digits, behind it 8 others. */
+    /* Neither a first 0 nor a 0 after a sign: in place of the sign 9 digits, after it 8 others. */
     {"---\n!!int \"-5\"\n", 17},
     /* In place of the 1 a digit that isn't 0 and no sign, in place of the 0 each other digit. */
     {"---\n!!int \"10\"\n", 17},
-    /* 95 characters of ASCII are printable; the quote and the backslash can't stand alone. */
+    /* 95 characters of ASCII are printable; the quote and the backslash can't be alone. */
     {"---\n!!str \"a\"\n", 92},
     {"---\n!!str \"\"\n", 0},
     /* The backslash may become one of 93 characters, the letter another of 14. */
@@ -139,7 +139,7 @@ static const struct {
      "    ? !!bool \"true\"\n    : !!str \"\",\n  },\n}\n", 9},
 };
 
-/* Whether bytes are canonical. What isn't has a place. */
+/* Returns whether bytes are canonical. Bytes that aren't must have a place. */
 static int is_taken(const char *name, const uint8_t *bytes, size_t length) {
     int32_t got;
     int placed;
@@ -162,7 +162,7 @@ static int count_others(const char *name, uint8_t *bytes, size_t length, size_t 
     return count;
 }
 
-/* Bytes as they stand, each of them replaced by each other one, and cut off before each of them. */
+/* Checks bytes unchanged, with each of them replaced by each other one, and cut off before each of them. */
 static void check_spoiled(const char *text, int others) {
     static uint8_t bytes[256];
     size_t offset, length = strlen(text);
@@ -175,7 +175,7 @@ static void check_spoiled(const char *text, int others) {
     }
     if (!whole || count != others || cut) {
         failures++;
-        printf("%s: canonical: %d as it stands, %d with another byte, not %d, %d cut off\n", text, whole, count, others, cut);
+        printf("%s: canonical: %d unchanged, %d with another byte, not %d, %d cut off\n", text, whole, count, others, cut);
     }
 }
 
@@ -184,8 +184,8 @@ static void spoiled(void) {
     for (row = 0; row < sizeof taken / sizeof *taken; row++) check_spoiled(taken[row].bytes, taken[row].others);
 }
 
-/* The level of number N stands on line N + 1, behind N - 1 indentations; the last line, 2 N, has the outermost closing bracket. What is
- * read takes stack for each level when it is dropped, so few of them stand here. */
+/* The level of number N is on line N + 1, after N - 1 indentations; the last line, 2 N, has the outermost closing bracket. A value that was
+ * read takes stack for each level when it is dropped, so few levels are used here. */
 static void deep(void) {
     static const char *const begins[] = {"!!seq []", "!!map {}", "!!seq [", "!!map {"};
     static uint8_t bytes[2016064];
@@ -241,7 +241,7 @@ static const struct {
     {" 9223372036854775807\n", "---\n!!int \"9223372036854775807\"\n"},
 };
 
-/* Texts that have none, why, and where. */
+/* Texts that have none, with the status and the place. */
 static const struct {
     const char *text;
     int32_t status;
@@ -255,7 +255,7 @@ static const struct {
     {"[-0]", YAML_NOT_INTEGER, 1, 2},
     {"[\"\303\251\", -0]", YAML_NOT_INTEGER, 1, 7},
     {"[\"\303\251\", 0.5, 0.5]", YAML_NOT_INTEGER, 1, 7},
-    /* What is no JSON is refused first. */
+    /* Texts that aren't JSON are refused first. */
     {"[0.5, nul]", YAML_NOT_JSON, 1, 7},
     {"[\"\360\"]", YAML_NOT_JSON, 1, 3},
     {"{\"a\": 1, \"a\": 2}", YAML_DUPLICATE_NAME, 1, 10},

@@ -1,5 +1,5 @@
-/* Emitters that are kept from call to call: what each call returns, what it writes, and what the emitter does after an error; a line
- * for each call that isn't as written. */
+/* Emitters that are kept from call to call: the results of each call, its output, and the emitter after an error. Prints a line for each
+ * call that isn't as written here. */
 #include <stdio.h>
 #include <string.h>
 
@@ -125,7 +125,7 @@ static void refused(void) {
     give(YAML_C_SCALAR, "\xff", YAML_BAD_EVENT, 0);
     give(YAML_C_SCALAR, "two", YAML_REFUSED, YAML_EXPECTED_DOCUMENT_START);
     flush(YAML_REFUSED, YAML_EXPECTED_DOCUMENT_START);
-    take("what stands before the refused event", 128, "one\n");
+    take("the output before the refused event", 128, "one\n");
     yaml_c_emitter_delete(emitter);
 }
 
@@ -227,7 +227,7 @@ static void give_json(const char *text, int32_t status, uint32_t line, uint32_t 
     printf("%s: status %d, line %lu, column %lu\n", text, (int)got, (unsigned long)result.line, (unsigned long)result.column);
 }
 
-/* JSON within events: as a value, as an item, in canonical form, and what is no JSON. */
+/* JSON within events: as a value, as an item, in canonical form, and texts that aren't JSON. */
 static void json(void) {
     settings = yaml_c_value_settings();
     begin();

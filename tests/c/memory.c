@@ -6,7 +6,7 @@
 
 #include "yaml_c.h"
 
-/* The size of a block stands before it. */
+/* The size of a block is stored before it. */
 #define HEAD 16
 
 static size_t growths;    /* so many were asked for */
@@ -201,7 +201,7 @@ static uint64_t refuse_each(const char *name, int32_t (*call)(size_t capacity)) 
         event = result.event;
     }
     if (refused_at < 3) fail(name, "too few allocations");
-    if (status != YAML_DONE || result.length != length || memcmp(out, whole, length) != 0) fail(name, "other YAML where none is refused");
+    if (status != YAML_DONE || result.length != length || memcmp(out, whole, length) != 0) fail(name, "other YAML although none is refused");
     return event;
 }
 

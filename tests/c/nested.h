@@ -2,7 +2,7 @@
 #include <stdint.h>
 #include <string.h>
 
-/* Puts a line behind so many indentations; returns the length with it. */
+/* Puts a line after so many indentations; returns the length with it. */
 static size_t put_line(uint8_t *bytes, size_t length, size_t depth, const char *line) {
     size_t width = strlen(line);
     memset(bytes + length, ' ', 2 * depth);

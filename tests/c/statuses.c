@@ -1,5 +1,5 @@
 /* Calls of yaml_emit, one for each status and for each kind of event that has no reading, of yaml_from_json and yaml_from_toml, one for
- * each setting and status, and of these and yaml_run with NULL where there is nothing; a line for each that isn't as written. */
+ * each setting and status, and of these and yaml_run with NULL for an empty text, array or buffer. Prints a line for each that isn't as written here. */
 #include <stdio.h>
 #include <stdlib.h>
 #include <string.h>
@@ -55,7 +55,7 @@ static void begin(void) {
 
 static const char yaml[] = "%YAML 1.1\n%TAG !e! tag:e,2000:\n--- &a1 !e!city Oslo\n";
 
-/* What a call of the first `count` events and a buffer of `capacity` bytes comes to, and that the buffer past `written` stays. */
+/* Checks the results of a call with the first `count` events and a buffer of `capacity` bytes, and that the buffer past `written` stays. */
 static void expect(const char *name, size_t count, size_t capacity, int32_t status, size_t length, uint64_t event, uint32_t error,
                    const char *written) {
     size_t i, size = strlen(written);
@@ -137,7 +137,7 @@ static void bad_spans(void) {
     expect_bad_span("one byte past the arena", value, texts_len - 4, 5, 2);
     expect_bad_span("a sum that overflows", value, SIZE_MAX, SIZE_MAX, 2);
     expect_bad_span("a sum that comes to 0", value, 1, SIZE_MAX, 2);
-    expect_bad_span("nothing, behind the arena", &events[2].anchor, texts_len + 1, 0, 2);
+    expect_bad_span("nothing, after the arena", &events[2].anchor, texts_len + 1, 0, 2);
     expect_bad_span("a tag past the arena", &events[2].tag, 0, 1000, 2);
     expect_bad_span("more directives than there are", &events[1].directives, 0, COUNT(directives) + 1, 1);
     expect_bad_span("directives whose sum overflows", &events[1].directives, SIZE_MAX, SIZE_MAX, 1);
@@ -214,7 +214,7 @@ static void refused(void) {
     expect_bad("a bad event before a refusal", 1);
 }
 
-/* What a call of yaml_from_json with a buffer of `capacity` bytes comes to; nothing is reported but what stands here. */
+/* Checks the results of a call of yaml_from_json with a buffer of `capacity` bytes; nothing else is reported. */
 static void expect_json(const char *name, const char *text, struct yaml_c_json_settings given, int32_t status, uint64_t line, uint64_t column,
                         const char *written) {
     size_t i, size = strlen(written);
@@ -232,7 +232,7 @@ static void expect_json(const char *name, const char *text, struct yaml_c_json_s
            (unsigned long)result.column, (int)result.length, (const char *)out);
 }
 
-/* Seven words that fill columns 11 to 79 behind `--- aaaaaa `. */
+/* Seven words that fill columns 11 to 79 after `--- aaaaaa `. */
 #define EIGHTY "bbbbbbbbb ccccccccc ddddddddd eeeeeeeee fffffffff ggggggggg hhhhhhhhh"
 
 static void json_settings(void) {
@@ -261,7 +261,7 @@ static void json_settings(void) {
     given.width = 20;
     expect_json("a width of 20", words, given, YAML_DONE, 0, 0, "--- aaaa bbbb cccc dddd\n  eeee ffff\n");
     given.allow_duplicates = 1;
-    expect_json("a name twice, where it may be", "{\"a\":1,\"a\":2}", given, YAML_DONE, 0, 0, "---\na: 1\na: 2\n");
+    expect_json("a name twice, which is allowed", "{\"a\":1,\"a\":2}", given, YAML_DONE, 0, 0, "---\na: 1\na: 2\n");
     given.depth = 2;
     expect_json("as deep as may be", "[[1]]", given, YAML_DONE, 0, 0, "---\n- - 1\n");
 }
@@ -274,17 +274,17 @@ static void json_refused(void) {
     expect_json("a byte order mark", "\xef\xbb\xbf{}", given, YAML_NOT_JSON, 1, 1, "");
     expect_json("no UTF-8", "\"\xff\"", given, YAML_NOT_JSON, 1, 2, "");
     expect_json("half a character in the third line", "[\n1,\n \"\xc3\xa9\xc3", given, YAML_NOT_JSON, 3, 4, "");
-    expect_json("no UTF-8 in what is no JSON", "]\x80", given, YAML_NOT_JSON, 1, 2, "");
-    expect_json("no UTF-8 behind what is no JSON", "]\xf0", given, YAML_NOT_JSON, 1, 1, "");
-    expect_json("no UTF-8 behind JSON", "1 \xf0", given, YAML_NOT_JSON, 1, 3, "");
-    expect_json("no UTF-8 behind JSON and what is none", "[1] ]\xf0", given, YAML_NOT_JSON, 1, 5, "");
-    expect_json("no UTF-8 behind a name twice", "{\"a\":1,\"a\":2}\xf0", given, YAML_DUPLICATE_NAME, 1, 8, "");
+    expect_json("no UTF-8 in a text that is no JSON", "]\x80", given, YAML_NOT_JSON, 1, 2, "");
+    expect_json("no UTF-8 after a text that is no JSON", "]\xf0", given, YAML_NOT_JSON, 1, 1, "");
+    expect_json("no UTF-8 after JSON", "1 \xf0", given, YAML_NOT_JSON, 1, 3, "");
+    expect_json("no UTF-8 after JSON and a text that is none", "[1] ]\xf0", given, YAML_NOT_JSON, 1, 5, "");
+    expect_json("no UTF-8 after a name twice", "{\"a\":1,\"a\":2}\xf0", given, YAML_DUPLICATE_NAME, 1, 8, "");
     given.depth = 1;
     expect_json("too deep", "[[1]]", given, YAML_TOO_DEEP, 1, 2, "");
     expect_json("too deep in the second line", "[1,\n {}]", given, YAML_TOO_DEEP, 2, 2, "");
 }
 
-/* What a call of yaml_from_toml with a buffer of `capacity` bytes comes to, where the whole YAML has `length` bytes. */
+/* Checks the results of a call of yaml_from_toml with a buffer of `capacity` bytes, if the whole YAML has `length` bytes. */
 static void expect_toml(const char *name, const char *text, struct yaml_c_toml_settings given, size_t capacity, int32_t status, size_t length,
                         uint64_t line, uint64_t column, const char *written) {
     size_t i, size = strlen(written);
@@ -342,7 +342,7 @@ static void toml_refused(void) {
     memset(&given, 0, sizeof given);
     toml_stops("no TOML", "a = 1\nb c = 1\n", given, YAML_NOT_TOML, 2, 3);
     toml_stops("no UTF-8", "a = \"\xff\"\n", given, YAML_NOT_TOML, 1, 6);
-    toml_stops("no UTF-8 behind a character of two bytes", "a = \"\xc3\xa9\xff\"\n", given, YAML_NOT_TOML, 1, 7);
+    toml_stops("no UTF-8 after a character of two bytes", "a = \"\xc3\xa9\xff\"\n", given, YAML_NOT_TOML, 1, 7);
     toml_stops("a key twice", "a = 1\nb = 2\na = 3\n", given, YAML_DUPLICATE_NAME, 3, 1);
     toml_stops("a table twice", "[a]\nb = 1\n[a]\n", given, YAML_DUPLICATE_NAME, 3, 1);
 #define TEN_ARRAYS "[[[[[[[[[["
@@ -366,7 +366,7 @@ static int is_deep_json(size_t levels, uint8_t *text, uint8_t *brackets) {
         && result.length == 2 * levels + 5 && brackets[2 * levels + 4] == '\n';
 }
 
-/* Tables in tables, 6,400 deep, by yaml_from_toml: 80 in braces, each behind a key of 80 parts. */
+/* Tables in tables, 6,400 deep, by yaml_from_toml: 80 in braces, each after a key of 80 parts. */
 static int is_deep_toml(uint8_t *text, uint8_t *written) {
     const size_t tables = 80, parts = 80, levels = 6400, length = 5 * levels + 7;
     struct yaml_c_toml_settings given;
@@ -461,7 +461,7 @@ static void long_output(void) {
     printf("a long output: length %lu, event %lu\n", (unsigned long)result.length, (unsigned long)result.event);
 }
 
-/* How a call that is given NULL went: its status, and the length of its YAML, which stands in `out` if it is done. */
+/* Checks a call with NULL: its status, and the length of its YAML, which `out` has if it is done. */
 static void expect_null(const char *name, int32_t got, int32_t status, const char *written) {
     size_t i, length = strlen(written), size = status == YAML_DONE ? length : 0;
     int good = got == status && result.length == length && result.error == 0 && memcmp(out, written, size) == 0;

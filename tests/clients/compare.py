@@ -1,4 +1,4 @@
-"""Compares what dump.py wrote with libyaml and with the drop-in: the bytes are the same but for folded texts with a line that begins
+"""Compares the output of dump.py with libyaml and with the drop-in: the bytes are the same but for folded texts with a line that begins
 with a space, and for characters past U+FFFF, which libyaml escapes although unicode is allowed; with the drop-in each value loads back.
 
     compare.py LIBYAML DROP_IN

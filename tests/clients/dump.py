@@ -1,4 +1,4 @@
-"""Dumps random values by PyYAML over libyaml: a line of JSON for each, with what was dumped, the bytes, and whether they load back.
+"""Dumps random values by PyYAML over libyaml: a line of JSON for each, with the value, the bytes, and whether they load back.
 
     dump.py VALUES
 

@@ -6,7 +6,7 @@
 
 #include "yaml_c.h"
 
-/* After so many events what is flushed is handed on, also within a document. */
+/* After so many events the flushed bytes are handed on, even within a document. */
 #define EVENTS_HELD 1024
 
 struct block { void *bytes; size_t size; };
@@ -46,7 +46,7 @@ static int reserve(struct block *block, size_t size) {
     return bytes != NULL;
 }
 
-/* Puts a text behind those that the event has so far. */
+/* Puts a text after those that the event has so far. */
 static int add_text(struct kept *kept, struct yaml_c_span *span, const yaml_char_t *text, size_t length) {
     *span = (struct yaml_c_span){kept->texts_length, length};
     if (!reserve(&kept->texts, kept->texts_length += length)) return 0;
@@ -109,7 +109,7 @@ static int give(yaml_emitter_t *emitter, const yaml_event_t *event) {
         is_copied ? kept->texts.bytes : event->data.scalar.value, is_copied ? kept->texts_length : record.value.length, &kept->result));
 }
 
-/* Hands on what is flushed. */
+/* Hands on the flushed bytes. */
 static int hand_on(yaml_emitter_t *emitter) {
     struct kept *kept = kept_by(emitter);
     kept->held = 0;
@@ -132,7 +132,7 @@ static int open(yaml_emitter_t *emitter) {
     return kept_by(emitter)->open = is_done(emitter, yaml_c_emitter_new(&settings, &kept_by(emitter)->emitter));
 }
 
-/* After STREAM-START the fields hold what was chosen, as in libyaml. */
+/* After STREAM-START the fields hold the chosen settings, as in libyaml. */
 static void keep_chosen(yaml_emitter_t *emitter, yaml_encoding_t encoding) {
     if (!emitter->encoding) emitter->encoding = encoding ? encoding : YAML_UTF8_ENCODING;
     if (emitter->best_indent < 2 || emitter->best_indent > 9) emitter->best_indent = 2;
@@ -141,7 +141,7 @@ static void keep_chosen(yaml_emitter_t *emitter, yaml_encoding_t encoding) {
     if (!emitter->line_break) emitter->line_break = YAML_LN_BREAK;
 }
 
-/* Gives an event, and hands on what is flushed at the ends of documents and of the stream. */
+/* Gives an event, and hands on the flushed bytes at the ends of documents and of the stream. */
 int yaml_emitter_emit(yaml_emitter_t *emitter, yaml_event_t *event) {
     struct kept *kept = kept_by(emitter);
     yaml_event_type_t type = event->type;
