@@ -1,4 +1,4 @@
--- What a call of `yaml_json_value` returned is what is found of the text.
+-- A result of `yaml_json_value` is a right answer.
 use Rattle.yaml_c.proofs.Common.{ℕ, List}
 use Rattle.std.specs.Prelude.{IsUtf8}
 use Rattle.std.proofs.Common.{Err, Ok, Result, Vec, IfOk, IfErr}

@@ -1,4 +1,4 @@
--- What a call of `yaml_json` returned is a right answer.
+-- A result of `yaml_json` is a right answer.
 use Rattle.yaml_c.proofs.Common.{ℕ, Bool, List, Settings, IsAnswer, answer_of}
 use Rattle.std.specs.Prelude.{IsUtf8}
 use Rattle.std.proofs.Common.{Err, Ok, Result, Vec, inl, inr, refl, ap, sym, ◌≡◌}

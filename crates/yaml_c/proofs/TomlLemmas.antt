@@ -1,4 +1,4 @@
--- What a call of `yaml_toml` returned is a right answer.
+-- A result of `yaml_toml` is a right answer.
 use Rattle.yaml_c.proofs.Common.{ℕ, List, seen_settings}
 use Rattle.std.specs.Prelude.{IsUtf8}
 use Rattle.std.proofs.Common.{Err, Ok, Result, Vec}
@@ -6,6 +6,7 @@ use Rattle.yaml_toml.specs.{WritingCalls.ReturnsTomlYaml, declared.error.TomlErr
 use Rattle.yaml_c.specs.TomlAnswers.{IsTomlAnswer, toml_answer_of}
 
 pub right_toml : {A : Type 0} (settings : TomlSettings) (text : List ℕ) (result : Result (Vec ℕ A) TomlError) → IsUtf8 text
-    → ReturnsTomlYaml settings text result → IsTomlAnswer (seen_settings settings.writer) settings.flow text (toml_answer_of result)
-right_toml settings text (Ok bytes) utf8 returned = (utf8, returned.stream)
-right_toml settings text (Err error) utf8 returned = (utf8, returned.refused)
+    → ReturnsTomlYaml settings text result
+    → IsTomlAnswer (seen_settings settings.writer) settings.flow settings.depth text (toml_answer_of result)
+right_toml settings text (Ok bytes) utf8 returned = (utf8, returned)
+right_toml settings text (Err error) utf8 returned = (utf8, returned)

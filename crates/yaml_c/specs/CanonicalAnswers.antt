@@ -1,4 +1,4 @@
--- What the function that checks canonical bytes returns to its caller.
+-- The results of the function that checks canonical bytes.
 use Rattle.std.specs.Prelude.{◌≡◌, ◌≢◌, ◌⊎◌, ℕ, ℤ, pos, List, Option, None, Some}
 use Rattle.yaml_base.specs.Encoding.{encode}
 use Rattle.yaml_base.specs.Settings.{utf8}
@@ -11,16 +11,17 @@ use Rattle.yaml_read.specs.declared.errors.ReadError.TheVariants as errors
 use Rattle.yaml_c.specs.Answers.{at_place, nothing_reported}
 use Rattle.yaml_c.specs.declared.results.CallResult.{CallResult}
 
--- what `read_canonical` promises: without an error the bytes are those of a value; with one, unless memory ran out, they are those
--- of no value that can be read, and the error has the place of the first word that can't stand there
+-- True of bytes and of the error of `read_canonical`, if any. Without an error the bytes are those of a value. With one they are the bytes
+-- of no value that can be read, unless memory ran out, and the error has its place: that of the first byte that isn't UTF-8, or else of the
+-- first word that no canonical bytes have there.
 abbrev pub IsReading : (bytes : List ℕ) → Option ReadError → Type 0
 IsReading bytes None = (value : TypedValue) × WritesValue value bytes
 IsReading bytes (Some error) =
     ((error ≡ errors.Memory) ⊎ ((value : TypedValue) → CanBeRead value → encode (Some utf8) (document_text value) ≢ bytes))
     × IsPlaced bytes error
 
--- what is returned: 0 without an error; 10 where the bytes aren't canonical, and 6 where lists and maps nest too deep, both with the
--- place; 3 where memory ran out
+-- True if the status and the report are those of the error: 0 without one; 10 if the bytes aren't canonical, and 6 if lists and maps nest
+-- too deep, both with the place; 3 if memory ran out.
 abbrev pub IsTold : Option ReadError → (status : ℤ) → CallResult → Type 0
 IsTold None status report = (status ≡ pos 0) × (report ≡ nothing_reported)
 IsTold (Some (errors.NotCanonical line column)) status report = (status ≡ pos 10) × (report ≡ at_place line column)
@@ -28,6 +29,6 @@ IsTold (Some (errors.TooDeep line column)) status report = (status ≡ pos 6) ×
 IsTold (Some errors.NotNumbered) status report = ⊥
 IsTold (Some errors.Memory) status report = (status ≡ pos 3) × (report ≡ nothing_reported)
 
--- these results are those of a check of the bytes
+-- True if these results are those of a check of the bytes.
 abbrev pub IsCheck : (bytes : List ℕ) → (status : ℤ) → CallResult → Type 0
 IsCheck bytes status report = (answer : Option ReadError) × IsReading bytes answer × IsTold answer status report

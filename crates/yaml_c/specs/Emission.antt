@@ -1,4 +1,4 @@
--- What the function over events returns to its caller.
+-- The results of the function over events.
 use Rattle.std.specs.Prelude.{◌≡◌, ◌⊎◌, ⊤, ◌<◌, ℕ, ℤ, Option, None, Some, List, ◌++◌, length}
 use Rattle.yaml_base.specs.Settings.{Settings}
 use Rattle.yaml_base.specs.scripts.Script.{Numbered}
@@ -18,7 +18,7 @@ use Rattle.yaml_c.specs.declared.settings.EmitterSettings.{EmitterSettings}
 use Rattle.yaml_c.specs.declared.events.Emission.{Emission}
 use Rattle.yaml_c.specs.declared.events.Emission.TheVariants.{Done, Refused, BadEvent, NoRoom, NoMemory}
 
--- ---- the emitter that an array's events were given, as far as they have a reading
+-- ---- the emitter that was given an array's events, up to the first that has no reading
 
 -- each record of the array has a reading
 abbrev pub HasAllRead : List Numbered → List EventRecord → Type 0
@@ -41,7 +41,7 @@ pub record StopsForRoom (given : Settings) (all : List Numbered) (records : List
   pub stands : StandsAfter given (events_in earlier) state
   pub no_error : state.error ≡ None
 
--- what an answer says of the emitter; of the last flush only where all was given
+-- True of the emitter after an answer. The last flush matters only if all events were given.
 abbrev pub EmitsRecords : Settings → List Numbered → List EventRecord → Emission → State → Type 0
 EmitsRecords given all records Done state = HasAllRead all records × EmitsScript given all state
 EmitsRecords given all records (Refused number error) state =
@@ -50,15 +50,15 @@ EmitsRecords given all records (BadEvent number) state = StopsAtBad given all re
 EmitsRecords given all records (NoRoom number) state = StopsForRoom given all records number state
 EmitsRecords given all records NoMemory state = ⊤
 
--- what the last flush does, given the number of its call
+-- The effect of the last flush, by the number of its call.
 abbrev pub FlushesAfter : ℕ → State → Emission → State → Type 0
 FlushesAfter number before Done after = FlushesLast number before run.Done after
 FlushesAfter number before (Refused report error) after = FlushesLast number before (run.Refused report error) after
 FlushesAfter number before emission after = ⊥
 
--- ---- what is returned
+-- ---- the results
 
--- the numbers of the errors: enum yaml_error of the header
+-- The numbers of the errors: enum yaml_error of the header.
 abbrev pub error_number : yaml_error_t → ℕ
 error_number errors.ExpectedStreamStart = 1
 error_number errors.ExpectedDocumentStart = 2
@@ -82,12 +82,12 @@ error_number errors.TooDeep = 19
 error_number errors.WriteError = 20
 error_number errors.Memory = 21
 
--- an event's number, and why it was refused
+-- An event's number, and the reason why it was refused.
 abbrev pub at_event : (event error : ℕ) → CallResult
 at_event event error = record nothing_reported { event = event; error = error }
 
--- what is returned of an emission: 0 where it is done, 4 where its YAML doesn't fit; 1 where an event was refused, 8 where one has
--- no reading, 3 where memory ran out, with the event that it was needed for
+-- The results of an emission: 0 if it is done, 4 if its YAML doesn't fit, 1 if an event was refused, 8 if one has no reading, 3 if memory
+-- ran out, with the event that needed it.
 abbrev pub emit_results : Emission → (yaml : List ℕ) → (skip : ℕ) → (out : List ℕ) → CallResults
 emit_results Done yaml skip out = results_done yaml skip out
 emit_results (Refused number errors.Memory) yaml skip out = results_failed 3 (at_event number (error_number errors.Memory)) out
@@ -96,7 +96,7 @@ emit_results (BadEvent number) yaml skip out = results_failed 8 (at_event number
 emit_results (NoRoom number) yaml skip out = results_failed 3 (at_event number (error_number errors.Memory)) out
 emit_results NoMemory yaml skip out = results_failed 3 nothing_reported out
 
--- these results are those of an emitter with these settings that was given the array's events, 9 where there are no such settings
+-- True if these results are those of an emitter with these settings that was given the array's events; 9 if no emitter has such settings.
 abbrev pub IsEmissionBy : Option Settings → (all : List Numbered) → (records : List EventRecord) → (skip : ℕ) → (old : List ℕ) → (status : ℤ)
     → (new : List ℕ) → CallResult → Type 0
 IsEmissionBy None all records skip old status new report = CopiesToCaller (results_failed 9 nothing_reported old) status new report
@@ -104,7 +104,7 @@ IsEmissionBy (Some given) all records skip old status new report =
     (emission : Emission) × (state : State) × EmitsRecords given all records emission state
     × CopiesToCaller (emit_results emission state.page.output skip old) status new report
 
--- these results are those of the array's events, by the settings that are given
+-- True if these results are those of the array's events, by the settings that are given.
 abbrev pub IsEmission : List EventRecord → List DirectiveRecord → (arena : List ℕ) → EmitterSettings → (old : List ℕ) → (status : ℤ)
     → (new : List ℕ) → CallResult → Type 0
 IsEmission records directives arena given old status new report =

@@ -1,4 +1,4 @@
--- What an array of a C program's events means: a list of events, by libyaml's numbers, with the texts of an arena.
+-- The meaning of an array of a C program's events: a list of events, by libyaml's numbers, with the texts of an arena.
 use Rattle.std.specs.Prelude.{ℕ, suc, Bool, true, false, Option, None, Some, List, [], ◌∷◌, ◌==◌, if◌then◌else◌, option_map, option_and_then}
 use Rattle.yaml_base.specs.Characters.{Text}
 use Rattle.yaml_base.specs.Settings.{Encoding, utf8, utf16_little, utf16_big, LineBreak, carriage_return_break, line_feed_break, both_break}
@@ -47,7 +47,7 @@ break_numbered number =
 
 -- ---- directives
 
--- a directive, where both its texts have a reading
+-- A directive, if both its texts have a reading.
 abbrev pub directive_from : Option Text → Option Text → Option TagDirective
 directive_from (Some handle) (Some prefix) = Some (record { handle = handle; prefix = prefix })
 directive_from handle prefix = None
@@ -55,7 +55,7 @@ directive_from handle prefix = None
 abbrev pub directive_recorded : List ℕ → DirectiveRecord → Option TagDirective
 directive_recorded arena directive = directive_from (text_in_arena arena directive.handle) (text_in_arena arena directive.prefix)
 
--- directives in order, where each has a reading
+-- Directives in order, if each has a reading.
 abbrev pub directives_recorded : List ℕ → List DirectiveRecord → Option (List TagDirective)
 directives_recorded arena [] = Some []
 directives_recorded arena (first ∷ rest) =
@@ -65,7 +65,7 @@ directives_recorded arena (first ∷ rest) =
 abbrev pub directives_at : List ℕ → List DirectiveRecord → Span → Option (List TagDirective)
 directives_at arena directives span = option_and_then (directives_recorded arena) (part_of directives span)
 
--- the version, where the event has one
+-- The version, if the event has one.
 abbrev pub version_recorded : EventRecord → Option Version
 version_recorded event = if event.has_version == 0 then None else Some (record { major = event.major; minor = event.minor })
 
@@ -84,12 +84,12 @@ document_start_recorded arena directives event =
 abbrev pub alias_recorded : List ℕ → EventRecord → Option Event
 alias_recorded arena event = option_map alias (text_in_arena arena event.anchor)
 
--- a scalar, with the flags and the style that keep its tag where that is asked for
+-- A scalar, with the flags and the style that keep its tag if that is asked for.
 abbrev pub typed_where : (typed : Bool) → Scalar → Scalar
 typed_where true content = typed_scalar content
 typed_where false content = content
 
--- a scalar, where its style and its texts have a reading
+-- A scalar, if its style and its texts have a reading.
 abbrev pub scalar_with_texts : Option ScalarStyle → (plain_implicit quoted_implicit typed : Bool) → Option (Option Text) → Option (Option Text) → Option Text
     → Option Event
 scalar_with_texts (Some style) plain_implicit quoted_implicit typed (Some anchor) (Some tag) (Some value) =
@@ -111,7 +111,7 @@ scalar_recorded arena event =
     scalar_with_texts (scalar_style_numbered event.style) (is_on event.implicit) (is_on event.quoted_implicit) (is_on event.typed)
     (optional_text_at arena event.has_anchor event.anchor) (optional_text_at arena event.has_tag event.tag) (text_in_arena arena event.value)
 
--- the start of a collection, where its style and its texts have a reading
+-- The start of a collection, if its style and its texts have a reading.
 abbrev pub collection_from : Option CollectionStyle → (implicit : Bool) → Option (Option Text) → Option (Option Text) → Option Collection
 collection_from (Some style) implicit (Some anchor) (Some tag) =
     Some (record { anchor = anchor; tag = tag; implicit = implicit; style = style })
@@ -122,7 +122,7 @@ collection_recorded arena event =
     collection_from (collection_style_numbered event.style) (is_on event.implicit) (optional_text_at arena event.has_anchor event.anchor)
     (optional_text_at arena event.has_tag event.tag)
 
--- the event of a kind of yaml_event_type_t; none for another kind, or where the style or a text has no reading
+-- The event of a kind of yaml_event_type_t; `None` for another kind, or if the style or a text has no reading.
 abbrev pub event_recorded : List ℕ → List DirectiveRecord → EventRecord → Option Event
 event_recorded arena directives event =
     if event.kind == 1 then stream_start_recorded event

@@ -1,15 +1,15 @@
--- What the settings of a C program come to for an emitter.
+-- The settings of an emitter that a C program's settings ask for.
 use Rattle.std.specs.Prelude.{ℕ, Option, None, Some, ◌==◌, if◌then◌else◌}
 use Rattle.yaml_base.specs.Settings.{Settings, Encoding, LineBreak, largest_usize}
 use Rattle.yaml_c.specs.Arena.{is_on}
 use Rattle.yaml_c.specs.EventRecords.{encoding_numbered, break_numbered}
 use Rattle.yaml_c.specs.declared.settings.EmitterSettings.{EmitterSettings}
 
--- a limit of 0 is none
+-- The limit; 0 is none.
 abbrev pub limit_given : ℕ → ℕ
 limit_given limit = if limit == 0 then largest_usize else limit
 
--- the settings, where encoding and line break have a reading
+-- The settings, if encoding and line break have a reading.
 abbrev pub settings_from : EmitterSettings → Option (Option Encoding) → Option (Option LineBreak) → Option Settings
 settings_from given (Some encoding) (Some line_break) =
     Some

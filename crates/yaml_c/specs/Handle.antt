@@ -1,4 +1,4 @@
--- What a handle owns: nothing, or an emitter in a block of the C library's heap.
+-- The memory that a handle owns: none, or an emitter in a block of the C library's heap.
 use Rattle.std.specs.Prelude.{Option, None, Some}
 use base.Fml.{Fml, ftrue}
 use base.Stored.{Coded}
@@ -14,7 +14,7 @@ use Rattle.yaml_emitter.specs.contracts.emitter.yaml_emitter_t as emitter
 abbrev pub emitter_row : RattleType
 emitter_row = emitter.the_row global.the_row ghosts
 
--- that a block of the heap may be freed; the allocator has no state
+-- The permission to free a block of the heap. The allocator has no state.
 abbrev pub block_token : Ty → Ptr → Fml
 block_token = ghosts.dealloc_token (record { memory = record { seal = tt } })
 

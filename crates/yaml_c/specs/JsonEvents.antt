@@ -1,4 +1,4 @@
--- What a call returns that gives an emitter the events of a JSON text, and what it leaves of the emitter.
+-- The results of a call that gives an emitter the events of a JSON text, and the emitter after it.
 use Rattle.std.specs.Prelude.{◌≡◌, ◌⊎◌, ℕ, ℤ, pos, Bool, None, Some, List, [], Result, Ok, Err, IsUtf8}
 use Rattle.std.specs.Str.{IsValidUpTo}
 use Rattle.json.specs.Json.{Json, value}
@@ -20,7 +20,7 @@ use Rattle.yaml_c.specs.Answers.{at_place, nothing_reported}
 use Rattle.yaml_c.specs.Kept.{report_of, error_status}
 use Rattle.yaml_c.specs.declared.results.CallResult.{CallResult}
 
--- the text is JSON nested at most `depth` deep, with each name once where that is asked for, and its events were given
+-- True if the text is JSON nested at most `depth` deep, with each name once in its object if that is asked for, and its events were given.
 pub record GaveText (depth : ℕ) (unique in_flow : Bool) (text : List ℕ) (before after : State) : Type 0 where
   pub utf8 : IsUtf8 text
   pub json : Json
@@ -30,7 +30,7 @@ pub record GaveText (depth : ℕ) (unique in_flow : Bool) (text : List ℕ) (bef
   pub grows : Grows before.page after.page
   pub no_error : after.error ≡ None
 
--- the events of the text's first tokens were given, and no more, for this reason
+-- True if the events of the text's first tokens were given, and no more, for this reason.
 pub record StoppedInText (depth : ℕ) (unique in_flow : Bool) (text : List ℕ) (before : State) (error : JsonError) (after : State) : Type 0 where
   pub utf8 : IsUtf8 text
   pub stops : StopsInText depth unique in_flow text (writer_over before) error (writer_over after)
@@ -38,25 +38,25 @@ pub record StoppedInText (depth : ℕ) (unique in_flow : Bool) (text : List ℕ)
   pub grows : Grows before.page after.page
   pub place : HasPlace depth text error
 
--- the text isn't UTF-8: this is the place of the first byte that isn't
+-- True if the text isn't UTF-8, and the error has the place of the first byte that isn't.
 pub record IsNoUtf8 (text : List ℕ) (error : JsonError) : Type 0 where
   pub refused : IsUtf8 text → ⊥
   pub offset : ℕ
   pub valid : IsValidUpTo text offset
   pub place : error ≡ errors.NotJson (line_of text offset) (column_of text offset) Utf8
 
--- nothing was given, since the text isn't UTF-8, or memory ran out
+-- True if nothing was given, since the text isn't UTF-8 or memory ran out.
 abbrev pub GaveNothing : List ℕ → State → JsonError → State → Type 0
 GaveNothing text before error after = (after ≡ before) × ((error ≡ errors.Emitter Memory) ⊎ IsNoUtf8 text error)
 
--- what became of a text
+-- True if the text was given with this result.
 abbrev pub GaveJson : (depth : ℕ) → (unique in_flow : Bool) → List ℕ → Result (Unit {0}) JsonError → State → State → Type 0
 GaveJson depth unique in_flow text (Ok done) before after = GaveText depth unique in_flow text before after
 GaveJson depth unique in_flow text (Err error) before after =
     GaveNothing text before error after ⊎ StoppedInText depth unique in_flow text before error after
 
--- 0 where it was given; 5 where it isn't JSON, 6 where it nests too deep, 7 where an object gives a name twice; 3 and 1 by the emitter's
--- error
+-- True if the status and the report are those of the result: 0 for a text that was given, 5 if it isn't JSON, 6 if it nests too deep, 7 if an
+-- object gives a name twice; 3 or 1 by the emitter's error.
 abbrev pub TellsJson : Result (Unit {0}) JsonError → (status : ℤ) → CallResult → Type 0
 TellsJson (Ok done) status report = (status ≡ pos 0) × (report ≡ nothing_reported)
 TellsJson (Err (errors.NotJson line column says)) status report = (status ≡ pos 5) × (report ≡ at_place line column)

@@ -1,4 +1,4 @@
--- What the calls over an emitter return that a C program keeps, and what they leave of it.
+-- The results of the calls over an emitter that a C program keeps, and the emitter after them.
 use Rattle.std.specs.Prelude.{◌≡◌, ℕ, ℤ, pos, true, Option, None, Some, IsSome, List, [], ◌∷◌, ◌++◌, length, nat_le, if◌then◌else◌}
 use Rattle.yaml_base.specs.Event.{Event}
 use Rattle.yaml_base.specs.Ready.{written}
@@ -15,17 +15,17 @@ use Rattle.yaml_c.specs.Emission.{error_number}
 use Rattle.yaml_c.specs.Giving.{MayCopy}
 use Rattle.yaml_c.specs.declared.results.CallResult.{CallResult}
 
--- a call was made over an open emitter, which stays open
+-- True if a call was made over an open emitter, which stays open.
 abbrev pub Changes : (State → State → Type 0) → Option State → Option State → Type 0
 Changes relation (Some before) (Some after) = (after.has_output ≡ true) × relation before after
 Changes relation before after = ⊥
 
--- an emitter is open, and its output is set
+-- True if an emitter is open and its output is set.
 abbrev pub IsOpenEmitter : Option State → Type 0
 IsOpenEmitter None = ⊥
 IsOpenEmitter (Some state) = state.has_output ≡ true
 
--- ---- what is returned
+-- ---- the results
 
 abbrev pub error_status : Option yaml_error_t → ℤ
 error_status None = pos 0
@@ -36,13 +36,13 @@ abbrev pub report_of : Option yaml_error_t → CallResult
 report_of None = nothing_reported
 report_of (Some error) = record nothing_reported { error = error_number error }
 
--- a call tells the emitter's first error
+-- True if the status and the report are those of the emitter's error.
 abbrev pub TellsError : Option yaml_error_t → (status : ℤ) → CallResult → Type 0
 TellsError error status report = (status ≡ error_status error) × (report ≡ report_of error)
 
 -- ---- the calls
 
--- a new emitter with these settings: no event was given, nothing is written
+-- True of a new emitter with these settings: no event was given, and nothing is written.
 pub record IsNew (given : Settings) (state : State) : Type 0 where
   pub stands : StandsAfter given [] state
   pub has_output : state.has_output ≡ true
@@ -50,13 +50,13 @@ pub record IsNew (given : Settings) (state : State) : Type 0 where
   pub nothing : state.page.output ≡ []
   pub untaken : state.page.taken ≡ 0
 
--- an emitter is made, or memory ran out; or there are no such settings
+-- True if an emitter is made, or memory ran out, or no emitter has such settings.
 abbrev pub MakesEmitter : Option Settings → (status : ℤ) → Option State → Type 0
 MakesEmitter None status made = (status ≡ pos 9) × (made ≡ None)
 MakesEmitter (Some given) status (Some state) = (status ≡ pos 0) × IsNew given state
 MakesEmitter (Some given) status None = status ≡ pos 3
 
--- an emitter was given an event
+-- True if an emitter was given an event.
 pub record TakesEvent (event : Event) (before after : State) : Type 0 where
   pub stands : (given : Settings) (all : List Event) → StandsAfter given all before → StandsAfter given (all ++ event ∷ []) after
   pub promised : (given : Settings) (all : List Event) → StandsAfter given all before → Promised given (all ++ event ∷ []) after
@@ -66,14 +66,14 @@ pub record TakesEvent (event : Event) (before after : State) : Type 0 where
   pub kept : IsSome before.error → after ≡ record before { started = true }
   pub set : KeepsSet (record before { started = true }) after
 
--- an emitter was given the event of a record; or nothing changed, since the record has no reading, or memory for its texts ran out
+-- True if an emitter was given the event of a record, or nothing changed, since the record has no reading or memory for its texts ran out.
 pub data GivesRecord (read : Option Event) (status : ℤ) (report : CallResult) (before after : State) : Type 0 where
   gives : (event : Event) → read ≡ Some event → TakesEvent event before after → TellsError after.error status report
       → GivesRecord read status report before after
   unreadable : read ≡ None → status ≡ pos 8 → report ≡ nothing_reported → after ≡ before → GivesRecord read status report before after
   no_memory : status ≡ pos 3 → report ≡ nothing_reported → after ≡ before → MayCopy read before → GivesRecord read status report before after
 
--- an emitter was flushed; where the output can't grow it stays as it was, and where all is flushed already nothing changes
+-- True if an emitter was flushed. If the output can't grow, it stays as it was; if all is flushed already, nothing changes.
 pub record Flushes (status : ℤ) (report : CallResult) (before after : State) : Type 0 where
   pub tells : TellsError after.error status report
   pub stands : (given : Settings) (all : List Event) → StandsAfter given all before → StandsAfter given all after
@@ -85,7 +85,7 @@ pub record Flushes (status : ℤ) (report : CallResult) (before after : State) :
   pub kept : IsSome before.error → after ≡ before
   pub set : KeepsSet before after
 
--- the flushed bytes not yet taken are copied to the caller's buffer, and taken if they fit
+-- True if the flushed bytes that weren't taken are copied to the caller's buffer and taken, if they fit.
 pub record TakesOutput (old : List ℕ) (status : ℤ) (new : List ℕ) (report : CallResult) (before after : State) : Type 0 where
   pub copied : CopiesToCaller (results_done (output_left before.page) 0 old) status new report
   pub left : after ≡ (if nat_le (length (output_left before.page)) (length old) then with_all_taken before else before)

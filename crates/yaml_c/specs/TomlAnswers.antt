@@ -1,12 +1,10 @@
--- What the function over TOML returns to its caller.
-use Rattle.std.specs.Prelude.{◌≡◌, ℕ, ℤ, Bool, List, None, Result, Ok, Err, Vec, IsUtf8}
+-- The results of the function over TOML.
+use Rattle.std.specs.Prelude.{◌≡◌, ℕ, ℤ, Bool, List, Result, Ok, Err, Vec, IsUtf8}
 use Rattle.std.specs.Str.{IsValidUpTo}
-use Rattle.toml_ordered.specs.Grammar.{ordered_document}
 use Rattle.yaml_base.specs.Settings.{Settings}
 use Rattle.yaml_base.specs.declared.errors.yaml_error_t.TheVariants as emitter_errors
 use Rattle.yaml_base.specs.values.LinesAndColumns.{column_of, line_of}
-use Rattle.yaml_toml.specs.Means.{IsYamlOfToml}
-use Rattle.yaml_toml.specs.Walk.{DeniesToml}
+use Rattle.yaml_toml.specs.WritingCalls.{HasNoTomlYaml, HasTomlYaml}
 use Rattle.yaml_toml.specs.declared.error.TomlError.{TomlError}
 use Rattle.yaml_toml.specs.declared.error.TomlError.TheVariants as errors
 use Rattle.yaml_c.specs.Answers.{CallResults, CopiesToCaller, at_place, nothing_reported, results_done, results_failed}
@@ -16,7 +14,7 @@ use Rattle.yaml_c.specs.declared.json_texts.JsonOptions.{JsonOptions}
 use Rattle.yaml_c.specs.declared.results.CallResult.{CallResult}
 use Rattle.yaml_c.specs.declared.toml_texts.TomlOptions.{TomlOptions}
 
--- the options of the same meaning for JSON
+-- The options of the same meaning for JSON.
 abbrev pub as_json : TomlOptions → JsonOptions
 as_json given =
     record {
@@ -33,13 +31,13 @@ as_json given =
 abbrev pub toml_writer_given : TomlOptions → Settings
 toml_writer_given given = json.writer_given (as_json given)
 
--- the YAML of a text; that it isn't UTF-8, from this place on; or why the text is refused
+-- An answer: the YAML of a text; the place at which the text stops to be UTF-8; or the error of a text that is refused.
 pub data TomlAnswer : Type 0 where
   has_yaml : (yaml : List ℕ) → TomlAnswer
   is_no_text : (line column : ℕ) → TomlAnswer
   fails : TomlError → TomlAnswer
 
--- the text isn't UTF-8; its longest prefix that is ends at this place
+-- True if the text isn't UTF-8, and its longest prefix that is ends at this place.
 pub record IsNoText (text : List ℕ) (line column : ℕ) : Type 0 where
   pub refused : IsUtf8 text → ⊥
   pub at : ℕ
@@ -47,19 +45,19 @@ pub record IsNoText (text : List ℕ) (line column : ℕ) : Type 0 where
   pub line_is : line ≡ line_of text at
   pub column_is : column ≡ column_of text at
 
--- what `yaml_toml` promises of a text's YAML, or of an error, where the text is UTF-8
-abbrev pub IsTomlAnswer : Settings → (in_flow : Bool) → (text : List ℕ) → TomlAnswer → Type 0
-IsTomlAnswer given in_flow text (has_yaml yaml) = IsUtf8 text × IsYamlOfToml given in_flow text yaml
-IsTomlAnswer given in_flow text (is_no_text line column) = IsNoText text line column
-IsTomlAnswer given in_flow text (fails error) = IsUtf8 text × (DeniesToml error → ordered_document text ≡ None)
+-- True if the answer is right for the text. If the text is UTF-8, the YAML and the error are those that `yaml_toml` promises.
+abbrev pub IsTomlAnswer : Settings → (in_flow : Bool) → (depth : ℕ) → (text : List ℕ) → TomlAnswer → Type 0
+IsTomlAnswer given in_flow depth text (has_yaml yaml) = IsUtf8 text × HasTomlYaml given in_flow depth text yaml
+IsTomlAnswer given in_flow depth text (is_no_text line column) = IsNoText text line column
+IsTomlAnswer given in_flow depth text (fails error) = IsUtf8 text × HasNoTomlYaml given in_flow depth text error
 
--- the answer of a call
+-- The answer of a call.
 abbrev pub toml_answer_of : {A : Type 0} → Result (Vec ℕ A) TomlError → TomlAnswer
 toml_answer_of (Ok yaml) = has_yaml yaml.items
 toml_answer_of (Err error) = fails error
 
--- what is returned: 0 where it is the YAML, 4 where that doesn't fit; 11 where the text isn't TOML, 7 where it defines a key that
--- takes no more, 6 where it nests too deep, 3 where memory ran out
+-- The results of an answer: 0 for YAML, or 4 if it doesn't fit; 11 if the text isn't TOML, 7 if it defines a key that takes no more, 6 if it
+-- nests too deep, 3 if memory ran out.
 abbrev pub toml_error_results : TomlError → (out : List ℕ) → CallResults
 toml_error_results (errors.NotToml line column) out = results_failed 11 (at_place line column) out
 toml_error_results (errors.DefinedAgain key first_line first_column line column) out = results_failed 7 (at_place line column) out
@@ -73,7 +71,8 @@ toml_results (has_yaml yaml) out = results_done yaml 0 out
 toml_results (is_no_text line column) out = results_failed 11 (at_place line column) out
 toml_results (fails error) out = toml_error_results error out
 
--- these results are those of an answer that is right for the text by these options
+-- True if these results are those of an answer that is right for the text by these options.
 abbrev pub IsTomlRun : TomlOptions → (text old : List ℕ) → (status : ℤ) → (new : List ℕ) → CallResult → Type 0
 IsTomlRun given text old status new report =
-    (answer : TomlAnswer) × IsTomlAnswer (toml_writer_given given) (is_on given.flow) text answer × CopiesToCaller (toml_results answer old) status new report
+    (answer : TomlAnswer) × IsTomlAnswer (toml_writer_given given) (is_on given.flow) (json.depth_given given.depth) text answer
+    × CopiesToCaller (toml_results answer old) status new report

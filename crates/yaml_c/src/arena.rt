@@ -1,4 +1,4 @@
-//! The texts of a C program's events, which stand in one array of bytes, the arena.
+//! The texts of a C program's events. One array of bytes, the arena, has all of them.
 ghost use Rattle.std.specs.Prelude.{◌≡◌, IfOk, option_map};
 ghost use Rattle.std.specs.Str.{chars};
 ghost use Rattle.yaml_base.specs.Seen.{seen_text};
@@ -15,7 +15,7 @@ pub struct Span {
     pub length: usize,
 }
 
-/// Returns the bytes of a span, where it lies within the arena.
+/// Returns the bytes of a span, or `None` if it passes the end of the arena.
 fn bytes_at<'a>(arena: &'a [u8], span: &Span) -> Option<&'a [u8]>
     ensures { option_map (λ bytes. bytes.now) result ≡ part_of arena.now span.now }
 {
@@ -25,7 +25,7 @@ fn bytes_at<'a>(arena: &'a [u8], span: &Span) -> Option<&'a [u8]>
     Some(&arena[span.start..span.start + span.length])
 }
 
-/// Returns bytes as a text, where they are UTF-8.
+/// Returns bytes as a text, or `None` if they aren't UTF-8.
 #[tactic(auto, using(crate::proofs::Utf8::text_of_utf8, crate::proofs::Utf8::no_text))]
 fn text_of(bytes: &[u8]) -> Option<&str>
     ensures { option_map (λ text. chars text.now) result ≡ utf8_text bytes.now }
@@ -36,14 +36,14 @@ fn text_of(bytes: &[u8]) -> Option<&str>
     }
 }
 
-/// Returns the text of a span, where it lies within the arena and is UTF-8.
+/// Returns the text of a span, or `None` if it passes the end of the arena or isn't UTF-8.
 pub(crate) fn borrowed_text<'a>(arena: &'a [u8], span: &Span) -> Option<&'a str>
     ensures { option_map (λ text. chars text.now) result ≡ text_in_arena arena.now span.now }
 {
     text_of(bytes_at(arena, span)?)
 }
 
-/// Returns a text, or none where `has` is 0; nothing where there is to be one and its span has no text.
+/// Returns the text of a span, or `Some(None)` if `has` is 0. Returns `None` if `has` isn't 0 and the span has no text.
 pub(crate) fn optional_borrowed_text<'a>(
     arena: &'a [u8],
     has: u32,
@@ -57,7 +57,7 @@ pub(crate) fn optional_borrowed_text<'a>(
     Some(Some(borrowed_text(arena, span)?))
 }
 
-/// Returns a copy of the text of a span, where the span lies within the arena and is UTF-8.
+/// Returns a copy of the text of a span, or `None` if it passes the end of the arena or isn't UTF-8.
 pub(crate) fn owned_text<A: Allocator>(
     alloc: A,
     arena: &[u8],
@@ -71,7 +71,7 @@ pub(crate) fn owned_text<A: Allocator>(
     }
 }
 
-/// Returns a copied text, or none where `has` is 0; nothing where there is to be one and its span has no text.
+/// Returns a copy of the text of a span, or `Some(None)` if `has` is 0. Returns `None` if `has` isn't 0 and the span has no text.
 pub(crate) fn optional_text<A: Allocator>(
     alloc: A,
     arena: &[u8],

@@ -1,4 +1,4 @@
-//! Canonical bytes of typed values, checked.
+//! The check of canonical bytes of typed values.
 ghost use Rattle.yaml_c.specs.CanonicalAnswers.{IsCheck};
 
 use crate::results::CallResult;

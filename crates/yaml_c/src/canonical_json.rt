@@ -30,7 +30,7 @@ pub extern "C" fn yaml_canonical_from_json(
     move_canonical(canonical_from_json(alloc, content), out, report)
 }
 
-/// Returns the bytes, or why there are none.
+/// Moves the bytes to the caller's buffer, or reports the error, and returns the status.
 fn move_canonical(
     answer: Result<Vec<u8>, ValueError>,
     out: &mut [u8],

@@ -1,4 +1,4 @@
-//! Events of a C program, emitted from memory to memory.
+//! Events of a C program as YAML, from memory to memory.
 ghost use Rattle.std.specs.Prelude.{◌≡◌, [], None, true};
 ghost use Rattle.yaml_base.specs.Settings as given;
 ghost use Rattle.yaml_emitter.specs.StandsAfter.{StandsAfter};
@@ -20,15 +20,15 @@ use yaml_emitter::{
 /// The outcome of emitting the events of an array.
 #[derive(Clone, Copy)]
 enum Emission {
-    /// All of them, and the output is flushed.
+    /// All events were emitted, and the output is flushed.
     Done,
-    /// The call that was given the event of this number returned an error, or the flush after the last.
+    /// The call with the event of this number returned an error, or the flush after the last event did.
     Refused(u64, yaml_error_t),
     /// The event of this number has no reading.
     BadEvent(u64),
-    /// There was no memory to copy the texts of the event of this number.
+    /// No memory was left to copy the texts of the event of this number.
     NoRoom(u64),
-    /// There was no memory for an emitter.
+    /// No memory was left for an emitter.
     NoMemory,
 }
 
@@ -66,7 +66,7 @@ fn emit_records<A: Allocator + Copy>(
     }
 }
 
-/// Flushes after the event of this number, which an error reports.
+/// Flushes after the event of this number, with which an error is reported.
 fn flush_after<A: Allocator + Copy>(emitter: &mut yaml_emitter_t<A>, number: u64) -> Emission
     requires output { emitter.old.has_output ≡ true }
     requires no_error { emitter.old.error ≡ None }
@@ -85,7 +85,7 @@ pub(crate) fn number_of(error: yaml_error_t) -> u32
     error as u32 + 1
 }
 
-/// Returns how an emission ended, and of its output what the caller doesn't have.
+/// Reports how an emission ended, moves the output that the caller doesn't have to its buffer, and returns the status.
 fn move_emission<A: Allocator>(
     emission: Emission,
     yaml: Vec<u8, A>,

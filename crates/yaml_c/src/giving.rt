@@ -11,7 +11,7 @@ use yaml_emitter::{ScalarAnswer, yaml_emitter_emit, yaml_emitter_emit_scalar, ya
 /// The outcome of giving a record to an emitter.
 #[derive(Clone, Copy)]
 pub(crate) enum Giving {
-    /// The emitter took its event, and returned this.
+    /// The emitter took the event and returned this.
     Emitted(Result<(), yaml_error_t>),
     /// The record has no reading: nothing changed.
     Unreadable,

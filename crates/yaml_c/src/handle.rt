@@ -52,7 +52,7 @@ impl EmitterHandle {
         }
     }
 
-    /// Takes the emitter out.
+    /// Takes the emitter out of the handle.
     pub(crate) fn take(&mut self, alloc: Global) -> Box<Emitter>
         requires { is_some self.old.state ≡ true }
         ensures emitter { Some result.value ≡ self.old.state }
@@ -63,7 +63,7 @@ impl EmitterHandle {
             .into_box(alloc)
     }
 
-    /// Puts an emitter in. One that is there is forgotten.
+    /// Puts an emitter into the handle. An emitter that is there is forgotten.
     pub(crate) fn put(&mut self, emitter: Box<Emitter>)
         ensures { self.new.state ≡ Some emitter.value }
     {

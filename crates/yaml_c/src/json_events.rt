@@ -1,4 +1,4 @@
-//! JSON texts whose events are given to an emitter that a C program keeps.
+//! JSON texts as events for an emitter that a C program keeps.
 ghost use Rattle.std.specs.Prelude.{◌≡◌, true};
 ghost use Rattle.yaml_c.specs.JsonAnswers.{depth_given};
 ghost use Rattle.yaml_c.specs.Arena.{is_off, is_on};
@@ -60,7 +60,7 @@ fn give_bytes<A: Allocator + Copy>(
     }
 }
 
-/// Gives an emitter the events of a JSON text. While that is done, another emitter stands in its place.
+/// Gives an emitter the events of a JSON text. Meanwhile a writer owns the emitter, and another emitter is in its place.
 fn give_text<A: Allocator + Copy>(
     alloc: A,
     emitter: &mut yaml_emitter_t<A>,

@@ -6,7 +6,7 @@ ghost use Rattle.yaml_c.specs.Handle.{block_token};
 use std::alloc::Global;
 use std::marker::Model;
 
-/// A value of the heap, and its block.
+/// A pointer to a value on the heap, which owns the value's block.
 pub(crate) struct RawBox<T> {
     pub(crate) address: *mut T,
     pub(crate) ghost value: { T },

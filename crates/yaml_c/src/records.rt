@@ -14,7 +14,7 @@ use yaml_base::{yaml_event_t, yaml_tag_directive_t, yaml_version_directive_t};
 use yaml_emitter::ScalarContent;
 use yaml_writer::typed_content;
 
-/// A `%TAG` directive: its handle, and the prefix that it stands for.
+/// A `%TAG` directive: a handle, and the prefix that it abbreviates.
 #[repr(C)]
 #[derive(Clone, Copy)]
 pub struct DirectiveRecord {
@@ -51,7 +51,7 @@ pub(crate) enum GivenEvent<'a, A: Allocator> {
     Scalar(ScalarContent<'a>),
 }
 
-/// The event of a record, or none where it has no reading; or memory ran out.
+/// The event of a record, or `None` if it has no reading; an error if memory ran out.
 type EventOrNone<'a, A> = Result<Option<GivenEvent<'a, A>>, AllocError>;
 
 fn directive_of<A: Allocator + Copy>(
@@ -88,7 +88,7 @@ fn directives_of<A: Allocator + Copy>(
     Ok(Some(all))
 }
 
-/// Returns the directives of a span, where it lies within the array.
+/// Returns the directives of a span, or `None` if it passes the end of the array.
 fn part_of<'a>(directives: &'a [DirectiveRecord], span: &Span) -> Option<&'a [DirectiveRecord]>
     ensures { option_map (λ part. part.now) result ≡ texts.part_of directives.now span.now }
 {
@@ -162,7 +162,7 @@ fn alias_of<'a, A: Allocator>(alloc: A, arena: &[u8], event: &EventRecord) -> Ev
     }
 }
 
-/// Returns a scalar with the flags that keep its tag, or as it is, as a flag asks for it.
+/// Returns a scalar with the flags that keep its tag if `typed` is on, and unchanged if it isn't.
 fn typed_where(typed: u32, content: ScalarContent<'_>) -> ScalarContent<'_>
     ensures { seen_scalar result ≡ meaning.typed_where (texts.is_on typed) (seen_scalar content.entry) }
 {
@@ -173,7 +173,7 @@ fn typed_where(typed: u32, content: ScalarContent<'_>) -> ScalarContent<'_>
     }
 }
 
-/// Returns a scalar, its texts borrowed from the arena.
+/// Returns a scalar whose texts are borrowed from the arena.
 fn scalar_of<'a, A: Allocator>(arena: &'a [u8], event: &EventRecord) -> Option<GivenEvent<'a, A>>
     ensures { option_map given_event result ≡ meaning.scalar_recorded arena.now event.now }
 {
@@ -200,7 +200,7 @@ fn scalar_of<'a, A: Allocator>(arena: &'a [u8], event: &EventRecord) -> Option<G
     Some(GivenEvent::Scalar(typed_where(event.typed, content)))
 }
 
-/// Returns the anchor and the tag of a collection, or none where one of them has no reading.
+/// Returns the anchor and the tag of a collection, or `None` if one of them has no reading.
 fn names_of<A: Allocator + Copy>(
     alloc: A,
     arena: &[u8],
@@ -268,7 +268,7 @@ fn mapping_of<'a, A: Allocator + Copy>(
     }
 }
 
-/// Returns the event of a record; none where its kind, its style or one of its texts has no reading.
+/// Returns the event of a record, or `None` if its kind, its style or one of its texts has no reading.
 pub(crate) fn event_of<'a, A: Allocator + Copy>(
     alloc: A,
     arena: &'a [u8],

@@ -7,7 +7,8 @@ ghost use Rattle.yaml_c.specs.GivenSettings.{limit_given, settings_given};
 use crate::styles::{encoding, line_break};
 use yaml_emitter::{Quotes, Settings};
 
-/// The settings of an emitter, and how many bytes of its output the caller has. Zeros are what a new emitter has. See the header.
+/// The settings of an emitter, and the number of bytes of its output that the caller has. Zeros are the settings of a new emitter. See
+/// the header.
 #[repr(C)]
 #[derive(Clone, Copy)]
 pub struct EmitterSettings {
@@ -26,7 +27,7 @@ pub struct EmitterSettings {
     pub skip: usize,
 }
 
-/// Returns double quotes where they are asked for.
+/// Returns double quotes if the flag is on, and single ones if it isn't.
 pub(crate) fn quotes_from(double_quotes: u32) -> Quotes
     ensures { is_double result ≡ is_on double_quotes }
 {
@@ -43,7 +44,7 @@ fn limit_from(limit: usize) -> usize
     if limit == 0 { usize::MAX } else { limit }
 }
 
-/// Returns the settings, where encoding and line break have numbers of libyaml's.
+/// Returns the settings, or `None` if the encoding or the line break has no number of libyaml's.
 pub(crate) fn settings_from(given: &EmitterSettings) -> Option<Settings>
     ensures { option_map seen_settings result ≡ settings_given given.now }
 {

@@ -3,6 +3,7 @@ ghost use Rattle.std.specs.Prelude.{◌≡◌};
 ghost use Rattle.yaml_emitter.specs.Given.{seen_settings};
 ghost use Rattle.yaml_c.specs.Answers.{CopiesToCaller};
 ghost use Rattle.yaml_c.specs.Arena.{is_on};
+ghost use Rattle.yaml_c.specs.JsonAnswers.{depth_given};
 ghost use Rattle.yaml_c.specs.TomlAnswers.{IsTomlRun, toml_answer_of, as_json, toml_results, toml_writer_given};
 
 use crate::json_texts::{JsonOptions, json_settings_from};
@@ -45,6 +46,7 @@ fn as_json_options(given: &TomlOptions) -> JsonOptions
 fn toml_settings_from(given: &TomlOptions) -> TomlSettings
     ensures writer { seen_settings result.writer ≡ toml_writer_given given.now }
     ensures flow { result.flow ≡ is_on given.now.flow }
+    ensures depth { result.depth ≡ depth_given given.now.depth }
 {
     let settings = json_settings_from(&as_json_options(given));
     TomlSettings {
@@ -81,7 +83,7 @@ pub extern "C" fn yaml_from_toml(
     )
 }
 
-/// Returns the YAML, or why there is none.
+/// Moves the YAML to the caller's buffer, or reports the error, and returns the status.
 fn move_toml(answer: Result<Vec<u8>, TomlError>, out: &mut [u8], report: &mut CallResult) -> i32
     ensures { CopiesToCaller (toml_results (toml_answer_of answer) out.old) result out.new report.new }
 {

@@ -1,4 +1,4 @@
--- Worked rows: what arrays of events and an arena mean.
+-- Worked rows: the meaning of arrays of events and an arena.
 use Rattle.yaml_c.proofs.Common.{ℕ, None, Some, pos, false, true, List, [], ◌∷◌, refl, ◌≡◌, event_recorded, events_from}
 use Rattle.yaml_base.proofs.Common.{codes, literal, plain, flow, stream_start, stream_end, document_start, alias, scalar, sequence_start, utf8}
 use Rattle.std.specs.{Char.encode_utf8, Str.chars, Str.is_utf8}
@@ -119,7 +119,7 @@ is_literal :
 unfolding chars is_utf8 encode_utf8
 is_literal = refl
 
--- a scalar that keeps its tag: "!x" is no tag that "ab" has where it stands plain
+-- a scalar that keeps its tag: "ab" as a plain scalar doesn't have the tag "!x"
 is_typed :
     event_recorded arena directives (record (event 6 1) { typed = 1 })
     ≡ Some

@@ -6,7 +6,7 @@ use Rattle.yaml_c.specs.EventRecords.{collection_recorded, directives_at, versio
 use Rattle.yaml_c.specs.Giving.{is_read_scalar}
 use Rattle.yaml_c.proofs.records.event_of.Goals as goal
 
--- memory may run out where no scalar is read
+-- Memory may run out if no scalar is read.
 no_scalar : {T E X : Type 0} (made : Result T E) (event : X → Event) → ((x : X) → is_read_scalar (Some (event x)) ≡ false) → (read : Option X)
     → IfErr made (λ error. is_read_scalar (option_map event read) ≡ false)
 no_scalar (Ok made) event other read = tt

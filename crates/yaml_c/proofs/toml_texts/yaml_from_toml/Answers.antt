@@ -3,6 +3,7 @@ use Rattle.yaml_c.proofs.TomlLemmas.{right_toml}
 use Rattle.std.specs.Prelude.{IsUtf8}
 use Rattle.std.proofs.Common.{ap}
 use Rattle.yaml_c.specs.{Answers.CopiesToCaller, Answers.results_failed, Arena.is_on, declared.results.CallResult.CallResult}
+use Rattle.yaml_c.specs.JsonAnswers.{depth_given}
 use Rattle.yaml_c.specs.TomlAnswers.{TomlAnswer, IsTomlAnswer, toml_answer_of, is_no_text, toml_results}
 use Rattle.yaml_c.proofs.toml_texts.yaml_from_toml.Goals as goal
 
@@ -16,11 +17,13 @@ returns c =
     let fits : to_z w32 (of_z w32 c.move_toml.result) ≡ c.move_toml.result = search rules in
     let text = c.args.text.now in
     let writer : Settings = seen_settings s.writer in
+    let depth = depth_given given.depth in
     let right = right_toml s c.in-Ok.content.now c.yaml_from_toml.result (subst IsUtf8 (sym same) c.in-Ok.ensures.cases.1) c.yaml_from_toml.ensures in (
       answer,
-      subst (λ (x : Settings). IsTomlAnswer x (is_on given.flow) text answer) by.writer
-          (subst (λ (x : Bool). IsTomlAnswer writer x text answer) by.flow
-          (subst (λ (x : List ℕ). IsTomlAnswer writer s.flow x answer) same right)),
+      subst (λ (x : Settings). IsTomlAnswer x (is_on given.flow) depth text answer) by.writer
+          (subst (λ (x : Bool). IsTomlAnswer writer x depth text answer) by.flow
+          (subst (λ (x : ℕ). IsTomlAnswer writer s.flow x text answer) by.depth
+          (subst (λ (x : List ℕ). IsTomlAnswer writer s.flow s.depth x answer) same right))),
       subst (λ (status : ℤ). CopiesToCaller (toml_results answer c.args.out.now) status c.move_toml.new.out c.move_toml.new.report) (sym fits)
           c.move_toml.ensures,
     )
