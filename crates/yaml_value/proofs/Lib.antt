@@ -2,8 +2,9 @@ pub mod Common
 pub mod AcceptedLemmas
 pub mod ContentLemmas
 pub mod SeenLevels
-pub mod CountLemmas
+pub mod WeightLemmas
 pub mod EventLemmas
 pub mod WalkLemmas
+pub mod CountLemmas
 pub mod WritingLemmas
 pub mod TextLemmas

@@ -39,7 +39,7 @@ and_false : (a : Bool) → (a && false) ≡ false
 and_false true = refl
 and_false false = refl
 
--- a node leaves the cursor neither behind white space nor in indentation
+-- a node leaves the cursor neither after white space nor in indentation
 abbrev cursor_at : ℕ → Cursor
 cursor_at column = record { column = column; whitespace = false; indention = false }
 
@@ -125,11 +125,11 @@ spelled_mapping = record {
 abbrev tagged : (tag value : Text) → Scalar
 tagged tag value = record { anchor = None; tag = Some tag; value = value; plain_implicit = false; quoted_implicit = false; style = any_style }
 
--- what stands before a node at its place
+-- the text before a node at its place
 abbrev lead : Place → Standing → Rendered
 lead place standing = render_place s place false standing.cursor
 
--- a node's text behind that
+-- a node's text after that
 abbrev led : Rendered → Text → Text
 led before text = before.text ++ (space_if true before.cursor ++ text)
 
@@ -237,7 +237,7 @@ no_pairs_either : (pairs : TypedPairs) → has_no_pairs (value_pairs pairs) ≡ 
 no_pairs_either no_value_pairs = refl
 no_pairs_either (value_pairs_and pairs key value) = refl
 
--- what stands before an entry, behind a node
+-- the text before an entry, after a node
 item_lead : (first : Bool) (column at open_ended : ℕ) (text : Text)
     → led (lead (entry_place true (as_item first) column) (standing_at at open_ended)) text ≡ entry_lead (codes "[") first ++ (line_at column ++ text)
 item_lead true column at open_ended text = refl
@@ -253,7 +253,7 @@ value_lead : (column at open_ended : ℕ) (text : Text)
     → led (lead (entry_place true (as_value false) column) (standing_at at open_ended)) text ≡ line_at column ++ (codes ": " ++ text)
 value_lead column at open_ended text = simp append_assoc
 
--- a scalar at its place, where no key is simple
+-- a scalar at its place, if no key is simple
 scalar_at : (tag kind value : Text) → Spelled tag kind → (spot : Spot) (standing : Standing)
     → Writes (led (lead (place_of spot) standing) (scalar_text kind value)) standing.open_ended
     (render_node (scalar_node (tagged tag value)) s force (place_of spot) standing)
@@ -263,7 +263,7 @@ scalar_at tag kind value spelled spot standing =
     (one_piece (scalar_piece s force (place_of spot) simple (tagged tag value) standing)))
     (sym (and_false (is_key (place_of spot).role))) (scalar_writes tag kind value spelled (place_of spot) standing)
 
--- pieces behind pieces
+-- pieces after pieces
 writes_then : {open_ended : ℕ} {a b : Text} (first : RenderedPieces) (next : Standing → RenderedPieces) → (before : Writes a open_ended first)
     → Writes b open_ended (next (standing_at before.column open_ended)) → Writes (a ++ b) open_ended (then_pieces first next)
 writes_then {open_ended} {a} {b} first next before after =
@@ -393,7 +393,7 @@ layout_is value =
     (more_text node.pieces (end.piece ∷ []) (last.piece ∷ []) ∙ ap (λ t. t ++ (text_of (end.piece ∷ []) ++ text_of (last.piece ∷ []))) root.is
     ∙ ap (λ t. value_text 0 value ++ t) ends)
 
--- LF stands for itself
+-- LF is written as itself
 breaks_same : (text : Text) → with_breaks_written line_feed_break text ≡ text
 breaks_same [] = refl
 breaks_same (c ∷ rest) = by (c == line_feed) refl (breaks_same rest)

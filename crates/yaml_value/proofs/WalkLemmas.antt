@@ -4,11 +4,11 @@ use Rattle.yaml_value.proofs.Common.{nat_tests, node_events, nodes_events, pairs
 use Rattle.yaml_value.proofs.Common.{list_value, TypedPairs, map_value, no_values, values_and, no_value_pairs, value_pairs_and, values_count, value_pairs_count}
 use Rattle.yaml_value.proofs.Common.{nesting, values_nesting, value_pairs_nesting, Has64Bits, Have64Bits, PairsHave64Bits, value_node, value_nodes, value_pairs}
 use Rattle.yaml_value.proofs.Common.{values_of, pairs_of, seen_value, seen_values, ◌<◌, subst, map-append, seen_pairs}
-use Rattle.yaml_base.proofs.Common.{append-nil, length-append, Option, false}
+use Rattle.yaml_base.proofs.Common.{append-nil, length-append, None, Option, Some, false}
 use Rattle.yaml_base.specs.Event.{sequence_end, mapping_end}
 use Rattle.yaml_base.specs.values.TypedValues.{value_count}
 use Rattle.yaml_value.specs.{declared.value.Value.Value, declared.walk.Rest.Rest}
-use Rattle.yaml_value.specs.Walk.{items_in, values_in, count_all, count_left, Left, seen_flat, seen_rest, entered, stepped, first_event_of, HasOwn64Bits}
+use Rattle.yaml_value.specs.Walk.{items_in, values_in, count_all, count_left, Left, seen_flat, seen_rest, entered, split, stepped, stepped_by, first_event_of, HasOwn64Bits}
 use Rattle.yaml_value.specs.Walk.{step_event, StepHas64Bits}
 
 -- ---- what lies in a value
@@ -101,6 +101,28 @@ work_fewer outer (value ∷ values) end =
     let inside = count_entered value in
     let one = entered_one value in
     omega (arith, counts, lengths, counts_after, lengths_after, inside, one)
+
+-- the number of values that a step enters
+abbrev pub counted_by : Option TypedValue → ℕ
+counted_by None = 0
+counted_by (Some value) = 1
+
+counts_by : (outer : List Left) (values : List TypedValue) (end : Event)
+    → counted_by (after_step outer values end).0 + count_left (after_step outer values end).1 ≡ count_left (with_left outer values end)
+counts_by outer [] end = let before = count_left-append outer (record { values = []; end = end } ∷ []) in omega (arith, before)
+counts_by outer (value ∷ values) end =
+    let before = count_left-append outer (record { values = value ∷ values; end = end } ∷ []) in
+    let after = count_left-append outer (record { values = values; end = end } ∷ entered value) in
+    let inside = count_entered value in
+    omega (arith, before, after, inside)
+
+-- a step counts the value that it enters
+pub step_counts : (levels outer : List Left) (left : Left) (next : Option TypedValue) (after : List Left) → levels ≡ outer ++ left ∷ []
+    → (next, after) ≡ stepped outer left → counted_by next + count_left after ≡ count_left levels
+step_counts levels outer left next after is so =
+    subst (λ levels. counted_by next + count_left after ≡ count_left levels) (sym is)
+    (subst (λ (made : Option TypedValue × List Left). counted_by made.0 + count_left made.1 ≡ count_left (outer ++ left ∷ [])) (sym so)
+    (counts_by outer left.values left.end))
 
 -- ---- events
 
@@ -278,12 +300,23 @@ step_smaller levels outer left after is so =
     subst (λ levels. work after < work levels) (sym is)
     (subst (λ after. work after < work (outer ++ left ∷ [])) (sym so) (work_fewer outer left.values left.end))
 
+-- a step leaves the others of a level, and the values in its first value
+pub step_is : (outer pushed : List Left) (left rest : Left) (value : TypedValue) (after : List Left) → pushed ≡ outer ++ rest ∷ []
+    → Some (value, rest) ≡ split left → after ≡ pushed ++ entered value → (Some value, after) ≡ stepped outer left
+step_is outer pushed left rest value after put is so =
+    ap (λ (levels : List Left). (Some value, levels))
+    (so ∙ ap (λ levels. levels ++ entered value) put ∙ append_assoc outer (rest ∷ []) (entered value))
+    ∙ ap (λ (parts : Option (TypedValue × Left)). stepped_by outer parts) is
+
+pub step_ends : (outer : List Left) (left : Left) → None ≡ split left → (None, outer) ≡ stepped outer left
+step_ends outer left is = ap (λ (parts : Option (TypedValue × Left)). stepped_by outer parts) is
+
 -- some events were pushed after those before, and what is left has the others of a value
 pub record Stands (before now : List Event) (value : TypedValue) (levels : List Left) : Type 0 where
   pub events : now ++ events_left levels ≡ before ++ node_events (value_node value)
   pub bits : BitsLeft levels → Has64Bits value
 
--- where a value was just entered
+-- a value was just entered
 pub stands_first : (before now : List Event) (value : TypedValue) (levels : List Left) → levels ≡ entered value → now ≡ before ++ first_event_of value ∷ []
     → HasOwn64Bits value → Stands before now value levels
 stands_first before now value levels is pushed own = record {
@@ -294,7 +327,7 @@ stands_first before now value levels is pushed own = record {
   bits = λ bits. bits_entered value own (subst BitsLeft is bits);
 }
 
--- behind a step
+-- after a step
 pub stands_stepped : (before now grown : List Event) (value : TypedValue) (levels outer : List Left) (left : Left) (next : Option TypedValue)
     (after : List Left)
     → levels ≡ outer ++ left ∷ [] → (next, after) ≡ stepped outer left → grown ≡ now ++ step_event left.end next ∷ [] → StepHas64Bits next
@@ -315,7 +348,7 @@ pub step_fits : (levels outer : List Left) (left : Left) (most : ℕ) → levels
 step_fits levels outer left most is room =
     fits_by outer left.values left.end most room ∙ ap (λ levels. nat_le (deepest_left levels) most) (sym is)
 
--- where a step passes the depth, the value does
+-- if a step passes the depth, the value does
 pub step_exceeds : (levels outer : List Left) (left : Left) (most : ℕ) → levels ≡ outer ++ left ∷ [] → length outer < most
     → most < length (stepped outer left).1 → nat_le (deepest_left levels) most ≡ false
 step_exceeds levels outer left most is room passes =

@@ -1,4 +1,4 @@
--- What it comes to that the events of a value are emitted.
+-- The result of emitting the events of a value.
 use Rattle.yaml_value.proofs.Common.{ℕ, ◌<◌, ◌≤◌, IfErr, OnOk, Result, nat_le, length, false, true, List, [], ◌++◌, ◌∷◌, ◌⊎◌, refl, ◌≡◌, append_assoc, inr}
 use Rattle.yaml_value.proofs.Common.{ap, subst, sym, ◌∙◌, arith, nat_tests, Event, IsAccepted, largest_usize, TypedValue, nesting, most_nested, Has64Bits}
 use Rattle.yaml_value.proofs.Common.{value_events, typed_settings, WritesValue}
@@ -35,7 +35,7 @@ never_refused events before rest error state accepted begins refused =
     ∙ sym (append_assoc refused.prefix (refused.event ∷ refused.later) rest) ∙ ap (λ events. events ++ rest) refused.parts ∙ begins in
     refused.ends (record { rest = refused.later ++ rest; accepted = subst (IsAccepted true) (sym whole) accepted })
 
--- where emitting a value's events fails, memory gave out
+-- if emitting a value's events fails, memory gave out
 pub only_memory : (value : TypedValue) (error : yaml_error_t) (before state : State) → nesting value ≤ most_nested
     → length state.page.output < largest_usize → StandsAfter typed_settings [] before → FailsAt before (value_events value) error state → error ≡ Memory
 only_memory value WriteError before state fits few stands fails =
@@ -48,7 +48,7 @@ only_memory value error before state fits few stands fails =
     (append_assoc fails.earlier (fails.event ∷ []) fails.later ∙ fails.parts)
     ((fails_promised fails typed_settings [] stands).refused error (fails_error fails) tt))
 
--- what emitting a value's events comes to, by its answer
+-- the result of emitting a value's events, by its answer
 pub events_written : (value : TypedValue) (events : List Event) (answer : Result (Unit {0}) yaml_error_t) (before state : State)
     → events ≡ value_events value
     → nesting value ≤ most_nested → Has64Bits value

@@ -1,3 +1,4 @@
 pub mod SeenValues
 pub mod Walk
 pub mod OpenLevels
+pub mod Weights

@@ -1,12 +1,11 @@
 -- A walk over a value, by what it has left to visit: of each list and map that was entered, the outermost first.
 use Rattle.std.specs.Prelude.{Option, None, Some, List, [], ◌∷◌, ◌++◌, map, flat_map, drop}
-use Rattle.std.specs.Prelude.{ℕ, ◌+◌, ◌<◌, ◌^◌, ◌≡◌, ◌⊎◌, min}
+use Rattle.std.specs.Prelude.{ℕ, ◌+◌, ◌<◌, ◌^◌}
 use Rattle.std.specs.Int.Signed.{mag}
 use Rattle.yaml_base.specs.Event.{Event, alias, scalar, sequence_start, mapping_start, sequence_end, mapping_end}
 use Rattle.yaml_base.specs.Grammar.{Node, alias_node, scalar_node, sequence_node, mapping_node}
 use Rattle.yaml_base.specs.values.TypedValues.{TypedValue, list_value, map_value, TypedValues, no_values, values_and, TypedPairs, no_value_pairs}
 use Rattle.yaml_base.specs.values.TypedValues.{value_pairs_and, int_value, value_count, value_node}
-use Rattle.yaml_base.specs.Settings.{largest_usize}
 use Rattle.yaml_value.specs.SeenValues.{seen_value}
 use Rattle.yaml_value.specs.declared.value.Value.{Value}
 use Rattle.yaml_value.specs.declared.walk.Rest.{Rest}
@@ -36,13 +35,13 @@ seen_rest (Rest.Items items) = record { values = map seen_value items.now; end =
 seen_rest (Rest.Pairs pairs) = record { values = seen_flat pairs.now; end = mapping_end }
 seen_rest (Rest.PairsFromValue pairs) = record { values = drop 1 (seen_flat pairs.now); end = mapping_end }
 
--- what is left where a value was just entered; nothing of a scalar
+-- what is left if a value was just entered; nothing of a scalar
 abbrev pub entered : TypedValue → List Left
 entered (list_value items) = record { values = items_in items; end = sequence_end } ∷ []
 entered (map_value pairs) = record { values = values_in pairs; end = mapping_end } ∷ []
 entered _ = []
 
--- the first value, and what is left behind it
+-- the first value, and the rest after it
 abbrev pub split_values : Event → List TypedValue → Option (TypedValue × Left)
 split_values end [] = None
 split_values end (value ∷ values) = Some (value, record { values = values; end = end })
@@ -50,7 +49,7 @@ split_values end (value ∷ values) = Some (value, record { values = values; end
 abbrev pub split : Left → Option (TypedValue × Left)
 split left = split_values left.end left.values
 
--- the value that a step enters, and what is left then, where this is left of the innermost list or map
+-- the value that a step enters, and what is left then, if this is left of the innermost list or map
 abbrev pub stepped_by : List Left → Option (TypedValue × Left) → Option TypedValue × List Left
 stepped_by outer None = (None, outer)
 stepped_by outer (Some parts) = (Some parts.0, outer ++ parts.1 ∷ entered parts.0)
@@ -67,11 +66,6 @@ count_all (value ∷ values) = value_count value + count_all values
 abbrev pub count_left : List Left → ℕ
 count_left [] = 0
 count_left (left ∷ inner) = count_all left.values + count_left inner
-
--- what was counted, and what is left, are what was left before and a value
-abbrev pub CountsEntered : (before : List Left) → TypedValue → (count : ℕ) → (after : List Left) → Type 0
-CountsEntered before value count after =
-    ((count ≡ 1) × (after ≡ before ++ entered value)) ⊎ ((count ≡ min (value_count value) largest_usize) × (after ≡ before))
 
 -- the event with which a node begins
 abbrev pub first_event : Node → Event

@@ -1,97 +1,18 @@
 //! The number of values that a value holds, and their depth.
-ghost use Rattle.std.specs.Prelude.{◌≡◌, ◌+◌, ◌++◌, ◌<◌, ◌≤◌, min, nat_le, map, true, false, length};
-ghost use Rattle.yaml_base.specs.values.TypedValues.{most_nested, nesting, value_count, value_pairs_count, values_count};
-ghost use Rattle.yaml_value.specs.SeenValues.{seen_value, seen_values, seen_pairs};
-ghost use Rattle.yaml_value.specs.Walk.{CountsEntered, entered, seen_rest, stepped};
+ghost use Rattle.std.specs.Prelude.{◌≡◌, ◌++◌, ◌<◌, ◌≤◌, IfOk, MatchOption, min, nat_le, map, true, false, length};
+ghost use Rattle.std.specs.Result.{IsOk};
+ghost use Rattle.yaml_base.specs.values.TypedValues.{most_nested, nesting, value_count};
+ghost use Rattle.yaml_value.specs.SeenValues.{seen_value};
+ghost use Rattle.yaml_value.specs.Walk.{entered, seen_rest};
 ghost use Rattle.yaml_base.specs.Settings.{largest_usize};
 
 use crate::value::Value;
-use crate::walk::Rest;
+use crate::walk::{Rest, enter, step};
 use arrayvec::ArrayVec;
-use std::alloc::Allocator;
+use std::alloc::{AllocError, Allocator};
 
 /// The maximum nesting depth of lists and maps.
 const MOST_NESTED: usize = 1_000;
-
-/// Returns the number of values in a value, itself included, by recursion; `u64::MAX` where there are more.
-#[cycle(count_by_recursion)]
-fn count_by_recursion<A: Allocator>(value: &Value<A>) -> u64
-    ensures { result ≡ min (value_count (seen_value value.now)) largest_usize }
-{
-    match value {
-        Value::List(items) => count_items(items),
-        Value::Map(pairs) => count_pairs(pairs),
-        _ => 1,
-    }
-}
-
-/// Returns the number of values in these items, and one more for their list.
-#[cycle(count_by_recursion)]
-fn count_items<A: Allocator>(items: &Vec<Value<A>, A>) -> u64
-    ensures { result ≡ min (1 + values_count (seen_values items.now.items)) largest_usize }
-{
-    let mut count = 1u64;
-    for item in items {
-        count = count.saturating_add(count_by_recursion(item));
-    }
-    count
-}
-
-/// Returns the number of values in these pairs, and one more for their map.
-#[cycle(count_by_recursion)]
-fn count_pairs<A: Allocator>(pairs: &Vec<(Value<A>, Value<A>), A>) -> u64
-    ensures { result ≡ min (1 + value_pairs_count (seen_pairs pairs.now.items)) largest_usize }
-{
-    let mut count = 1u64;
-    for (key, value) in pairs {
-        count = count
-            .saturating_add(count_by_recursion(key))
-            .saturating_add(count_by_recursion(value));
-    }
-    count
-}
-
-/// Enters a value, and counts it. Where memory to enter it is refused, all in it is counted by recursion.
-fn count_entered<'a, A: Allocator, B: Allocator>(
-    levels: &mut Vec<Rest<'a, A>, B>,
-    value: &'a Value<A>,
-) -> u64
-    ensures { CountsEntered (map seen_rest levels.old.items) (seen_value value.now) result (map seen_rest levels.new.items) }
-{
-    let Some(rest) = Rest::of(value) else {
-        return 1;
-    };
-    match levels.push(rest) {
-        Ok(()) => 1,
-        Err(_) => count_by_recursion(value),
-    }
-}
-
-/// Counts the values in a value, itself included, by a list of what is left to count.
-fn count_by_list<A: Allocator, B: Allocator>(alloc: B, value: &Value<A>) -> u64
-    ensures { result ≡ min (value_count (seen_value value.now)) largest_usize }
-{
-    let mut levels = Vec::new(alloc);
-    let mut count = count_entered(&mut levels, value);
-    while let Some(rest) = levels.pop() {
-        if let Some((value, others)) = rest.split_first() {
-            levels.push_reserved(others);
-            count = count.saturating_add(count_entered(&mut levels, value));
-        }
-    }
-    count
-}
-
-/// Returns the number of values in a value, itself included; `u64::MAX` where there are more.
-pub(crate) fn count_values<A: Allocator>(value: &Value<A>) -> u64
-    ensures { result ≡ min (value_count (seen_value value.now)) largest_usize }
-{
-    match value {
-        Value::List(items) => count_by_list(items.allocator(), value),
-        Value::Map(pairs) => count_by_list(pairs.allocator(), value),
-        _ => 1,
-    }
-}
 
 /// Enters a value, unless it lies too deep.
 fn enter_within<'a, A: Allocator>(
@@ -109,36 +30,64 @@ fn enter_within<'a, A: Allocator>(
     }
 }
 
-/// Enters the next value of what was taken off the list, if one is left, unless it lies too deep.
-fn step_within<'a, A: Allocator>(
-    levels: &mut ArrayVec<Rest<'a, A>, MOST_NESTED>,
-    rest: Rest<'a, A>,
-) -> bool
-    requires { length levels.old.items < most_nested }
-    ensures fits { length levels.new.items ≤ most_nested }
-    ensures stepped { result ≡ true → map seen_rest levels.new.items ≡ (stepped (map seen_rest levels.old.items) (seen_rest rest.entry)).1 }
-    ensures refused { result ≡ false → most_nested < length (stepped (map seen_rest levels.old.items) (seen_rest rest.entry)).1 }
-{
-    let Some((value, others)) = rest.split_first() else {
-        return true;
-    };
-    levels.push(others);
-    enter_within(levels, value)
-}
-
-/// Returns whether the lists and maps of a value nest at most `MOST_NESTED` deep. It takes no memory: so many levels have room on
-/// the stack.
-pub(crate) fn lies_within<A: Allocator>(value: &Value<A>) -> bool
-    ensures { result ≡ nat_le (nesting (seen_value value.now)) most_nested }
+/// Returns the number of values in a value, itself included, `u64::MAX` if there are more; `None` if its lists and maps nest more
+/// than `MOST_NESTED` deep. It takes no memory: so many levels have room on the stack.
+fn count_within<A: Allocator>(value: &Value<A>) -> Option<u64>
+    ensures { MatchOption result (nat_le (nesting (seen_value value.now)) most_nested ≡ false)
+        (λ count. (nat_le (nesting (seen_value value.now)) most_nested ≡ true) × (count ≡ min (value_count (seen_value value.now)) largest_usize)) }
 {
     let mut levels = ArrayVec::new();
     if !enter_within(&mut levels, value) {
-        return false;
+        return None;
     }
+    let mut count = 1u64;
     while let Some(rest) = levels.pop() {
-        if !step_within(&mut levels, rest) {
-            return false;
+        if let Some((value, others)) = rest.split_first() {
+            levels.push(others);
+            if !enter_within(&mut levels, value) {
+                return None;
+            }
+            count = count.saturating_add(1);
         }
     }
-    true
+    Some(count)
+}
+
+/// Returns whether the lists and maps of a value nest at most `MOST_NESTED` deep. It takes no memory.
+pub(crate) fn lies_within<A: Allocator>(value: &Value<A>) -> bool
+    ensures { result ≡ nat_le (nesting (seen_value value.now)) most_nested }
+{
+    count_within(value).is_some()
+}
+
+/// Returns the number of values in a value, itself included, by a list of what is left to count.
+fn count_by_list<A: Allocator, B: Allocator>(alloc: B, value: &Value<A>) -> Result<u64, AllocError>
+    ensures { IfOk result (λ count. count ≡ min (value_count (seen_value value.now)) largest_usize) }
+{
+    let mut levels = Vec::new(alloc);
+    enter(&mut levels, value)?;
+    let mut count = 1u64;
+    while let Some(rest) = levels.pop() {
+        let entered = step(&mut levels, rest)?;
+        if entered.is_some() {
+            count = count.saturating_add(1);
+        }
+    }
+    Ok(count)
+}
+
+/// Returns the number of values in a value, itself included; `u64::MAX` if there are more.
+pub(crate) fn count_values<A: Allocator>(value: &Value<A>) -> Result<u64, AllocError>
+    ensures value { IfOk result (λ count. count ≡ min (value_count (seen_value value.now)) largest_usize) }
+    ensures shallow { nat_le (nesting (seen_value value.now)) most_nested ≡ true → IsOk result }
+{
+    match count_within(value) {
+        Some(count) => return Ok(count),
+        None => {}
+    }
+    match value {
+        Value::List(items) => count_by_list(items.allocator(), value),
+        Value::Map(pairs) => count_by_list(pairs.allocator(), value),
+        _ => Ok(1),
+    }
 }

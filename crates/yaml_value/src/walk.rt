@@ -1,4 +1,4 @@
-//! A walk over a value, depth first: what it has left to visit stands in a list.
+//! A walk over a value, depth first, by a list of the rests of what was entered.
 ghost use Rattle.std.specs.Prelude.{◌≡◌, ◌++◌, IfOk, OnOk, map, option_map, option_to_list};
 ghost use Rattle.yaml_base.specs.Seen.{seen_event};
 ghost use Rattle.yaml_value.specs.SeenValues.{seen_value};
@@ -35,7 +35,7 @@ impl<'a, A: Allocator> Rest<'a, A> {
         }
     }
 
-    /// Returns the first value, and what is left behind it.
+    /// Returns the first value, and the rest after it.
     pub(crate) fn split_first(self) -> Option<(&'a Value<A>, Self)>
         ensures { option_map (λ parts. (seen_value parts.0.now, seen_rest parts.1)) result ≡ split (seen_rest self.entry) }
     {
@@ -66,9 +66,9 @@ impl<'a, A: Allocator> Rest<'a, A> {
     }
 }
 
-/// Enters a value: what lies in it is to be visited next.
-pub(crate) fn enter<'a, A: Allocator>(
-    levels: &mut Vec<Rest<'a, A>, A>,
+/// Enters a value: the values in it are visited next.
+pub(crate) fn enter<'a, A: Allocator, B: Allocator>(
+    levels: &mut Vec<Rest<'a, A>, B>,
     value: &'a Value<A>,
 ) -> Result<(), AllocError>
     ensures { OnOk result (map seen_rest levels.new.items ≡ map seen_rest levels.old.items ++ entered (seen_value value.now)) }
@@ -79,9 +79,9 @@ pub(crate) fn enter<'a, A: Allocator>(
     Ok(())
 }
 
-/// Enters the next value of what was taken off the list, and returns it; `None` where nothing is left.
-pub(crate) fn step<'a, A: Allocator>(
-    levels: &mut Vec<Rest<'a, A>, A>,
+/// Enters the next value of what was taken off the list, and returns it; `None` if nothing is left.
+pub(crate) fn step<'a, A: Allocator, B: Allocator>(
+    levels: &mut Vec<Rest<'a, A>, B>,
     rest: Rest<'a, A>,
 ) -> Result<Option<&'a Value<A>>, AllocError>
     ensures { IfOk result (λ next. (option_map (λ value. seen_value value.now) next, map seen_rest levels.new.items)

@@ -19,7 +19,7 @@ use yaml_emitter::{Settings, yaml_emitter_t, yaml_emitter_take_output};
 /// definitions finds in these bytes this value and no other.
 ///
 /// # Errors
-/// `TooDeep` where more than 1,000 lists and maps lie within one another; nothing is allocated then. `Memory` where an
+/// `TooDeep` if more than 1,000 lists and maps lie within one another; nothing is allocated then. `Memory` if an
 /// allocation fails.
 pub fn write_canonical<A: Allocator + Copy>(
     alloc: A,

@@ -7,7 +7,7 @@ use Rattle.yaml_value.specs.{Walk.Left, Walk.entered, Walk.seen_rest, declared.w
 use Rattle.yaml_value.proofs.WalkLemmas.{popped}
 use Rattle.yaml_value.proofs.size.enter_within.Goals as goal
 
--- a level that was pushed where there was room fits
+-- a level that was pushed fits if there was room
 push_fits : {A T E : Type 0} (pushed : Result T E) (old new : ArrayVec (Rest A)) (most : ℕ) → length old.items ≤ most
     → (IsOk pushed ↔ (length old.items < most)) → OnOk pushed (length new.items ≡ length old.items + 1) → OnErr pushed (new ≡ old)
     → length new.items ≤ most
@@ -22,7 +22,7 @@ push_enters {A} (Ok x) old new rest inside done is put of on =
     popped new old rest put ∙ ap (λ inside. map (seen_rest {A = A}) old ++ inside) of
 push_enters (Err e) old new rest inside done is put of on = absurd (false≢true (sym is ∙ on))
 
--- it would pass the depth where there was no room
+-- it would pass the depth if there was no room
 push_refused : {A T E : Type 0} (pushed : Result T E) (old : List (Rest A)) (rest : Rest A) (inside : List Left) (most : ℕ) (done : Bool)
     → done ≡ is_ok pushed → OnErr pushed (length old ≡ most) → seen_rest rest ∷ [] ≡ inside → done ≡ false
     → most < length (map (seen_rest {A = A}) old ++ inside)

@@ -13,7 +13,7 @@ key_split {A} pairs others pair is =
     ap (λ (pairs : List (Value A × Value A)). Some (seen_value pair.0, record { values = drop 1 (seen_flat pairs); end = mapping_end })) is
     ∙ ap after (sym is)
 
--- nothing is taken where nothing is left
+-- nothing is taken if nothing is left
 none_split : {X A : Type 0} (seen : X → TypedValue × Left) (parts : Option X) (rest now : Rest A) → parts ≡ None → now ≡ rest
     → None ≡ split (seen_rest rest)
     → option_map seen parts ≡ split (seen_rest now)
