@@ -6,7 +6,7 @@ import re
 EDGES = [0, 1, -1, 7, 10, -10, 2**31, -2**31, 2**63 - 1, -2**63, 2**63 - 2, 1 - 2**63]
 WORDS = ["", "null", "true", "false", "7", "-0", "a", "a b", " ", "  ", " a", "a ", "---", "...", "- a", "? b", ": c", "a: b", "#", "&a", "*a", "!!str", "!",
          "[", "]", "{", "}", ",", "'", '"', '""', "\\", "\\n", "\\x41", "%TAG", "a,\n  b", "\n", "\r\n", "\n\n", "a\tb", "key", "x" * 200]
-# What has a short escape, and what stands at the edges of what is printable.
+# Characters with a short escape, and those at the edges of the printable ranges.
 MARKS = ["\0", "\a", "\b", "\t", "\n", "\v", "\f", "\r", "\x1b", '"', "\\", "\x85", "\xa0", "\u2028", "\u2029", "/", " ", "\x01", "\x1f", "~", "\x7f", "\x80",
          "\x9f", "\xa1", "\xad", "\xe9", "\u2027", "\u202a", "\ud7ff", "\ue000", "\ufdd0", "\ufefe", "\ufeff", "\uff00", "\ufffd", "\ufffe", "\uffff",
          "\U00010000", "\U0001f600", "\U0001ffff", "\U0010fffd", "\U0010ffff"]
@@ -93,7 +93,7 @@ def spoiled(r, data):
 
 
 def respelled(r, written, meaning):
-    """A text in which one character, which is a letter or stands as an escape, is spelled by digits. `meaning` tells the character of a spelling."""
+    """A text in which one character, which is a letter or is written as an escape, is spelled by digits. `meaning` tells the character of a spelling."""
     escapes = list(ESCAPE.finditer(written))
     found = r.choice(escapes if escapes and r.random() < 0.8 else list(re.finditer("[a-z]", written)))
     code = ord(meaning(found.group()))

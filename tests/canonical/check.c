@@ -1,4 +1,4 @@
-/* What yaml_is_canonical says of texts on standard input, each after its length in bytes and a line break: a line for each, with the line,
+/* The answers of yaml_is_canonical to texts on standard input, each after its length in bytes and a line break: a line for each, with the line,
  * the column and the words of the status. */
 #include <stdio.h>
 #include <stdlib.h>

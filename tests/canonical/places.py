@@ -1,8 +1,8 @@
-"""Where bytes stop to be a value's canonical bytes: the first word that can't stand where it stands, or the first list or map that lies too
-deep, by the words of `crates/yaml_read/specs/Grammar.antt`. None of the words that may stand in one place begins another, so there is one
-such place, and the contract of `read_canonical` (`IsPlaced`) allows no other.
+"""The place at which bytes stop to be a value's canonical bytes: that of the first word that is impossible there, or of the first list or map
+that lies too deep, by the words of `crates/yaml_read/specs/Grammar.antt`. None of the words that may come at one place begins another, so there
+is one such place, and the contract of `read_canonical` (`IsPlaced`) allows no other.
 
-How a character is written is the model's to say: `writes` is its module `layout`, and `reads` its module `readers`."""
+The model tells how a character is written: `writes` is its module `layout`, and `reads` its module `readers`."""
 import re
 
 MOST_NESTED = 1000
@@ -14,7 +14,7 @@ SPACES = re.compile(" *")
 
 
 class Stops(Exception):
-    """No word that may stand here does."""
+    """None of the words that may come here does."""
 
 
 class TooDeep(Exception):
@@ -26,7 +26,7 @@ class Words:
         self.text, self.at, self.writes, self.reads = text, 0, writes, reads
 
     def take(self, *words):
-        """Passes that one of these words which stands here, and returns it."""
+        """Passes the one of these words that comes here, and returns it."""
         for word in words:
             if self.text.startswith(word, self.at):
                 self.at += len(word)
@@ -120,7 +120,7 @@ class Words:
 
 
 def place_in(text):
-    """The line and the column behind a text."""
+    """The line and the column after a text."""
     return text.count("\n") + 1, len(text) - text.rfind("\n")
 
 

@@ -1,4 +1,4 @@
--- What is open in the code, and what stands before an event.
+-- What is open in the code, and the text before an event.
 use Rattle.yaml_base.proofs.Common.{ℕ, ◌-◌, ◌+◌, ◌*◌, suc, true, false, Option, None, Some, List, [], ◌∷◌, ◌++◌, refl, ◌≡◌, ap, subst, sym, ◌∙◌, append_assoc}
 use Rattle.yaml_base.proofs.Common.{append-nil, arith, codes, false≢true, length, Text, encode_utf8_all}
 use Rattle.yaml_base.specs.values.ValueText.{line_at}
@@ -49,7 +49,7 @@ taken_off old new None is cases =
     no_awaits new.items (omega (arith, cases.1, new.ok.0)) ∙ sym (ap outside (no_awaits old.items (omega (arith, cases.0, old.ok.0))))
 taken_off old new (Some awaited) is cases = sym (ap (λ awaits. outside (seen_awaits awaits)) is ∙ ap outside (await_more new.items awaited))
 
--- ---- what stands before an event
+-- ---- the text before an event
 
 -- the indentation of an entry is that of its collection, and two spaces
 pub entry_line : (depth : ℕ) (word : Text) → line_at (depth * 2) ++ (codes "  " ++ word) ≡ line_at (suc depth * 2) ++ word
@@ -116,7 +116,7 @@ value_lacks outer depth text error at none = (
   λ (can : can_end (value_awaited ∷ outer) ≡ true). absurd (false≢true can),
 )
 
--- where nothing is open, and where something is
+-- if nothing is open, and if something is
 pub root_stands : (levels : List Pending) (found : Option Await) (text : Bor (List ℕ)) → found ≡ None → IsInnermostAwait levels found
     → LeadStands levels text.now (Ok (Another text))
 root_stands levels found text is innermost =
@@ -131,7 +131,7 @@ stands_in levels found awaited count depth text result is innermost counted less
     let lies : depth ≡ length inner.0 = omega (arith, counted, less, ap length inner.1) in
     subst (λ (l : List Pending). LeadStands l text result) (sym inner.1) (stands inner.0 lies)
 
--- what stands there by the code's list
+-- the text there, by the code's list
 pub lead_at : (awaits : List Await) (found : Option Await) (count : ℕ) (text : List ℕ) (lead entry : Entry)
     → MatchOption found (awaits ≡ []) (λ awaited. IsLastAwait awaited awaits) → count ≡ length awaits → lead ≡ entry
     → ((levels : List Pending) → IsInnermostAwait levels found → count ≡ length levels → LeadStands levels text (Ok lead))
@@ -156,7 +156,7 @@ lead_or_end (key_awaited false ∷ outer) a b can is =
     ∙ append_assoc (line_at (length outer * 2)) (codes "}") b))
 lead_or_end (value_awaited ∷ outer) a b can is = absurd (false≢true can)
 
--- ---- behind a node
+-- ---- after a node
 
 pub root_left : (levels : List Pending) (text : List ℕ) → levels ≡ [] → (left_open levels ≡ None) × (text ≡ trail_text levels ++ text)
 root_left levels text none = subst (λ (l : List Pending). (left_open l ≡ None) × (text ≡ trail_text l ++ text)) (sym none) (refl, refl)

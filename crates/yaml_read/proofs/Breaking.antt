@@ -1,4 +1,4 @@
--- Where bytes break off: at a word, behind words, and in a line.
+-- The places at which bytes break off: at a word, after words, and in a line.
 use Rattle.yaml_base.proofs.Common.{ℕ, ◌+◌, ◌*◌, ◌<◌, [], ◌∷◌, ◌++◌, ◌≡◌, ◌∙◌, zero, suc, None, List, refl, ap, subst, sym, inl, inr, arith, append_assoc}
 use Rattle.yaml_base.{proofs.Common.codes, proofs.Common.flat_map, proofs.Common.replicate, proofs.Common.space, specs.values.ValueText.line_at}
 use Rattle.std.proofs.lemmas.List.{replicate-append-replicate}
@@ -9,7 +9,7 @@ use Rattle.yaml_read.specs.declared.errors.Stop.TheVariants as stop
 
 -- ---- at a word
 
--- none of these begins with a word that stands there
+-- none of these begins with a word that the bytes begin with
 pub here : (These : List (List ℕ) → Type 0) (bytes : List ℕ) (error : Stop) (due : List ℕ) (more : List (List ℕ)) → IsHere bytes error → These (due ∷ more)
     → ((next : List ℕ) (after : List (List ℕ)) → These (next ∷ after) → past_word next bytes ≡ None) → BreaksAt These bytes error
 here These bytes error due more place begins none =
@@ -23,7 +23,7 @@ missing word bytes More error more none place begins =
     here (word_then word More) bytes error word more place (refl, begins)
     (λ next after is. subst (λ (w : List ℕ). past_word w bytes ≡ None) (sym is.0) none)
 
--- neither of two words stands there
+-- the bytes begin with neither of two words
 pub neither : (first second bytes : List ℕ) (error : Stop) → past_word first bytes ≡ None → past_word second bytes ≡ None → IsHere bytes error
     → BreaksAt (these_or_those (word_then first nothing) (word_then second nothing)) bytes error
 neither first second bytes error none also place =
@@ -34,7 +34,7 @@ neither first second bytes error none also place =
     lacks next after (inl is) = subst (λ (w : List ℕ). past_word w bytes ≡ None) (sym is.0) none
     lacks next after (inr is) = subst (λ (w : List ℕ). past_word w bytes ≡ None) (sym is.0) also
 
--- ---- behind a word
+-- ---- after a word
 
 pub passed : (These More : List (List ℕ) → Type 0) (word bytes rest : List ℕ) (left : ℕ) → bytes ≡ word ++ rest
     → ((words : List (List ℕ)) → More words → These (word ∷ words)) → ((words : List (List ℕ)) → These (word ∷ words) → More words)
@@ -65,7 +65,7 @@ behind_word More word bytes rest error is breaks =
 
 -- ---- one of two
 
--- none of the others begins with a word that stands there, before words of the one were read and behind them
+-- none of the others begins with a word that is there, before words of the one were read and after them
 none_at : (These Those : List (List ℕ) → Type 0) (bytes rest : List ℕ) → bytes ≡ rest
     → ((next : List ℕ) (after : List (List ℕ)) → These (next ∷ after) → past_word next bytes ≡ None)
     → ((next : List ℕ) (after : List (List ℕ)) → Those (next ∷ after) → past_word next rest ≡ None)
@@ -114,7 +114,7 @@ right_of These Those bytes left lacks breaks = by breaks.read breaks.parts break
           none = none_later These Those bytes breaks.rest first read parts lacks none;
         }
 
--- the first of two words doesn't stand there, and the bytes break off behind the beginning of the second
+-- the first of two words is missing, and the bytes break off after the beginning of the second
 pub second_of : (first : List ℕ) (Those : List (List ℕ) → Type 0) (bytes : List ℕ) (error : Stop) → past_word first bytes ≡ None
     → BreaksAt Those bytes error → BreaksAt (these_or_those (word_then first nothing) Those) bytes error
 second_of first Those bytes (stop.Refused left) none breaks =
@@ -167,7 +167,7 @@ levels_passed (suc depth) bytes rest More error is breaks =
     behind_word (levels_then depth More) (codes "  ") bytes (replicate (depth * 2) space ++ rest) error (level_first depth bytes rest is)
     (levels_passed depth (replicate (depth * 2) space ++ rest) rest More error refl breaks)
 
--- behind a line's end and an indentation
+-- after a line's end and an indentation
 pub line_passed : (depth : ℕ) (bytes rest : List ℕ) (More : List (List ℕ) → Type 0) (error : Stop) → bytes ≡ line_at (depth * 2) ++ rest
     → BreaksAt More rest error → BreaksAt (line_then depth More) bytes error
 line_passed depth bytes rest More error is breaks =
@@ -182,7 +182,7 @@ pub entry_goes : (depth : ℕ) (lead end : List ℕ)
 entry_goes depth lead end =
     (refl, levels_go depth (these_or_those (word_then lead nothing) (word_then end nothing)) (lead ∷ []) (inl (refl, tt)))
 
--- where the words stop
+-- the place at which the words stop
 pub no_comma : (depth : ℕ) (lead end text : List ℕ) (error : Stop) → past_word (codes ",") text ≡ None → IsHere text error
     → BreaksAt (entry_end depth lead end) text error
 no_comma depth lead end text error none place =

@@ -1,4 +1,4 @@
--- Where the bytes of a node break off, and those behind a node.
+-- The places at which the bytes of a node break off, and the bytes after a node.
 use Rattle.yaml_base.proofs.Common.{ℕ, ◌<◌, ◌≤◌, suc, true, Option, None, Some, List, [], ◌∷◌, ◌++◌, refl, ◌≡◌, ap, subst, sym, ◌∙◌, ◌⊎◌, inl, inr, pos}
 use Rattle.yaml_base.proofs.Common.{arith, append_assoc, append-nil, codes, flat_map, length, encode_utf8_all, encode_utf8, character_text, Text}
 use Rattle.yaml_base.specs.values.TypedValues.{TypedValue, most_nested}
@@ -44,7 +44,7 @@ utf8_left whole value bytes utf8 so_far =
     (IsUtf8-past_char whole (encode_utf8_all inside ++ bytes) quote utf8
     (so_far.whole_is ∙ ap (λ b. b ++ (encode_utf8_all inside ++ bytes)) (sym (encode_ascii quote (omega arith))))) refl
 
--- the bytes of a text break off where those behind its characters do
+-- the bytes of a text break off at the place at which those after its characters do
 pub record PassesCharacters (whole bytes : List ℕ) : Type 0 where
   pub passes : (left : ℕ) → BreaksOff characters bytes left → BreaksOff quoted_text whole left
 
@@ -68,7 +68,7 @@ passes_character whole bytes rest c passes none character =
     out words (inl ends) = absurd (no_word (codes "\"") bytes rest none (character.text ∙ ap (λ w. w ++ rest) ends.0))
     out words (inr goes) = goes.3
 
--- no character stands there
+-- the bytes begin with no character
 pub no_character : (whole bytes : List ℕ) (error : Stop) → PassesCharacters whole bytes → IsUtf8 bytes → past_word (codes "\"") bytes ≡ None
     → ReadsCharacter bytes None → IsHere bytes error → BreaksAt quoted_text whole error
 no_character whole bytes error passes utf8 none reads place =
@@ -94,7 +94,7 @@ whole_placed bytes stop.Memory error is = inl is
 whole_placed bytes (stop.Refused left) error is = inr is
 whole_placed bytes (stop.TooDeep left) error is = inr is
 
--- no integer stands there
+-- the bytes begin with no integer
 pub no_integer : {T : Type 0} (Holds : ℤ → Text → T → Type 0) (bytes : List ℕ) (error : Stop) → IsUtf8 bytes → IsHereOrMemory bytes error
     → ((n : ℤ) (rest : Text) → mag n < 2 ^ 63 → bytes ≡ encode_utf8_all (in_quotes (signed_decimal n) ++ rest) → OrMemory (Holds n rest) (Err error))
     → BreaksAt integer bytes error
@@ -126,14 +126,14 @@ same_kind : (k j : Kind) → tag_word k ≡ tag_word j → k ≡ j
 same_kind k j is =
     kinds_same k j (ap (past_word (tag_word k)) (sym is ∙ sym (append-nil (tag_word k))) ∙ behind_itself (tag_word k) [])
 
--- no tag stands there
+-- the bytes begin with no tag
 pub no_tag_there : (depth : ℕ) (bytes : List ℕ) (error : Stop) → ((k : Kind) → past_word (tag_word k) bytes ≡ None) → IsHere bytes error
     → BreaksAt (node depth) bytes error
 no_tag_there depth bytes error none place =
     here (node depth) bytes error (tag_word kind.Null) (codes "\"null\"" ∷ []) place (kind.Null, (refl, (refl, tt)))
     (λ next after is. subst (λ (w : List ℕ). past_word w bytes ≡ None) (sym is.1.0) (none is.0))
 
--- the bytes break off behind a tag
+-- the bytes break off after a tag
 pub tag_passed : (depth : ℕ) (k read : Kind) (bytes rest : List ℕ) (error : Stop) → read ≡ k → bytes ≡ tag_word read ++ rest
     → BreaksAt (behind_tag depth k) rest error → BreaksAt (node depth) bytes error
 tag_passed depth k read bytes rest error same is breaks =
@@ -141,7 +141,7 @@ tag_passed depth k read bytes rest error same is breaks =
     (λ words more. (k, (refl, more)))
     (λ words these. subst (λ (j : Kind). behind_tag depth j words) (sym (same_kind k these.0 these.1.0)) these.1.1) breaks
 
--- some words come behind a bracket
+-- some words come after a bracket
 words_inside : (depth : ℕ) (More : List (List ℕ) → Type 0) (words : List (List ℕ)) → More words
     → (inside : List (List ℕ)) × unless_deep depth More inside
 words_inside depth More words begins = by (cases_lt depth most_nested)
@@ -150,7 +150,7 @@ words_inside depth More words begins = by (cases_lt depth most_nested)
     by (inl room) = (words, inl (room, begins))
     by (inr deep) = ([], inr (deep, tt))
 
--- no bracket stands behind a list's or a map's tag
+-- no bracket follows a list's or a map's tag
 pub no_list : (depth : ℕ) (bytes rest : List ℕ) (error : Stop) → bytes ≡ codes "!!seq " ++ rest → past_word (codes "[") rest ≡ None
     → IsHere rest error → BreaksAt (node depth) bytes error
 no_list depth bytes rest error is none place =
@@ -169,9 +169,9 @@ no_map depth bytes rest error is none place =
     (unless_deep depth (these_or_those (word_then (codes "}") nothing) (line_then (suc depth) (word_then (codes "? ") nothing)))) error
     inside.0 none place inside.1)
 
--- ---- behind a node
+-- ---- after a node
 
--- the bytes of a document break off behind a value
+-- the bytes of a document break off after a value
 pub value_stops : (whole : List ℕ) (levels : List OpenLevel) (level : OpenLevel) (value : TypedValue) (bytes : List ℕ) (depth : ℕ) (error : Stop)
     → depth ≡ length levels → HasRead whole (level ∷ levels) value bytes → BreaksAt (behind_in depth level) bytes error → StopsIn whole error
 value_stops whole levels level value bytes depth (stop.Refused left) same read breaks =
@@ -179,7 +179,7 @@ value_stops whole levels level value bytes depth (stop.Refused left) same read b
 value_stops whole levels level value bytes depth (stop.TooDeep left) same read breaks = absurd breaks
 value_stops whole levels level value bytes depth stop.Memory same read breaks = tt
 
--- and behind the outermost value
+-- and after the outermost value
 pub end_lacks : (whole : List ℕ) (value : TypedValue) (bytes : List ℕ) (error : Stop) → HasRead whole [] value bytes → LacksEnd bytes error
     → StopsIn whole error
 end_lacks whole value bytes error read (no_end none place) =
@@ -197,7 +197,7 @@ node_stops whole levels bytes (stop.Refused left) opened breaks = in_node levels
 node_stops whole levels bytes (stop.TooDeep left) opened breaks = absurd breaks
 node_stops whole levels bytes stop.Memory opened breaks = tt
 
--- behind the opening bracket of a list or a map that has entries
+-- after the opening bracket of a list or a map that has entries
 inside_out : (depth : ℕ) (More : List (List ℕ) → Type 0) (words : List (List ℕ)) → depth < most_nested → unless_deep depth More words → More words
 inside_out depth More words room (inl inside) = inside.1
 inside_out depth More words room (inr deep) = absurd (omega (arith, room, deep.0))

@@ -1,4 +1,4 @@
--- A character that was read stood there in its one spelling.
+-- A character that was read was written in its one spelling.
 use Rattle.yaml_base.proofs.Common.{ℕ, ◌+◌, ◌*◌, ◌/◌, ◌%◌, ◌-◌, ◌<◌, ◌≤◌, not, ◌||◌, None, Some, List, [], ◌∷◌, ◌++◌, refl, ◌≡◌, ap, sym, ◌∙◌, Text, ◌==◌}
 use Rattle.yaml_base.proofs.Common.{if◌then◌else◌, encode_utf8_all, character_text, flat_map-append, chars-encodes, short_escapes, escape_after_backslash, Bool}
 use Rattle.yaml_base.proofs.Common.{true, false, ◌&&◌, subst, arith, nat_tests, and_parts, and_from, eqb-true, nat_le, hex_digit, flat_map, codes, chars}
@@ -31,7 +31,7 @@ digit_by c d false false is_low is_high is = cc
 pub digit_is : (c d : ℕ) → digit_meaning c ≡ Some d → c ≡ hex_digit d
 digit_is c d is = digit_by c d (is_between 48 57 c) (is_between 65 70 c) refl refl is
 
--- two numbers behind one another
+-- one number after another
 pub two_read : (bytes behind rest : List ℕ) (upper lower : ℕ) → upper < 16 → lower < 16 → bytes ≡ encode_utf8_all (hex_digit upper ∷ []) ++ behind
     → behind ≡ encode_utf8_all (hex_digit lower ∷ []) ++ rest → bytes ≡ encode_utf8_all (hex_digits 2 (upper * 16 + lower)) ++ rest
 two_read bytes behind rest upper lower few also first second =
@@ -78,7 +78,7 @@ is_answer-is : (o : Option ℕ) (n : ℕ) → is_answer o n ≡ true → o ≡ S
 is_answer-is None n h = cc
 is_answer-is (Some m) n h = ap (λ k. Some k) (eqb-true m n h)
 
--- each letter is that of its meaning, where that needs an escape
+-- each letter is that of its meaning, if that needs an escape
 abbrev letters_fit : (letters meanings : Text) → Bool
 letters_fit (letter ∷ letters) (meaning ∷ meanings) =
     (not (needs_escape true meaning) || is_answer (letter_among short_escapes meaning) letter) && letters_fit letters meanings
@@ -232,7 +232,7 @@ all_read whole bytes end value so_far ends =
     ∙ ap (λ b. b ++ end) (sym (word_encoded (codes "\"") (inside ++ quote ∷ []) refl))
     ∙ ap (λ t. encode_utf8_all (in_quotes t) ++ end) (sym (ap chars so_far.value_is ∙ chars-encodes so_far.read so_far.scalars))
 
--- what a letter stands for is a Unicode scalar value
+-- a letter means a Unicode scalar value
 means_scalar : (letters meanings : Text) (c meaning : ℕ) → all_scalars meanings ≡ true → meaning_among letters meanings c ≡ Some meaning
     → all_scalars (meaning ∷ []) ≡ true
 means_scalar [] meanings c meaning h is = cc

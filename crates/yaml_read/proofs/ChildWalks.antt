@@ -25,7 +25,7 @@ walk_same one other same (suc depth) before number =
           (children other number) refl)
     ]
 
--- their walks are the same where they have as many nodes
+-- their walks are the same if they have as many nodes
 pub walks_same : (one other : Graph) → length one.nodes ≡ length other.nodes → HaveSameChildren one other → graph_steps one ≡ graph_steps other
 walks_same one other many same =
     ap (λ (count : ℕ). steps_from (suc count) one [] 1) many ∙ walk_same one other same (suc (length other.nodes)) [] 1

@@ -16,7 +16,7 @@ use Rattle.yaml_read.specs.declared.errors.Stop.TheVariants as stop
 
 -- ---- events
 
--- what the events behind a document's first line tell
+-- the facts that the events after a document's first line tell
 pub events_sound : (text behind : List ℕ) (found : List Event) → text ≡ codes "---\n" ++ behind
     → (events : List Event) × (node : Text) × (found ≡ in_document events) × HasRunText [] events node × All IsInNode events
     × (behind ≡ encode_utf8_all (node ++ line_feed ∷ [])) → AreEventsOf text found

@@ -1,4 +1,4 @@
--- A line with a lead, and an entry behind its comma.
+-- A line with a lead, and an entry after its comma.
 use Rattle.yaml_base.proofs.Common.{ℕ, ◌*◌, ◌<◌, [], ◌∷◌, ◌++◌, ◌≡◌, ◌∙◌, List, refl, ap, subst, sym, arith, append_assoc, length, codes}
 use Rattle.yaml_base.specs.values.ValueText.{line_at}
 use Rattle.std.specs.{Prelude.Result, Prelude.Ok, Prelude.Err, Prelude.IfErr, Prelude.IfOk, Borrow.Bor}
@@ -11,7 +11,7 @@ use Rattle.yaml_read.specs.declared.errors.Stop.{Stop}
 use Rattle.yaml_read.specs.declared.levels.Entry.{Entry}
 use Rattle.yaml_read.specs.declared.levels.Entry.TheVariants.{Another, End}
 
--- where a line with a lead lacks
+-- the place at which a line with a lead is incomplete
 pub lead_breaks : (depth : ℕ) (lead text : List ℕ) (error : Stop) → EntryLacks depth lead text error
     → BreaksAt (line_then depth (word_then lead nothing)) text error
 lead_breaks depth lead text error (no_memory is) = subst (BreaksAt (line_then depth (word_then lead nothing)) text) (sym is) tt
@@ -24,7 +24,7 @@ pub lead_behind : (depth : ℕ) (lead text line : List ℕ) (result : Result (Bo
 lead_behind depth lead text line (Ok rest) is cut place = tt
 lead_behind depth lead text line (Err error) is cut place = no_lead line is cut place
 
--- an entry behind its comma
+-- an entry after its comma
 pub entry_behind : (depth : ℕ) (lead end text behind : List ℕ) (result : Result Entry Stop) → text ≡ codes "," ++ behind
     → LineEntryRead depth lead end behind result → EntryRead depth lead end text result
 entry_behind depth lead end text behind result is entry =

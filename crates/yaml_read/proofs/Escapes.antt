@@ -48,7 +48,7 @@ short_number c is_scalar needs = by (nat_lt c 65536) refl
     by true is = ltb-true c 65536 is
     by false is = absurd (true≢false (sym needs ∙ grind (arith, nat_tests, scalar_cases, and_parts)))
 
--- how a character stands between quotes: as itself, or as a backslash and what follows it
+-- how a character is written between quotes: as itself, or as a backslash and what follows it
 pub data Stands (c : ℕ) : Text → Type 0 where
   as_itself : needs_escape true c ≡ false → Stands c (c ∷ [])
   as_escape : needs_escape true c ≡ true → Stands c (backslash ∷ escape_after_backslash (letter_among short_escapes c) c)

@@ -8,7 +8,7 @@ use Rattle.std.proofs.lemmas.{List.append_cancel_left, List.map-append, List.Ele
 use Rattle.yaml_read.specs.EventTexts.{Pending, HasBegunText, HasRunText, IsInNode, closing_text, ends_name, event_text, item_awaited, key_awaited, lead_text}
 use Rattle.yaml_read.specs.EventTexts.{may_come, more_come, none_begun, one_more, next_open, left_open, outside, root_ends, value_awaited, BeginsNode}
 use Rattle.yaml_read.specs.EventTexts.{begins_node, ends_mapping, ends_sequence, is_alias, is_mapping, is_scalar, is_sequence, opening_text, trail_text}
-use Rattle.yaml_read.specs.RunPlaces.{RunStops, StopsAmong, bare_start, behind_root, in_document, in_event, IsWithin, NoEventBegins}
+use Rattle.yaml_read.specs.RunPlaces.{IsEventPlace, RunStops, StopsBy, after_root, bare_start, in_document, in_event, NoEventBegins}
 use Rattle.yaml_read.specs.Beginnings.{ReadOr}
 use Rattle.yaml_read.specs.Places.{LacksEnd, more_follows, no_end}
 use Rattle.yaml_read.specs.EventReads.{EndDue, EndRead, IsEventRead, RootRead, RunAnswer, RunEnded, RunFails}
@@ -54,7 +54,7 @@ run_ends_name awaited outer _ _ more (more_come _ next event events rest text co
     ap (λ (t : Text). ends_name (t ++ more)) is ∙ ap ends_name (append_assoc (event_text (awaited ∷ outer) event) rest more)
     ∙ event_ends_name awaited outer event (rest ++ more) comes
 
--- something is open behind an event that doesn't end the root
+-- something is open after an event that doesn't end the root
 behind_open : (levels : List Pending) → left_open levels ≡ Some [] → ⊥
 behind_open [] is = cc
 behind_open (awaited ∷ outer) is = cc
@@ -138,7 +138,7 @@ event_more whole found levels bytes rest (Some next) event begun read =
 
 -- ---- what is due
 
--- behind the events found so far the others of a document are due
+-- after the events found so far the others of a document are due
 pub record EventsDue (events found : List Event) (levels : List Pending) (bytes : List ℕ) : Type 0 where
   pub later : List Event
   pub text : Text
@@ -152,7 +152,7 @@ abbrev pub IsRunDue : (events found : List Event) → Option (List Pending) → 
 IsRunDue events found None bytes = EndDue events found bytes
 IsRunDue events found (Some levels) bytes = EventsDue events found levels bytes
 
--- where the whole bytes are those of a document
+-- if the whole bytes are those of a document
 pub record RunDue (whole : List ℕ) (found : List Event) (open_yet : Option (List Pending)) (bytes : List ℕ) : Type 0 where
   pub due : (events : List Event) (node : Text) → HasRunText [] events node → All IsInNode events → whole ≡ encode_utf8_all (node ++ line_feed ∷ [])
       → IsRunDue events found open_yet bytes
@@ -163,7 +163,7 @@ all_due whole =
       due = λ events node run in_node is. record { later = events; text = node; all = refl; run = run; in_node = in_node; bytes_are = is };
     }
 
--- what follows an event, by what is open behind it
+-- the rest after an event, by what is open then
 abbrev Follows : Option (List Pending) → List Event → Text → Type 0
 Follows None others tail = (others ≡ []) × (tail ≡ line_feed ∷ [])
 Follows (Some levels) others tail = (text : Text) × HasRunText levels others text × (tail ≡ text ++ line_feed ∷ [])
@@ -289,13 +289,6 @@ run_sound whole found final bytes ended is end = (
 pub memory_stops : (whole : List ℕ) (error : Stop) → error ≡ stop.Memory → RunStops whole error
 memory_stops whole error is = subst (λ (e : Stop). RunStops whole e) (sym is) tt
 
-stops_among : (whole : List ℕ) (found : List Event) (levels : List Pending) (bytes : List ℕ) (error : Stop) → RunBegun whole found levels bytes
-    → NoEventBegins levels bytes → StopsAmong bytes error → RunStops whole error
-stops_among whole found levels bytes (stop.Refused left) begun none within =
-    in_event levels begun.events begun.text bytes begun.begun begun.parts none within
-stops_among whole found levels bytes (stop.TooDeep left) begun none within = within
-stops_among whole found levels bytes stop.Memory begun none within = tt
-
 -- no event goes on
 no_run : (whole : List ℕ) (found : List Event) (levels : List Pending) (bytes : List ℕ) → RunDue whole found (Some levels) bytes
     → NoEventBegins levels bytes → (error : Stop) (events : List Event) (node : Text) → HasRunText [] events node → All IsInNode events
@@ -304,15 +297,16 @@ no_run whole found levels bytes due none error events node run in_node is =
     let next = next_of events found levels bytes (due.due events node run in_node is) in
     absurd (none next.event next.tail next.in_node next.comes next.ends next.bytes_are)
 
-pub fails_at_event : (whole : List ℕ) (found : List Event) (levels : List Pending) (bytes : List ℕ) (reason error : Stop)
+pub fails_at_event : (whole : List ℕ) (found : List Event) (levels : List Pending) (bytes : List ℕ) (error : Stop)
     → RunBegun whole found levels bytes → RunDue whole found (Some levels) bytes
-    → ReadOr (λ (_ : List ℕ). Unit {0}) (NoEventBegins levels bytes) (Err reason) → IsWithin bytes reason error → RunFails whole error
-fails_at_event whole found levels bytes stop.Memory error begun due none within =
-    record { stops = memory_stops whole error within; reads = λ events node run in_node is. within }
-fails_at_event whole found levels bytes (stop.Refused left) error begun due none within =
-    record { stops = stops_among whole found levels bytes error begun none within; reads = no_run whole found levels bytes due none error }
-fails_at_event whole found levels bytes (stop.TooDeep left) error begun due none within =
-    record { stops = stops_among whole found levels bytes error begun none within; reads = no_run whole found levels bytes due none error }
+    → ReadOr (λ (_ : List ℕ). Unit {0}) (NoEventBegins levels bytes) (Err error) → StopsBy (IsEventPlace levels bytes) error → RunFails whole error
+fails_at_event whole found levels bytes stop.Memory begun due none place = record { stops = tt; reads = λ events node run in_node is. refl }
+fails_at_event whole found levels bytes (stop.Refused left) begun due none place =
+    record {
+      stops = in_event levels begun.events begun.text bytes begun.begun begun.parts none place;
+      reads = no_run whole found levels bytes due none (stop.Refused left);
+    }
+fails_at_event whole found levels bytes (stop.TooDeep left) begun due none place = absurd place
 
 pub memory_fails : (whole : List ℕ) (error : Stop) → error ≡ stop.Memory → RunFails whole error
 memory_fails whole error is = record { stops = memory_stops whole error is; reads = λ events node run in_node whole_is. is }
@@ -324,9 +318,6 @@ pub root_ended : (whole : List ℕ) (found : List Event) (bytes : List ℕ) → 
     → EndDue events found bytes)
 root_ended whole found bytes ended = (ended.0, ended.1.due)
 
-refused_other : (left : ℕ) → stop.Refused left ≡ stop.Memory → ⊥
-refused_other left is = cc
-
 -- and the document's end follows it, or it doesn't
 pub run_ends : {T : Type 0} (whole : List ℕ) (found new : List Event) (end : Bor (List ℕ)) (result : Result T Stop) → RootRead whole found (Ok end)
     → EndRead found end.now new result → RunAnswer whole new result
@@ -337,18 +328,17 @@ run_ends whole found new end (Ok given) root read =
     }
 run_ends whole found new end (Err error) root read =
     record {
-      stops = end_stops whole found end.now error root.0 read.0 read.1;
+      stops = end_stops whole found end.now error root.0 read.0;
       reads = λ events node run in_node is. read.1 (root.1 events node run in_node is).bytes_are;
     }
   where
-    end_stops : (whole : List ℕ) (found : List Event) (bytes : List ℕ) (error : Stop) → RunEnded whole found bytes → StopsAmong bytes error
-        → (bytes ≡ codes "\n" → error ≡ stop.Memory) → RunStops whole error
-    end_stops whole found bytes (stop.Refused left) ended within memory =
-        behind_root ended.events ended.text bytes ended.run ended.parts (λ is. refused_other left (memory is)) within
-    end_stops whole found bytes (stop.TooDeep left) ended within memory = within
-    end_stops whole found bytes stop.Memory ended within memory = tt
+    end_stops : (whole : List ℕ) (found : List Event) (bytes : List ℕ) (error : Stop) → RunEnded whole found bytes
+        → StopsBy (λ left. LacksEnd bytes (stop.Refused left)) error → RunStops whole error
+    end_stops whole found bytes (stop.Refused left) ended lacks = after_root ended.events ended.text bytes ended.run ended.parts lacks
+    end_stops whole found bytes (stop.TooDeep left) ended lacks = absurd lacks
+    end_stops whole found bytes stop.Memory ended lacks = tt
 
--- the document's end, where memory for it was found
+-- the document's end, if memory for it was found
 pub end_answer : {T E : Type 0} (seen : E → Event) (bytes : List ℕ) (old new : List E) (last : E) (result : Result T Stop) → seen last ≡ document_end true
     → bytes ≡ codes "\n" → OrMemory (λ _. new ≡ old ++ last ∷ []) result → EndRead (map seen old) bytes (map seen new) result
 end_answer seen bytes old new last (Ok given) ends is pushed =
@@ -358,13 +348,14 @@ end_answer seen bytes old new last (Err (stop.Refused left)) ends is pushed = ab
 end_answer seen bytes old new last (Err (stop.TooDeep left)) ends is pushed = absurd pushed
 
 -- why the document's end isn't read
-pub end_lacking : (bytes : List ℕ) (error : Stop) → LacksEnd bytes error → StopsAmong bytes error × (bytes ≡ codes "\n" → error ≡ stop.Memory)
+pub end_lacking : (bytes : List ℕ) (error : Stop) → LacksEnd bytes error
+    → StopsBy (λ left. LacksEnd bytes (stop.Refused left)) error × (bytes ≡ codes "\n" → error ≡ stop.Memory)
 end_lacking bytes error (no_end none place) = (
-  subst (StopsAmong bytes) (sym place) (omega arith),
+  subst (StopsBy (λ left. LacksEnd bytes (stop.Refused left))) (sym place) (no_end none refl),
   λ is. absurd (no_word (codes "\n") bytes [] none is),
 )
 end_lacking bytes error (more_follows end is some place) = (
-  subst (StopsAmong bytes) (sym place) (omega (arith, ap length is)),
+  subst (StopsBy (λ left. LacksEnd bytes (stop.Refused left))) (sym place) (more_follows end is some refl),
   λ also. absurd (omega (arith, some, ap length (append_cancel_left (codes "\n") end [] (sym is ∙ also)))),
 )
 

@@ -14,7 +14,7 @@ use Rattle.yaml_read.proofs.{Awaits.closing_encoded, Awaits.lead_encoded, Awaits
 
 -- ---- an event that begins a node
 
--- its text, what is open behind it, and that it may come
+-- its text, what is open after it, and that it may come
 pub record IsNodeEvent (levels : List Pending) (event : Event) : Type 0 where
   pub text : event_text levels event ≡ lead_text levels ++ text_behind_lead levels event
   pub opened : next_open levels event ≡ open_behind_opening levels (await_opened event)
@@ -89,7 +89,7 @@ no_closing levels found is innermost =
 
 -- ---- what is read of an event's text
 
--- a comma or nothing ends a name, where what follows ends it
+-- a comma or nothing ends a name, if what follows ends it
 pub trail_ends : (levels : List Pending) (opened : Option Await) (tail : Text) → ends_name tail ≡ true
     → ends_name (trail_behind_opening levels opened ++ tail) ≡ true
 trail_ends [] None tail ends = ends
@@ -138,7 +138,7 @@ node_read levels text middle rest after event begins is opened behind =
           ∙ sym (encodes-append (opening_text event) trail));
     }
 
--- behind what leads to it
+-- after what leads to it
 pub event_read : (levels : List Pending) (text behind rest : List ℕ) (after : Option (List Pending)) (event : Event) → text ≡ lead_text levels ++ behind
     → ReadsNode levels behind after event rest → ReadsEvent levels text after event rest
 event_read levels text behind rest after event is node =
@@ -174,7 +174,7 @@ end_read levels text behind rest after event can is same opened follows =
           ∙ sym (closing_encoded levels trail) ∙ ap encode_utf8_all (sym known.text));
     })
 
--- less is left behind a collection's end
+-- less is left after a collection's end
 pub end_shorter : (levels : List Pending) (text behind : List ℕ) → can_end levels ≡ true → text ≡ closing_text levels ++ behind
     → length behind < length text
 end_shorter [] text behind can is = absurd (false≢true can)
@@ -186,9 +186,9 @@ end_shorter (key_awaited false ∷ outer) text behind can is =
     omega (arith, ap length is, length-append (closing_text (key_awaited false ∷ outer)) behind)
 end_shorter (value_awaited ∷ outer) text behind can is = absurd (false≢true can)
 
--- ---- what stands before an event that comes
+-- ---- the text before an event that comes
 
--- bytes of an event behind its lead, or behind the collection's bracket
+-- bytes of an event after its lead, or after the collection's bracket
 node_bytes : (levels : List Pending) (bytes : List ℕ) (event : Event) (tail : Text) → BeginsNode event
     → bytes ≡ encode_utf8_all (event_text levels event ++ tail) → bytes ≡ lead_text levels ++ encode_utf8_all (text_behind_lead levels event ++ tail)
 node_bytes levels bytes event tail begins is =
@@ -203,7 +203,7 @@ end_bytes levels bytes event tail can same is =
     ∙ ap encode_utf8_all (ap (λ t. t ++ tail) (end_event levels can).text ∙ append_assoc (closing_text levels) trail tail)
     ∙ closing_encoded levels (trail ++ tail) ∙ ap (λ t. closing_text levels ++ t) (trail_encoded (outside levels) tail)
 
--- what is behind the lead or the bracket that was found, where an event comes
+-- the bytes after the lead or the bracket that was found, if an event comes
 pub data Comes (levels : List Pending) (event : Event) (tail : Text) (bytes : List ℕ) : Type 0 where
   node_comes : BeginsNode event → bytes ≡ lead_text levels ++ encode_utf8_all (text_behind_lead levels event ++ tail) → Comes levels event tail bytes
   end_comes : can_end levels ≡ true → closing_event levels ≡ event → bytes ≡ closing_text levels ++ (trail_text (outside levels) ++ encode_utf8_all tail)

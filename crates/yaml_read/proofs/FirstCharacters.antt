@@ -9,14 +9,14 @@ use Rattle.yaml_read.proofs.Firsts.{AfterBackslash, by_letter, by_two, by_four, 
 none_some : (c : ℕ) → ◌≡◌ {A = Option ℕ} None (Some c) → ⊥
 none_some c is = cc
 
--- ---- behind a backslash
+-- ---- after a backslash
 
 some_by : (c : ℕ) (escape rest : Text) (bytes : List ℕ) → AfterBackslash c escape → bytes ≡ encode_utf8_all (escape ++ rest) → length bytes ≡ 0 → ⊥
 some_by c _ rest bytes (by_letter letter means) is none = not_empty bytes letter rest is none
 some_by c _ rest bytes (by_two own few) is none = not_empty bytes 120 (hex_digits 2 c ++ rest) is none
 some_by c _ rest bytes (by_four own more few) is none = not_empty bytes 117 (hex_digits 4 c ++ rest) is none
 
--- an escape goes on behind its backslash
+-- an escape goes on after its backslash
 pub escape_there : (c : ℕ) (rest : Text) (bytes : List ℕ) → all_scalars (c ∷ []) ≡ true → needs_escape true c ≡ true
     → bytes ≡ encode_utf8_all (escape_after_backslash (letter_among short_escapes c) c ++ rest) → length bytes ≡ 0 → ⊥
 escape_there c rest bytes scalar needs is none =
@@ -64,7 +64,7 @@ letter_by c _ rest letter bytes tail (by_two none few) is starts two four =
 letter_by c _ rest letter bytes tail (by_four none many few) is starts two four =
     absurd (four (first_is bytes tail letter 117 (hex_digits 4 c ++ rest) starts is).0)
 
--- a letter that stands for the character
+-- a letter that means the character
 pub letter_follows : (c : ℕ) (rest : Text) (letter : ℕ) (bytes tail : List ℕ) → all_scalars (c ∷ []) ≡ true → needs_escape true c ≡ true
     → bytes ≡ encode_utf8_all (escape_after_backslash (letter_among short_escapes c) c ++ rest) → bytes ≡ encode_utf8 letter ++ tail
     → (letter ≡ 120 → ⊥) → (letter ≡ 117 → ⊥) → (letter_meaning letter ≡ Some c) × (tail ≡ encode_utf8_all rest)

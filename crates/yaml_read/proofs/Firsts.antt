@@ -11,7 +11,7 @@ pub first_is : (bytes rest : List ℕ) (c d : ℕ) (text : Text) → bytes ≡ e
     → (c ≡ d) × (rest ≡ encode_utf8_all text)
 first_is bytes rest c d text is also = encode_same c d rest (encode_utf8_all text) (sym is ∙ also)
 
--- where a character stands, a text isn't empty
+-- a text that begins with a character isn't empty
 pub not_empty : (bytes : List ℕ) (d : ℕ) (text : Text) → bytes ≡ encode_utf8_all (d ∷ text) → length bytes ≡ 0 → ⊥
 not_empty bytes d text is none =
     absurd (omega (arith, ap length is, length-append (encode_utf8 d) (encode_utf8_all text), length-encode d, len_utf8_bounds d))

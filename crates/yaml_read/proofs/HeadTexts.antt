@@ -32,7 +32,7 @@ map_tail column (value_pairs_and pairs key value) rest =
     codes "{"
     ++ (line_at (column + 2) ++ (codes "? " ++ pairs_behind (column + 2) pairs key value (codes "," ++ (line_at column ++ (codes "}" ++ rest)))))
 
--- the text behind a value's tag, before a rest
+-- the text after a value's tag, before a rest
 abbrev pub value_tail : ℕ → TypedValue → Text → Text
 value_tail column null_value rest = codes "\"null\"" ++ rest
 value_tail column (bool_value b) rest = in_quotes (bool_text b) ++ rest
@@ -130,7 +130,7 @@ no_tag column value rest bytes is none =
     no_word (tag_word (kind_of value)) bytes (encode_utf8_all (value_tail column value rest)) (none (kind_of value))
     (is ∙ value_bytes column value rest ∙ ap (λ w. w ++ encode_utf8_all (value_tail column value rest)) (word_of_kind value))
 
--- ---- behind a list's or a map's tag
+-- ---- after a list's or a map's tag
 
 -- a list's text begins with a bracket
 pub list_bracket : (column : ℕ) (items : TypedValues) (rest : Text) (tail : List ℕ) → tail ≡ encode_utf8_all (list_tail column items rest)

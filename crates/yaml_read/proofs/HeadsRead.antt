@@ -31,7 +31,7 @@ bits_of_fits (negsuc n) fits = omega (arith, fits)
 pub digits_seen : {A : Type 0} (digits : String A) (n : ℤ) → mag n < 2 ^ 63 → string_bytes digits ≡ signed_decimal n → seen_text digits ≡ signed_decimal n
 digits_seen digits n few is = ap chars is ∙ chars-IsAscii (signed_decimal n) (IsAscii-signed n few)
 
--- behind a tag the rest of a value's text
+-- the rest of a value's text after a tag
 pub tagged_text : (bytes behind rest tail : List ℕ) (word written : Text) → are_ascii word ≡ true → bytes ≡ word ++ behind
     → behind ≡ encode_utf8_all written ++ rest → bytes ≡ encode_utf8_all (word ++ written) ++ rest
 tagged_text bytes behind rest tail word written h tagged is =

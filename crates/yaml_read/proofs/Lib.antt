@@ -46,3 +46,4 @@ pub mod TagBytes
 pub mod TagTexts
 pub mod TagPrefixes
 pub mod NodeTexts
+pub mod EventPlaces

@@ -34,7 +34,7 @@ pub letters_name : (name : Text) → list_all is_alpha name ≡ true → (length
 letters_name [] h some = absurd (true≢false some)
 letters_name (c ∷ name) h some = rw h refl
 
--- ---- the run of characters that may stand in a name
+-- ---- the run of characters that a name may have
 
 letters_first : (bytes : List ℕ) → list_all is_alpha (take (prefix_len is_alpha bytes) bytes) ≡ true
 letters_first [] = refl
@@ -55,7 +55,7 @@ name_boundary bytes size u is =
     (IsUtf8-from_ascii (take (prefix_len is_alpha bytes) bytes)
     (ascii_of (take (prefix_len is_alpha bytes) bytes) (name_ascii (take (prefix_len is_alpha bytes) bytes) (letters_first bytes)))))
 
--- it ends where no character of a name follows
+-- it ends if no character of a name follows
 no_letter : (bytes : List ℕ) (c : ℕ) (rest : List ℕ) → bytes ≡ encode_utf8 c ++ rest → is_alpha c ≡ false → prefix_len is_alpha bytes ≡ 0
 no_letter [] c rest is plain = refl
 no_letter (b ∷ bytes) c rest is plain = by (is_alpha b) refl
@@ -103,7 +103,7 @@ same_front (x ∷ xs) (y ∷ ys) rest more e h =
     let behind : xs ++ rest ≡ ys ++ more = cc in
     let both = same_front xs ys rest more behind (omega (arith, h)) in (ap (λ a. a ∷ xs) first ∙ ap (λ t. y ∷ t) both.0, both.1)
 
--- it is the name that stands there
+-- it is the name there
 pub name_found : (text name behind : List ℕ) (wanted rest : Text) → IsNameCut text name behind → alias_fault wanted ≡ None → ends_name rest ≡ true
     → text ≡ encode_utf8_all (wanted ++ rest) → (name ≡ wanted) × (behind ≡ encode_utf8_all rest)
 name_found text name behind wanted rest cut named ends is =
@@ -143,7 +143,7 @@ anchor_name name rest text inside cut is =
     append_cancel_left (codes "&") inside (encode_utf8_all (name ++ space ∷ rest))
     (sym cut ∙ is ∙ ap (λ t. encode_utf8_all (0x26 ∷ t)) (append_assoc name (space ∷ []) rest) ∙ word_encoded (codes "&") (name ++ space ∷ rest) refl)
 
--- what stands behind `&`
+-- the text after `&`
 pub record IsBehindMark (anchor : Option Text) (rest : Text) (inside : List ℕ) : Type 0 where
   pub name : Text
   pub is : Some name ≡ anchor
@@ -165,14 +165,14 @@ anchor_there (Some name) rest text inside named none cut is =
         by true e = refl
         by false e = cc
 
--- no anchor stands where `&` doesn't
+-- a text that doesn't begin with `&` begins with no anchor
 pub anchor_absent : (anchor : Option Text) (rest : Text) (text : List ℕ) → past_word (codes "&") text ≡ None
     → text ≡ encode_utf8_all (anchor_text anchor ++ rest) → (None ≡ anchor) × (text ≡ encode_utf8_all rest)
 anchor_absent None rest text none is = (refl, is)
 anchor_absent (Some name) rest text none is =
     absurd (no_word (codes "&") text _ none (is ∙ word_encoded (codes "&") ((name ++ space ∷ []) ++ rest) refl))
 
--- the space behind a name
+-- the space after a name
 pub space_there : (rest : Text) (behind : List ℕ) → behind ≡ encode_utf8_all (space ∷ rest) → past_word (codes " ") behind ≡ None → ⊥
 space_there rest behind is none = no_word (codes " ") behind (encode_utf8_all rest) none (is ∙ word_encoded (codes " ") rest refl)
 

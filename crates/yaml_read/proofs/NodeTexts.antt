@@ -15,7 +15,7 @@ use Rattle.yaml_read.proofs.{Encoded.word_encoded, TagBytes.same_first, Turns.cu
 use Rattle.yaml_read.specs.declared.errors.Stop.{Stop}
 use Rattle.yaml_read.specs.declared.errors.Stop.TheVariants as stop
 
--- an anchor, a tag and what stands behind them
+-- an anchor, a tag, and the text after them
 abbrev pub node_opening : Option Text → Text → Text → Text
 node_opening anchor tag written = anchor_text anchor ++ (tag_text (Some tag) false ++ written)
 
@@ -58,7 +58,7 @@ begins_by anchor tag _ _ named sound scalars mapping_opened = (
   append_assoc (anchor_text anchor) (tag_text (Some tag) false) (codes "{"),
 )
 
--- ---- behind a tag
+-- ---- after a tag
 
 first_differs : (a b : ℕ) (x y : List ℕ) → (a == b) ≡ false → a ∷ x ≡ b ∷ y → ⊥
 first_differs a b x y other is = true≢false (sym (ap (λ n. n == b) (same_first a b x y is).0 ∙ same b) ∙ other)
@@ -90,7 +90,7 @@ at_brace _ _ rest text inside sequence_opened is cut =
 at_brace _ _ rest text inside mapping_opened is cut =
     (refl, append_cancel_left (codes "{") inside (encode_utf8_all rest) (sym cut ∙ is ∙ word_encoded (codes "{") rest refl))
 
--- or a text between quotes stands there
+-- or a text between quotes follows
 pub record IsQuoted (held : Held) (rest : Text) (text : List ℕ) : Type 0 where
   pub value : Text
   pub is : scalar_held value any_style ≡ held
@@ -119,7 +119,7 @@ leading_tag tag rest sound =
     let mark = tag_mark tag (tag_text (Some tag) false) (is_spelled tag sound) in
     (mark.0 ++ rest, ap (λ t. encode_utf8_all (t ++ rest)) mark.1 ∙ word_encoded (codes "!") (mark.0 ++ rest) refl)
 
--- no anchor stands before it
+-- no anchor precedes it
 pub no_anchor_mark : (tag rest : Text) → tag_fault tag ≡ None → past_word (codes "&") (encode_utf8_all (tag_text (Some tag) false ++ rest)) ≡ None
 no_anchor_mark tag rest sound =
     let first = leading_tag tag rest sound in ap (past_word (codes "&")) first.1
@@ -142,7 +142,7 @@ opening_parts anchor tag written rest =
     append_assoc (anchor_text anchor) (tag_text (Some tag) false ++ written) rest
     ∙ ap (λ t. anchor_text anchor ++ t) (append_assoc (tag_text (Some tag) false) written rest)
 
--- an alias stands where `*` does
+-- an alias begins with `*`, and nothing else does
 pub record IsAliasOf (event : Event) (rest : Text) (inside : List ℕ) : Type 0 where
   pub name : Text
   pub is : alias name ≡ event
@@ -200,7 +200,7 @@ both_read first second text behind rest is also =
 
 -- ---- what was read
 
--- a scalar is what stands behind a tag, where no collection opens
+-- a scalar follows a tag if no collection opens
 pub held_read : (anchor : Option Text) (tag : Text) (text : List ℕ) (event : Event) (rest : List ℕ) → past_word (codes "[") text ≡ None
     → past_word (codes "{") text ≡ None → IsScalarRead anchor tag text event rest → IsHeldRead anchor tag text event rest
 held_read anchor tag text event rest none also read =
@@ -216,7 +216,7 @@ held_read anchor tag text event rest none also read =
           (ap (λ (v : Text). scalar_held v any_style) same.0 ∙ at.is, same.1);
     }
 
--- a tag, and what stands behind it
+-- a tag, and the text after it
 pub tagged_read : {A : Type 0} (tag : String A) (anchor : Option Text) (text behind rest : List ℕ) (event : Event)
     → (tag_fault (seen_text tag) ≡ None) × (text ≡ encode_utf8_all (tag_text (Some (seen_text tag)) false) ++ behind)
     → ((other after : Text) → tag_fault other ≡ None → all_scalars other ≡ true → text ≡ encode_utf8_all (tag_text (Some other) false ++ after)
@@ -241,12 +241,12 @@ tagged_read tag anchor text behind rest event sound one read =
           );
     }
 
--- an alias behind its `*`
+-- an alias after its `*`
 pub alias_read : (name : Text) (inside rest : List ℕ) → inside ≡ encode_utf8_all name ++ rest
     → codes "*" ++ inside ≡ encode_utf8_all (opening_text (alias name)) ++ rest
 alias_read name inside rest read = ap (λ t. 0x2A ∷ t) read ∙ ap (λ t. t ++ rest) (sym (word_encoded (codes "*") name refl))
 
--- an event with this anchor stands there; its tag, and what stands behind it
+-- an event with this anchor begins there; its tag, and the text after it
 pub record IsTaggedAt (anchor : Option Text) (event : Event) (rest : Text) (behind : List ℕ) : Type 0 where
   pub tag : Text
   pub held : Held
@@ -257,7 +257,7 @@ pub record IsTaggedAt (anchor : Option Text) (event : Event) (rest : Text) (behi
   pub has : HasHeldText held written
   pub stands : behind ≡ encode_utf8_all (tag_text (Some tag) false ++ (written ++ rest))
 
--- none has an anchor where no `&` stands first
+-- no event has an anchor if the text doesn't begin with `&`
 pub behind_none : (text : List ℕ) → past_word (codes "*") text ≡ None → past_word (codes "&") text ≡ None
     → (event : Event) (rest : Text) → BeginsNode event → ends_name rest ≡ true → text ≡ encode_utf8_all (opening_text event ++ rest)
     → IsTaggedAt None event rest text
@@ -275,7 +275,7 @@ behind_none text none also event rest begins ends is =
       stands = absent.1;
     }
 
--- behind `&` an anchor stands, and its tag behind a space
+-- an anchor follows `&`, and its tag follows a space
 pub record IsAnchoredAt (event : Event) (rest : Text) (inside : List ℕ) : Type 0 where
   pub name : Text
   pub named : alias_fault name ≡ None
@@ -306,7 +306,7 @@ behind_mark inside event rest begins is =
       };
     }
 
--- an anchor was read, and the space behind it
+-- an anchor was read, and the space after it
 pub behind_space : (name : Text) (inside behind after : List ℕ)
     → ((other rest : Text) → alias_fault other ≡ None → ends_name rest ≡ true → inside ≡ encode_utf8_all (other ++ rest)
     → (name ≡ other) × (behind ≡ encode_utf8_all rest))
@@ -330,7 +330,7 @@ no_space name inside behind one none event rest begins ends is =
     let at = behind_mark inside event rest begins is in
     space_there at.more behind (one at.name (space ∷ at.more) at.named refl at.stands).1 none
 
--- an anchor, if there is one, and what stands behind it
+-- an anchor, if there is one, and the text after it
 pub opening_read : (anchor : Option Text) (text behind rest : List ℕ) (event : Event) → IsAnchor anchor → text ≡ encode_utf8_all (anchor_text anchor) ++ behind
     → ((other : Event) (after : Text) → BeginsNode other → ends_name after ≡ true → text ≡ encode_utf8_all (opening_text other ++ after)
     → IsTaggedAt anchor other after behind)

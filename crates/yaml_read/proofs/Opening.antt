@@ -36,7 +36,7 @@ deeper_bytes levels word ascii =
 ascii_all : (word : Text) → are_ascii word ≡ true → encode_utf8_all word ≡ word
 ascii_all word h = ap encode_utf8_all (sym (append-nil word)) ∙ word_encoded word [] h ∙ append-nil word
 
--- behind a comma a line of the levels, and a word
+-- after a comma a line of the levels, and a word
 comma_line : (levels : List OpenLevel) (word : Text) → are_ascii word ≡ true
     → encode_utf8_all (codes "," ++ (line_at (column_in levels) ++ word)) ≡ codes "," ++ (line_at (length levels * 2) ++ word)
 comma_line levels word h =
@@ -225,7 +225,7 @@ value_out whole value bytes read cut =
     word_read whole bytes [] (codes "\n") (line_feed ∷ []) (value_text 0 value) read.text cut (ascii_all (codes "\n") refl)
     ∙ append-nil (encode_utf8_all (value_text 0 value ++ line_feed ∷ []))
 
--- where some text has been read up to a value, it has been read up to the value of what ended with it
+-- if some text has been read up to a value, it has been read up to the value of the list or map that ended with it
 pub record ReadsOn (before : List OpenLevel) (first : TypedValue) (text : List ℕ) (levels : List OpenLevel) (value : TypedValue) (bytes : List ℕ) : Type 0 where
   pub read : (whole : List ℕ) → HasRead whole before first text → HasRead whole levels value bytes
 
@@ -246,12 +246,12 @@ pub some_left : (bytes : List ℕ) (empty : Bool) → empty ≡ (length bytes ==
 some_left [] empty is off = absurd (true≢false (sym is ∙ off))
 some_left (c ∷ bytes) empty is off = omega arith
 
--- where a line's end is all that is left, it doesn't lack
+-- if a line's end is all that is left, it isn't missing
 pub end_there : (bytes : List ℕ) (error : Stop) → LacksEnd bytes error → bytes ≡ codes "\n" → ⊥
 end_there bytes error (no_end none place) is = no_word (codes "\n") bytes [] none is
 end_there bytes error (more_follows rest cut some place) is = absurd (omega (arith, some, ap length (cut_is (codes "\n") bytes rest [] cut is)))
 
--- a document's text behind its first line
+-- a document's text after its first line
 pub record TextOpen (text : List ℕ) (levels : List OpenLevel) (bytes : List ℕ) : Type 0 where
   pub whole : List ℕ
   pub text_is : text ≡ codes "---\n" ++ whole
@@ -265,7 +265,7 @@ pub text_read : (value : TypedValue) (text whole : List ℕ) → text ≡ codes 
 text_read value text whole is read =
     is ∙ ap (λ t. codes "---\n" ++ t) read ∙ sym (word_encoded (codes "---\n") (value_text 0 value ++ line_feed ∷ []) refl)
 
--- behind the outermost value stands a line's end
+-- a line's end follows the outermost value
 pub root_ends : (root value : TypedValue) (bytes : List ℕ) → IsRead root [] value bytes → (value ≡ root) × (bytes ≡ codes "\n")
 root_ends root value bytes read =
     let ends = by value read.rest read.completes in

@@ -81,7 +81,7 @@ words_apart : (read after : List (List ℕ)) (bytes rest : List ℕ) → bytes �
 words_apart read after bytes rest is =
     is ∙ ap (λ t. t ++ rest) (flat_map-append (λ (word : List ℕ). word) read after) ∙ append_assoc (flat read) (flat after) rest
 
--- where a word is missing in a node, and a list or a map may still be opened
+-- if a word is missing in a node, and a list or a map may still be opened
 pub node_place : (whole : List ℕ) (levels : List OpenLevel) (bytes : List ℕ) (left : ℕ) → IsOpen whole levels bytes → length levels < most_nested
     → BreaksOff (node (length levels)) bytes left → BeginsValue (take (length whole - left) whole)
 node_place whole levels bytes left opened room breaks =
@@ -106,7 +106,7 @@ node_place whole levels bytes left opened room breaks =
           ∙ append_assoc (flat breaks.read) after (encode_utf8_all closed.text)));
     }
 
--- where a word is missing behind a node
+-- if a word is missing after a node
 pub behind_place : (whole : List ℕ) (levels : List OpenLevel) (value : TypedValue) (bytes : List ℕ) (left : ℕ) → HasRead whole levels value bytes
     → BreaksOff (behind_value levels) bytes left → BeginsValue (take (length whole - left) whole)
 behind_place whole levels value bytes left read breaks =

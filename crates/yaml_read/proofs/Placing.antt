@@ -1,4 +1,4 @@
--- From where the bytes break off to the place of the error.
+-- From the place at which the bytes break off to the place of the error.
 use Rattle.yaml_base.proofs.Common.{ℕ, ◌-◌, None, List, [], ◌++◌, refl, ◌≡◌, subst, sym, inl, inr, codes, length}
 use Rattle.std.specs.Str.{IsUtf8, IsValidUpTo}
 use Rattle.yaml_read.specs.Places.{HasPlaceOf, IsHere, IsNotCanonicalAt, IsPlaced, StopsAt, StopsIn}
@@ -20,7 +20,7 @@ marker_stops bytes error none place =
       none = λ next after is. subst (λ (w : List ℕ). past_word w bytes ≡ None) (sym is.0) none;
     }))
 
--- behind a document's first line
+-- after a document's first line
 pub text_stops : (bytes whole : List ℕ) (error : Stop) → bytes ≡ codes "---\n" ++ whole → StopsIn whole error → StopsAt bytes error
 text_stops bytes whole (stop.Refused left) is stops = inr (whole, is, stops)
 text_stops bytes whole (stop.TooDeep left) is stops = (whole, is, stops)

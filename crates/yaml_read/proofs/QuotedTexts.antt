@@ -24,7 +24,7 @@ pub record Left (text rest : Text) (value bytes : List ℕ) : Type 0 where
 pub record ReadsOn (whole value bytes : List ℕ) : Type 0 where
   pub left : (text rest : Text) → all_scalars text ≡ true → whole ≡ encode_utf8_all (in_quotes text ++ rest) → Left text rest value bytes
 
--- behind the opening quote
+-- after the opening quote
 pub reads_first : (whole bytes : List ℕ) → whole ≡ codes "\"" ++ bytes → ReadsOn whole [] bytes
 reads_first whole bytes is =
     record {
@@ -84,7 +84,7 @@ scalar_first c b h = and_true _ (and_parts _ _ h).0
     and_true : (x : Bool) → x ≡ true → (x && true) ≡ true
     and_true x is = ap (λ y. y && true) is
 
--- a character is read where the text doesn't end
+-- a character is read if the text doesn't end
 pub left_next : (text rest : Text) (value bytes : List ℕ) (found : Option (ℕ × Bor (List ℕ))) → Left text rest value bytes
     → all_scalars text ≡ true → past_word (codes "\"") bytes ≡ None → ReadsCharacter bytes found
     → MatchOption found ⊥ (λ found. Left text rest (value ++ encode_utf8 found.0) found.1.now)

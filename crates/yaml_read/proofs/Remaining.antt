@@ -38,7 +38,7 @@ mutual
 pub readable_root : (value : TypedValue) → CanBeRead value → CanBeReadAt 0 value
 readable_root value readable = readable_at value 0 readable.bits readable.texts (omega (arith, readable.nested))
 
--- ---- the entries of a list and of a map, behind what leads to the first one
+-- ---- the entries of a list and of a map, after what leads to the first one
 
 abbrev pub items_behind : ℕ → TypedValues → TypedValue → Text → Text
 items_behind column no_values item rest = value_text column item ++ rest

@@ -58,7 +58,7 @@ properties_scalars : (anchor : Option Text) (tag : Text) (bare : Bool) → IsAnc
     → all_scalars (anchor_text anchor ++ tag_text (Some tag) bare) ≡ true
 properties_scalars anchor tag bare is = joined_scalars (anchor_text anchor) (tag_text (Some tag) bare) (anchor_scalars anchor is) (tag_scalars tag bare)
 
--- ---- what stands around a node
+-- ---- the text around a node
 
 line_scalars : (column : ℕ) (rest : Text) → all_scalars rest ≡ true → all_scalars (line_at column ++ rest) ≡ true
 line_scalars column rest h = joined_scalars (line_at column) rest (spaces_scalars column) h

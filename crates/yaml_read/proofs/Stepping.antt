@@ -1,4 +1,4 @@
--- From a node's tag on, and behind a value, up to the next node.
+-- From a node's tag on, and after a value, up to the next node.
 use Rattle.yaml_base.proofs.Common.{ℕ, ◌+◌, ◌*◌, ◌<◌, ◌≤◌, suc, None, List, [], ◌∷◌, ◌++◌, refl, ◌≡◌, ap, subst, sym, ◌∙◌, inl, inr, arith}
 use Rattle.yaml_base.proofs.Common.{append-nil, append_assoc, length, length-append, codes, encode_utf8_all, Text, Bool, true}
 use Rattle.yaml_base.specs.values.TypedValues.{TypedValue, list_value, map_value, no_values, no_value_pairs, most_nested, null_value, bool_value, bool_text}
@@ -35,12 +35,12 @@ use Rattle.yaml_read.specs.declared.levels.Next.TheVariants.{Done, Node}
 use Rattle.yaml_read.specs.declared.errors.Stop.TheVariants as stop
 use Rattle.yaml_read.specs.declared.heads.Kind.TheVariants as kind
 
--- less is left behind what begins no sooner
+-- less is left after something that begins no sooner
 pub next_less : {A : Type 0} (text rest : List ℕ) (next : Next A) → length rest ≤ length text → NextShorter rest next → NextShorter text next
 next_less text rest (Done value) less is = tt
 next_less text rest (Node after) less is = omega (arith, less, is)
 
--- less is left behind a word that isn't empty
+-- less is left after a word that isn't empty
 behind_tag_less : (k : Kind) (text behind : List ℕ) → text ≡ tag_word k ++ behind → length behind < length text
 behind_tag_less kind.Null text behind is = omega (arith, ap length is)
 behind_tag_less kind.Bool text behind is = omega (arith, ap length is)
@@ -275,7 +275,7 @@ no_list_steps A before after text behind error tagged (no_room inside is many pl
 twice : (n : ℕ) → n * 2 + 2 ≡ suc n * 2
 twice n = omega arith
 
--- nothing is due where no entry stands
+-- nothing is due if no entry follows
 no_entry_reached : (A : Type 0) (root : TypedValue) (before inner after : List OpenLevel) (lead inside : List ℕ) (error : Stop)
     → Opens root before inner lead inside → EntryLacks (suc (length before)) lead inside error → Reached {A = A} root after (Err error)
 no_entry_reached A root before inner after lead inside error opens (no_memory is) = subst (λ (e : Stop). Reached {A = A} root after (Err e)) (sym is) tt

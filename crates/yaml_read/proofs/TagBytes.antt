@@ -148,7 +148,7 @@ unread (b ∷ read) (d ∷ written) left rest few also ends is =
     let more = unread read written left rest one.1 other.1 ends first.1 in
     record { todo = more.todo; parts = ap (λ a. a ∷ (read ++ more.todo)) first.0 ∙ ap (λ t. d ∷ t) more.parts; left_is = more.left_is; bytes = more.bytes }
 
--- where none follows, all were read
+-- if none follows, all were read
 pub all_unread : (text read left : List ℕ) (value rest : Text) → text ≡ flat_map byte_in_tag read ++ left → are_bytes read ≡ true
     → ((byte : ℕ) (more : Text) → byte < 256 → left ≡ encode_utf8_all (byte_in_tag byte ++ more) → ⊥)
     → all_scalars value ≡ true → ends_tag rest ≡ true → text ≡ encode_utf8_all (percent_escaped value ++ rest)
@@ -194,14 +194,14 @@ byte_there byte rest text is none = by (is_tag_character byte) is
     by true is = not_empty text byte rest is none
     by false is = not_empty text percent_sign (hex_digits 2 byte ++ rest) is none
 
--- behind `%` stand two digits
+-- two digits follow `%`
 pub form_follows : (byte : ℕ) (rest : Text) (c : ℕ) (tail : List ℕ) → FirstOfByte byte rest c tail → c ≡ percent_sign
     → (is_tag_character byte ≡ false) × (tail ≡ encode_utf8_all (hex_digits 2 byte ++ rest))
 form_follows byte rest c tail (as_itself stands same behind) is =
     absurd (true≢false (sym stands ∙ ap is_tag_character (sym same ∙ is) ∙ no_percent))
 form_follows byte rest c tail (as_form other same behind) is = (other, behind)
 
--- another character stands for itself
+-- another character is written as itself
 pub itself_follows : (byte : ℕ) (rest : Text) (c : ℕ) (tail : List ℕ) → FirstOfByte byte rest c tail → (c ≡ percent_sign → ⊥)
     → (is_tag_character c ≡ true) × (c ≡ byte) × (tail ≡ encode_utf8_all rest)
 itself_follows byte rest c tail (as_itself stands same behind) is = (ap is_tag_character same ∙ stands, same, behind)

@@ -1,4 +1,4 @@
--- Bytes of a tag behind its prefix, as they are read.
+-- Bytes of a tag after its prefix, as they are read.
 use Rattle.yaml_base.proofs.Common.{ℕ, ◌<◌, true, List, [], ◌∷◌, ◌++◌, refl, ◌≡◌, ap, subst, sym, ◌∙◌, append-nil, append_assoc, chars, chars-encodes}
 use Rattle.yaml_base.proofs.Common.{flat_map, Text, encode_utf8_all, all_scalars, percent_escaped}
 use Rattle.yaml_base.{proofs.PercentLaws.are_bytes, proofs.AsciiWords.ascii_of, specs.Seen.seen_text}
@@ -27,7 +27,7 @@ word_more prefix text items more rest next byte read are starts below =
       parts = byte_more text rest next read.word (read.word ++ byte ∷ []) byte refl read.parts starts;
     }
 
--- where none follows, all were read
+-- if none follows, all were read
 pub word_whole : (prefix text items rest : List ℕ) (word end : Text) → WordSoFar prefix text items rest
     → ((byte : ℕ) (more : Text) → byte < 256 → rest ≡ encode_utf8_all (byte_in_tag byte ++ more) → ⊥) → all_scalars word ≡ true → ends_tag end ≡ true
     → text ≡ encode_utf8_all (percent_escaped word ++ end) → (items ≡ prefix ++ encode_utf8_all word) × (rest ≡ encode_utf8_all end)

@@ -1,4 +1,4 @@
--- How a tag is written, and read: verbatim, or behind a handle.
+-- How a tag is written, and read: verbatim, or after a handle.
 use Rattle.yaml_base.proofs.Common.{ℕ, ◌<◌, ◌==◌, ◌&&◌, [], ◌∷◌, ◌++◌, ◌≡◌, ◌∙◌, true≢false, if◌then◌else◌, Bool, true, false, not, Option, None, Some, List}
 use Rattle.yaml_base.proofs.Common.{refl, ap, subst, sym, arith, nat_tests, and_parts, append_assoc, codes, length, is_some, space, list_all, list_all-append}
 use Rattle.yaml_base.proofs.Common.{and_from, chars, chars-IsAscii, ne_eqb, nat_lt, ltb-true, Text, encode_utf8_all, all_scalars, percent_escaped, tag_fault}
@@ -13,7 +13,7 @@ use Rattle.yaml_read.{proofs.HeadsRead.word_bytes, proofs.Words.no_word, specs.W
 
 -- ---- how a tag is written
 
--- verbatim, or behind `!!` or `!`, with the space behind it
+-- verbatim, or after `!!` or `!`, with the space after it
 abbrev pub verbatim_text : Text → Text
 verbatim_text tag = codes "!<" ++ (percent_escaped tag ++ codes "> ")
 
@@ -88,7 +88,7 @@ document_bytes suffix = word_bytes (handle_text (codes "!") suffix) (ends_ascii 
 
 -- ---- what the first bytes tell
 
--- a handle's text behind its handle
+-- a handle's text after its handle
 behind_handle : (handle suffix rest : Text) → are_ascii handle ≡ true
     → encode_utf8_all (handle_text handle suffix ++ rest) ≡ handle ++ encode_utf8_all (percent_escaped suffix ++ space ∷ rest)
 behind_handle handle suffix rest ascii =
@@ -128,7 +128,7 @@ no_mark suffix end inside some is =
     let first = suffix_first suffix end some in
     true≢false (ap (λ n. n == 0x21) (sym (same_first first.0 0x21 first.1 inside (sym first.2 ∙ is)).0) ∙ written_is_no_exclamation first.0 first.3)
 
--- behind `!<` stands the whole tag
+-- the whole tag follows `!<`
 pub at_verbatim : (tag written rest : Text) (text inside : List ℕ) → IsSpelled tag written → text ≡ encode_utf8_all (written ++ rest)
     → text ≡ codes "!<" ++ inside → (stays_verbatim tag ≡ true) × (inside ≡ encode_utf8_all (percent_escaped tag ++ (codes "> " ++ rest)))
 at_verbatim tag _ rest text inside (whole stays) is cut = (stays, append_cancel_left (codes "!<") inside _ (sym cut ∙ is ∙ behind_verbatim tag rest))
@@ -142,14 +142,14 @@ at_verbatim tag _ rest text inside (of_document suffix some same) is cut =
     (append_cancel_left (codes "!") (encode_utf8_all (percent_escaped suffix ++ space ∷ rest)) (0x3C ∷ inside)
     (sym (is ∙ behind_handle (codes "!") suffix rest refl) ∙ cut)))
 
--- what stands behind a handle
+-- the text after a handle
 pub record IsSuffix (prefix tag rest : Text) (inside : List ℕ) : Type 0 where
   pub suffix : Text
   pub some : 0 < length suffix
   pub is : prefix ++ suffix ≡ tag
   pub text : inside ≡ encode_utf8_all (percent_escaped suffix ++ space ∷ rest)
 
--- behind `!!`
+-- after `!!`
 pub at_type : (tag written rest : Text) (text inside : List ℕ) → IsSpelled tag written → text ≡ encode_utf8_all (written ++ rest)
     → past_word (codes "!<") text ≡ None → text ≡ codes "!!" ++ inside → IsSuffix type_prefix tag rest inside
 at_type tag _ rest text inside (whole stays) is none cut = absurd (no_word (codes "!<") text _ none (is ∙ behind_verbatim tag rest))
@@ -165,7 +165,7 @@ at_type tag _ rest text inside (of_document suffix some same) is none cut =
     (append_cancel_left (codes "!") (encode_utf8_all (percent_escaped suffix ++ space ∷ rest)) (0x21 ∷ inside)
     (sym (is ∙ behind_handle (codes "!") suffix rest refl) ∙ cut)))
 
--- behind `!`
+-- after `!`
 pub at_document : (tag written rest : Text) (text inside : List ℕ) → IsSpelled tag written → text ≡ encode_utf8_all (written ++ rest)
     → past_word (codes "!<") text ≡ None → past_word (codes "!!") text ≡ None → text ≡ codes "!" ++ inside → IsSuffix (codes "!") tag rest inside
 at_document tag _ rest text inside (whole stays) is none also cut = absurd (no_word (codes "!<") text _ none (is ∙ behind_verbatim tag rest))
@@ -186,7 +186,7 @@ tag_there tag _ rest text (whole stays) is none = no_word (codes "!") text _ non
 tag_there tag _ rest text (of_type suffix some same) is none = no_word (codes "!") text _ none (is ∙ behind_handle (codes "!!") suffix rest refl)
 tag_there tag _ rest text (of_document suffix some same) is none = no_word (codes "!") text _ none (is ∙ behind_handle (codes "!") suffix rest refl)
 
--- a suffix is of scalar values where its tag is
+-- a suffix is of scalar values if its tag is
 pub suffix_scalars : (prefix tag suffix : Text) → prefix ++ suffix ≡ tag → all_scalars tag ≡ true → all_scalars suffix ≡ true
 suffix_scalars prefix tag suffix is scalars = scalars_behind prefix suffix (ap all_scalars is ∙ scalars)
 
@@ -200,7 +200,7 @@ behind_prefix (p ∷ prefix) rest =
     same : (p : ℕ) → (p == p) ≡ true
     same p = grind (arith, nat_tests)
 
--- a text of bytes has a character where it has a byte
+-- a text of bytes has a character if it has a byte
 pub some_text : (bytes : List ℕ) → IsUtf8 bytes → is_some (behind [] (chars bytes)) ≡ not (length bytes == 0)
 some_text bytes utf8 = by (chars bytes) (encodes-chars bytes utf8)
   where
@@ -208,7 +208,7 @@ some_text bytes utf8 = by (chars bytes) (encodes-chars bytes utf8)
     by [] is = ap (λ (t : List ℕ). not (length t == 0)) is
     by (c ∷ text) is = ap not (sym (ne_eqb (length bytes) 0 (λ none. not_empty bytes c text (sym is) none)))
 
--- the characters behind a prefix of ASCII
+-- the characters after a prefix of ASCII
 pub chars_behind : (prefix rest : List ℕ) → are_ascii prefix ≡ true → chars (prefix ++ rest) ≡ prefix ++ chars rest
 chars_behind prefix rest ascii =
     let is_ascii = ascii_of prefix ascii in
@@ -325,7 +325,7 @@ suffix_some prefix tag suffix is goes = by suffix (sym (ap is_some (behind_prefi
     by [] goes = absurd (true≢false (sym goes))
     by (c ∷ suffix) goes = omega arith
 
--- a tag where its handle stands
+-- a tag if its handle is there
 pub record IsWordAt (prefix end tag rest : Text) (inside : List ℕ) : Type 0 where
   pub word : Text
   pub is : prefix ++ word ≡ tag
@@ -344,7 +344,7 @@ word_at tag written rest text _ _ inside (opens_document _ none also cut) spelle
     let at = at_document tag written rest text inside spelled is none also cut in
     record { word = at.suffix; is = at.is; spelled = goes_behind (codes "!") tag at.suffix at.is at.some; text = at.text }
 
--- a tag that was read behind its handle
+-- a tag that was read after its handle
 pub tag_sound : (tag word : Text) (text prefix end inside rest : List ℕ) → OpensTag text prefix end inside → tag ≡ prefix ++ word
     → is_spelled_by prefix tag ≡ true → inside ≡ percent_escaped word ++ (end ++ rest)
     → (tag_fault tag ≡ None) × (text ≡ encode_utf8_all (tag_text (Some tag) false) ++ rest)

@@ -16,7 +16,7 @@ use Rattle.yaml_read.{specs.Heads.tag_word, specs.Readable.CanBeReadAt, proofs.B
 use Rattle.yaml_read.{specs.TextsAndWords.BeginsWith, specs.declared.heads.Kind.Kind, proofs.Remaining.items_behind, proofs.Remaining.pairs_behind}
 use Rattle.yaml_read.specs.declared.heads.Kind.TheVariants as kind
 
--- ---- words behind one another
+-- ---- words one after another
 
 nothing_goes : (bytes : List ℕ) → BeginsWith nothing bytes
 nothing_goes bytes = record { words = []; rest = bytes; are = tt; parts = refl }
@@ -52,7 +52,7 @@ line_goes depth More bytes rest is goes =
     word_goes (levels_then depth More) (codes "\n") bytes (replicate (depth * 2) space ++ rest) is
     (levels_go depth More (replicate (depth * 2) space ++ rest) rest refl goes)
 
--- ---- behind a tag
+-- ---- after a tag
 
 characters_go : (text rest : Text) → all_scalars text ≡ true
     → BeginsWith characters (encode_utf8_all ((flat_map (character_text true) text ++ quote ∷ []) ++ rest))
@@ -168,11 +168,11 @@ node_goes levels (text_value text) rest readable = tail_goes levels kind.Text (t
 node_goes levels (list_value items) rest readable = tail_goes levels kind.List (list_value items) rest refl (list_goes levels items rest readable.0)
 node_goes levels (map_value pairs) rest readable = tail_goes levels kind.Map (map_value pairs) rest refl (map_goes levels pairs rest readable.0)
 
--- where a value's text has a node, words of a node stand there
+-- if a value's text has a node, it has words of a node there
 pub due_words : (root : TypedValue) (levels : List OpenLevel) (bytes : List ℕ) → IsDue root levels bytes → BeginsWith (node (length levels)) bytes
 due_words root levels bytes due = subst (BeginsWith (node (length levels))) (sym due.text) (node_goes levels due.value due.rest due.readable)
 
--- ---- behind a node
+-- ---- after a node
 
 lead_goes : (lead end : List ℕ) (Due Read : List ℕ → Type 0) (tail : List ℕ) → Leads lead end Due Read tail
     → BeginsWith (these_or_those (word_then lead nothing) (word_then end nothing)) tail
@@ -189,7 +189,7 @@ entry_goes lead end Due Read depth bytes ends =
     (line_goes depth (these_or_those (word_then lead nothing) (word_then end nothing)) (line_at (depth * 2) ++ ends.tail) ends.tail refl
     (lead_goes lead end Due Read ends.tail ends.leads))
 
--- where a value's text goes on behind a node, it goes on with the words that may stand there
+-- if a value's text goes on after a node, it goes on with the words that may come there
 pub read_words : (root : TypedValue) (levels : List OpenLevel) (value : TypedValue) (bytes : List ℕ) → IsRead root levels value bytes
     → BeginsWith (behind_value levels) bytes
 read_words root [] value bytes read = word_goes nothing (codes "\n") bytes [] (text_ended root value bytes read).1 (nothing_goes [])

@@ -8,7 +8,7 @@ use Rattle.yaml_base.specs.values.ValueText.{in_quotes, line_at}
 use Rattle.yaml_read.specs.EventTexts.{Pending, HasRunText, event_text, item_awaited, key_awaited, lead_text, may_come, more_come, next_awaited, next_open}
 use Rattle.yaml_read.specs.EventTexts.{left_open, root_ends, trail_text, value_awaited}
 
--- what may follow a node: nothing behind the root, else a run
+-- what may follow a node: nothing after the root, else a run
 abbrev pub FollowsNode : List Pending → List Event → Text → Type 0
 FollowsNode [] more rest = (more ≡ []) × (rest ≡ [])
 FollowsNode (awaited ∷ outer) more rest = HasRunText (next_awaited awaited ∷ outer) more rest
@@ -23,7 +23,7 @@ ends_node levels [] event more rest text may after is follows =
 ends_node levels (awaited ∷ outer) event more rest text may after is follows =
     more_come levels (next_awaited awaited ∷ outer) event more rest text may after is follows
 
--- an event that begins a collection, and what follows up to and behind its end
+-- an event that begins a collection, and what follows up to its end and after it
 begins_node : (levels : List Pending) (awaited : Pending) (first last : Event) (inside more : List Event) (rest text : Text) → may_come levels first ≡ true
     → next_open levels first ≡ Some (awaited ∷ levels) → text ≡ event_text levels first ++ rest
     → HasRunText (awaited ∷ levels) (inside ++ last ∷ more) rest

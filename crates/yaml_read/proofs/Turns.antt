@@ -36,7 +36,7 @@ pub line_deeper : (n : ℕ) (text : List ℕ) → line_at (n + 2) ++ text ≡ li
 line_deeper n text =
     ap (λ t. (line_feed ∷ t) ++ text) (sym (replicate-append-replicate n 2 space)) ∙ append_assoc (line_at n) (codes "  ") text
 
--- ---- behind an entry
+-- ---- after an entry
 
 -- another entry is due, or the list or map is read
 abbrev pub EntryReached : (Due Read : List ℕ → Type 0) → Result Entry Stop → Type 0
@@ -44,7 +44,7 @@ EntryReached Due Read (Ok (Another rest)) = Due rest.now
 EntryReached Due Read (Ok (End rest)) = Read rest.now
 EntryReached Due Read (Err stop) = ⊥
 
--- what stands where an entry ends: the lead of another one, or the end
+-- the text at the end of an entry: the lead of another one, or the end
 pub data Leads (lead end : List ℕ) (Due Read : List ℕ → Type 0) (tail : List ℕ) : Type 0 where
   leads_on : (rest : List ℕ) → tail ≡ lead ++ rest → Due rest → Leads lead end Due Read tail
   leads_out : (rest : List ℕ) → tail ≡ end ++ rest → past_word lead tail ≡ None → Read rest → Leads lead end Due Read tail
@@ -58,7 +58,7 @@ entry_reached lead end Due Read tail (Ok (End rest)) (leads_out next is none rea
 entry_reached lead end Due Read tail (Err stop) (leads_on next is due) found = absurd (no_word lead tail next found.0 is)
 entry_reached lead end Due Read tail (Err stop) (leads_out next is none read) found = absurd (no_word end tail next found.1 is)
 
--- the bytes behind an entry: a comma, a line of the list's or map's depth, and what stands there
+-- the bytes after an entry: a comma, a line of the list's or map's depth, and the text there
 pub record EntryEnds (lead end : List ℕ) (Due Read : List ℕ → Type 0) (depth : ℕ) (bytes : List ℕ) : Type 0 where
   pub tail : List ℕ
   pub bytes_are : bytes ≡ codes "," ++ (line_at (depth * 2) ++ tail)
@@ -96,7 +96,7 @@ item_ends_by root levels items value bytes text is (list_ends _ _ _ rest _ text_
     (leads_out (encode_utf8_all rest) (word_encoded (codes "]") rest refl) (ap (past_word (codes "  ")) (word_encoded (codes "]") rest refl))
     (record { rest = rest; text = refl; completes = completes }))
 
--- behind an item
+-- after an item
 pub item_ends : (root : TypedValue) (levels : List OpenLevel) (items : TypedValues) (value : TypedValue) (bytes : List ℕ)
     → IsRead root (items_open items ∷ levels) value bytes
     → EntryEnds (codes "  ") (codes "]") (IsDue root (items_open (values_and items value) ∷ levels)) (IsRead root levels (list_value (values_and items value)))
@@ -120,14 +120,14 @@ pair_ends_by root levels pairs key value bytes text is (map_ends _ _ _ _ rest _ 
     (leads_out (encode_utf8_all rest) (word_encoded (codes "}") rest refl) (ap (past_word (codes "  ? ")) (word_encoded (codes "}") rest refl))
     (record { rest = rest; text = refl; completes = completes }))
 
--- behind the value of a pair
+-- after the value of a pair
 pub pair_ends : (root : TypedValue) (levels : List OpenLevel) (pairs : TypedPairs) (key value : TypedValue) (bytes : List ℕ)
     → IsRead root (value_due pairs key ∷ levels) value bytes
     → EntryEnds (codes "  ? ") (codes "}") (IsDue root (pairs_open (value_pairs_and pairs key value) ∷ levels))
     (IsRead root levels (map_value (value_pairs_and pairs key value))) (length levels) bytes
 pair_ends root levels pairs key value bytes read = pair_ends_by root levels pairs key value bytes read.rest read.text read.completes
 
--- behind a key
+-- after a key
 pub record KeyEnds (root : TypedValue) (levels : List OpenLevel) (pairs : TypedPairs) (key : TypedValue) (bytes : List ℕ) : Type 0 where
   pub tail : List ℕ
   pub bytes_are : bytes ≡ line_at (length levels * 2) ++ (codes "  : " ++ tail)
@@ -162,7 +162,7 @@ text_ended root value bytes read = by read.rest read.text read.completes
 
 -- ---- into a list or a map
 
--- behind its bracket
+-- after its bracket
 pub record Opens (root : TypedValue) (levels inner : List OpenLevel) (lead inside : List ℕ) : Type 0 where
   pub deep : length levels < most_nested
   pub tail : List ℕ
@@ -252,11 +252,11 @@ root_due value bytes readable is = (
 pub record TextDue (whole : List ℕ) (levels : List OpenLevel) (bytes : List ℕ) : Type 0 where
   pub due : (value : TypedValue) → CanBeRead value → whole ≡ encode_utf8_all (document_text value) → IsDue value levels bytes
 
--- what a text behind a value leaves, where that value was given to the lists and maps that end
+-- the rest of a text after a value that was given to the lists and maps that end
 pub record GoesOn (before : List OpenLevel) (first : TypedValue) (text : List ℕ) (levels : List OpenLevel) (value : TypedValue) (bytes : List ℕ) : Type 0 where
   pub read : (root : TypedValue) → IsRead root before first text → IsRead root levels value bytes
 
--- behind the bracket stands an entry
+-- an entry follows the bracket
 pub into : (root : TypedValue) (levels inner new : List OpenLevel) (lead inside word next : List ℕ) → Opens root levels inner lead inside
     → word ≡ line_at (length levels * 2 + 2) ++ lead → inside ≡ word ++ next → new ≡ inner → IsDue root new next
 into root levels inner new lead inside word next opens is cut same =
@@ -265,7 +265,7 @@ into root levels inner new lead inside word next opens is cut same =
     subst (λ (l : List OpenLevel). IsDue root l next) (sym same)
     (subst (IsDue root inner) (sym (cut_is word inside next opens.tail cut there)) opens.due)
 
--- what an entry comes to, by what a function found behind it
+-- the result for an entry, by the answer of the function that read on after it
 pub reached_at : (lead end : List ℕ) (Due Read : List ℕ → Type 0) (depth n : ℕ) (bytes : List ℕ) (entry : Result Entry Stop)
     → EntryEnds lead end Due Read n bytes → depth ≡ n
     → ((tail : List ℕ) → bytes ≡ codes "," ++ (line_at (depth * 2) ++ tail) → EntryFound lead end tail entry) → EntryReached Due Read entry
@@ -287,7 +287,7 @@ turn_error A root levels inner stop.Memory is = tt
 turn_error A root levels inner (stop.Refused n) is = is
 turn_error A root levels inner (stop.TooDeep n) is = is
 
--- what stands behind the last item of a list
+-- the text after the last item of a list
 pub item_reached : (root : TypedValue) (levels : List OpenLevel) (items : TypedValues) (item : TypedValue) (depth : ℕ) (text : List ℕ)
     (entry : Result Entry Stop) → depth ≡ length levels → IsRead root (items_open items ∷ levels) item text
     → ((tail : List ℕ) → text ≡ codes "," ++ (line_at (depth * 2) ++ tail) → EntryFound (codes "  ") (codes "]") tail entry)
@@ -296,7 +296,7 @@ item_reached root levels items item depth text entry is read found =
     reached_at (codes "  ") (codes "]") (IsDue root (items_open (values_and items item) ∷ levels))
     (IsRead root levels (list_value (values_and items item))) depth (length levels) text entry (item_ends root levels items item text read) is found
 
--- what stands behind the last pair of a map
+-- the text after the last pair of a map
 pub pair_reached : (root : TypedValue) (levels : List OpenLevel) (pairs : TypedPairs) (key value : TypedValue) (depth : ℕ) (text : List ℕ)
     (entry : Result Entry Stop) → depth ≡ length levels → IsRead root (value_due pairs key ∷ levels) value text
     → ((tail : List ℕ) → text ≡ codes "," ++ (line_at (depth * 2) ++ tail) → EntryFound (codes "  ? ") (codes "}") tail entry)
@@ -306,7 +306,7 @@ pair_reached root levels pairs key value depth text entry is read found =
     (IsRead root levels (map_value (value_pairs_and pairs key value))) depth (length levels) text entry
     (pair_ends root levels pairs key value text read) is found
 
--- what stands behind a key
+-- the text after a key
 pub key_bytes : (root : TypedValue) (levels : List OpenLevel) (pairs : TypedPairs) (key : TypedValue) (depth : ℕ) (text : List ℕ)
     → depth ≡ length levels → (ends : KeyEnds root levels pairs key text) → text ≡ line_at (depth * 2) ++ (codes "  : " ++ ends.tail)
 key_bytes root levels pairs key depth text is ends = ends.bytes_are ∙ ap (λ n. line_at (n * 2) ++ (codes "  : " ++ ends.tail)) (sym is)
@@ -317,7 +317,7 @@ pub whole_read : (root value : TypedValue) (levels : List OpenLevel) (bytes rest
 whole_read root value levels bytes rest due is =
     record { rest = due.rest; text = is.1; completes = subst (λ value. Completes root levels value due.rest) (sym is.0) due.completes }
 
--- behind a document's first line its value is due
+-- after a document's first line its value is due
 pub text_due : (whole bytes : List ℕ) → whole ≡ codes "---\n" ++ bytes → TextDue whole [] bytes
 text_due whole bytes cut =
     record {

@@ -16,7 +16,7 @@ use Rattle.yaml_read.specs.declared.heads.Kind.TheVariants as kind
 abbrev pub flat : List (List ℕ) → List ℕ
 flat words = flat_map (λ word. word) words
 
--- ---- words behind one another
+-- ---- words one after another
 
 no_more : (words : List (List ℕ)) → nothing words → flat words ≡ []
 no_more [] ends = refl
@@ -26,7 +26,7 @@ pub one_word : (word : List ℕ) (words : List (List ℕ)) → word_then word no
 one_word word [] are = absurd are
 one_word word (first ∷ words) are = ap (λ t. first ++ t) (no_more words are.1) ∙ append-nil first ∙ are.0
 
--- words behind a line
+-- words after a line
 pub record LineWords (More : List (List ℕ) → Type 0) (lead : List ℕ) (words : List (List ℕ)) : Type 0 where
   pub more : List (List ℕ)
   pub are : More more
@@ -52,7 +52,7 @@ line_words depth More (word ∷ words) are =
     let inner = levels_words depth More words are.1 in
     record { more = inner.more; are = inner.are; is = ap (λ w. w ++ flat words) are.0 ∙ ap (λ t. codes "\n" ++ t) inner.is }
 
--- ---- behind a tag
+-- ---- after a tag
 
 record TextOf (opens : Text) (words : List (List ℕ)) : Type 0 where
   pub text : Text
@@ -96,7 +96,7 @@ truth_words : (words : List (List ℕ)) → truth words → (b : Bool) × (flat 
 truth_words words (inl are) = (true, one_word (codes "\"true\"") words are ∙ sym (word_bytes (codes "\"true\"") refl))
 truth_words words (inr are) = (false, one_word (codes "\"false\"") words are ∙ sym (word_bytes (codes "\"false\"") refl))
 
--- a value whose text goes on so behind its tag
+-- a value whose text goes on so after its tag
 record TailBegins (levels : List OpenLevel) (k : Kind) (words : List (List ℕ)) : Type 0 where
   pub value : TypedValue
   pub readable : CanBeReadAt (length levels) value
@@ -210,7 +210,7 @@ tail_words levels kind.Map (word ∷ words) room are =
 
 -- ---- nodes
 
--- words of a node begin the text of a value, where a list or a map may still be opened
+-- words of a node begin the text of a value if a list or a map may still be opened
 pub node_words : (levels : List OpenLevel) (words : List (List ℕ)) → length levels < most_nested → node (length levels) words → BeginsText levels words
 node_words levels [] room are = absurd are.1
 node_words levels (word ∷ words) room are =

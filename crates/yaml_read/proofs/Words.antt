@@ -23,7 +23,7 @@ behind_takes (w ∷ word) (c ∷ text) rest is = by (c == w) refl is (behind_tak
     by true e is more = ap (λ d. d ∷ text) (eqb-true c w e) ∙ ap (λ t. w ∷ t) (more is)
     by false e is more = cc
 
--- one word behind another
+-- one word after another
 pub behind_both : (first second text : List ℕ) → past_word (first ++ second) text ≡ option_and_then (past_word second) (past_word first text)
 behind_both [] second text = refl
 behind_both (w ∷ first) second [] = refl
@@ -34,7 +34,7 @@ behind_both (w ∷ first) second (c ∷ text) = by (c == w) (behind_both first s
     by true more = more
     by false more = refl
 
--- what doesn't stand first isn't found
+-- a word that isn't first isn't found
 pub absent : (word text : List ℕ) → ((rest : List ℕ) → text ≡ word ++ rest → ⊥) → past_word word text ≡ None
 absent word text lacks = by (past_word word text) refl
   where
@@ -42,14 +42,14 @@ absent word text lacks = by (past_word word text) refl
     by None is = refl
     by (Some rest) is = absurd (lacks rest (behind_takes word text rest is))
 
--- what isn't found doesn't stand first
+-- a word that isn't found isn't first
 pub no_word : (word text rest : List ℕ) → past_word word text ≡ None → text ≡ word ++ rest → ⊥
 no_word word text rest none is = absurd (apart (sym none ∙ ap (past_word word) is ∙ behind_word word rest))
   where
     apart : ◌≡◌ {A = Option (List ℕ)} None (Some rest) → ⊥
     apart e = cc
 
--- a longer word isn't found where its rest isn't found behind its beginning
+-- a longer word isn't found if its rest isn't found after its beginning
 pub longer_none : (first second text rest : List ℕ) → text ≡ first ++ rest → past_word second rest ≡ None → past_word (first ++ second) text ≡ None
 longer_none first second text rest is none =
     behind_both first second text ∙ ap (option_and_then (past_word second)) (ap (past_word first) is ∙ behind_word first rest) ∙ none
@@ -84,7 +84,7 @@ spaces_lack level depth text rest is below none =
         ap (λ t. replicate (level * 2) space ++ t) (replicate-append-replicate 2 ((depth - level - 1) * 2) space)
         ∙ replicate-append-replicate (level * 2) (2 + (depth - level - 1) * 2) space ∙ ap (λ n. replicate n space) sums
 
--- one cut behind another
+-- one cut after another
 pub cuts_behind : (first second text rest : List ℕ) (result : Result (Bor (List ℕ)) Stop) → text ≡ first ++ rest → Cuts second rest result
     → Cuts (first ++ second) text result
 cuts_behind first second text rest (Ok found) is cut = is ∙ ap (λ t. first ++ t) cut ∙ sym (append_assoc first second found.now)

@@ -1,4 +1,4 @@
--- Behind nodes the words of the grammar go on in texts of values.
+-- After nodes the words of the grammar go on in texts of values.
 use Rattle.yaml_base.proofs.Common.{ℕ, ◌+◌, ◌*◌, [], ◌∷◌, ◌++◌, ◌≡◌, ◌∙◌, ◌⊎◌, List, refl, ap, sym, inl, inr, append_assoc, codes, length, line_feed}
 use Rattle.yaml_base.specs.values.TypedValues.{TypedValue, TypedValues, TypedPairs, list_value, map_value, null_value, value_pairs_and, values_and}
 use Rattle.yaml_base.{proofs.Common.encode_utf8_all, proofs.Common.Text, specs.values.ValueText.line_at, specs.values.ValueText.value_text}
@@ -60,7 +60,7 @@ entry_words depth lead end (word ∷ words) are =
     let line = line_words depth (these_or_those (word_then lead nothing) (word_then end nothing)) words are.1 in
     entry_by depth lead end word words line.more are.0 line.is line.are
 
--- a word behind an entry's line
+-- a word after an entry's line
 word_behind : (line word rest text : List ℕ) (words : List (List ℕ)) → text ≡ codes "," ++ (line ++ (word ++ rest)) → flat words ≡ codes "," ++ (line ++ word)
     → text ≡ flat words ++ rest
 word_behind line word rest text words is are = is ∙ regroup line word rest ∙ ap (λ t. t ++ rest) (sym are)
@@ -143,7 +143,7 @@ behind_key levels pairs key words line =
           ∙ ap (λ t. t ++ encode_utf8_all next) (sym (line.is ∙ ap (λ t. line_at (length levels * 2) ++ t) (one_word (codes "  : ") line.more line.are)));
     }
 
--- behind a value that has its place a text goes on with any words that may stand there
+-- after a value that has its place a text goes on with any words that may come there
 pub behind_words : (levels : List OpenLevel) (value : TypedValue) (words : List (List ℕ)) → behind_value levels words → GoesOnWith levels value words
 behind_words [] value words are =
     record {

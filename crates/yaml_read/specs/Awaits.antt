@@ -28,17 +28,17 @@ awaits_onto outer (awaited ∷ awaits) = awaits_onto (seen_await awaited ∷ out
 abbrev pub seen_awaits : List Await → List Pending
 seen_awaits awaits = awaits_onto [] awaits
 
--- this one stands last in the code's list
+-- this one is the last in the code's list
 pub record IsLastAwait (awaited : Await) (awaits : List Await) : Type 0 where
   pub outer : List Await
   pub is : awaits ≡ outer ++ awaited ∷ []
 
--- this one is the innermost; none where nothing is open
+-- this one is the innermost; none if nothing is open
 abbrev pub IsInnermostAwait : List Pending → Option Await → Type 0
 IsInnermostAwait levels None = levels ≡ []
 IsInnermostAwait levels (Some awaited) = (outer : List Pending) × (levels ≡ seen_await awaited ∷ outer)
 
--- ---- what stands before an event
+-- ---- the text before an event
 
 -- the innermost collection may end
 abbrev pub can_end : List Pending → Bool
@@ -54,13 +54,13 @@ closing_event (item_awaited empty ∷ outer) = sequence_end
 closing_event (key_awaited empty ∷ outer) = mapping_end
 closing_event (value_awaited ∷ outer) = mapping_end
 
--- one of two words stands first, and this follows it; or neither does
+-- the text begins with one of two words, and this follows it; or with neither
 abbrev pub EntryStands : (lead end text : List ℕ) → Result Entry Stop → Type 0
 EntryStands lead end text (Ok (Another rest)) = text ≡ lead ++ rest.now
 EntryStands lead end text (Ok (End rest)) = text ≡ end ++ rest.now
 EntryStands lead end text (Err error) = (past_word lead text ≡ None) × (past_word end text ≡ None)
 
--- what leads to a node stands first, or the end of the innermost collection, and this follows it; or neither does
+-- the text begins with what leads to a node, or with the end of the innermost collection, and this follows it; or with neither
 abbrev pub LeadStands : List Pending → (text : List ℕ) → Result Entry Stop → Type 0
 LeadStands levels text (Ok (Another rest)) = text ≡ lead_text levels ++ rest.now
 LeadStands levels text (Ok (End rest)) = (can_end levels ≡ true) × (text ≡ closing_text levels ++ rest.now)

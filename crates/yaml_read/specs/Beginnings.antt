@@ -29,7 +29,7 @@ pub record IsNameRead (text : List ℕ) (name : Text) (rest : List ℕ) : Type 0
 abbrev pub NoName : (text : List ℕ) → Type 0
 NoName text = (name rest : Text) → alias_fault name ≡ None → ends_name rest ≡ true → text ≡ encode_utf8_all (name ++ rest) → ⊥
 
--- percent forms up to where none follows, behind the prefix that their tag's handle stands for
+-- percent forms up to a text that begins with none, after the prefix for their tag's handle
 pub record IsEscapedRead (prefix : Text) (text : List ℕ) (value : Text) (rest : List ℕ) : Type 0 where
   pub word : Text
   pub is : value ≡ prefix ++ word
@@ -41,7 +41,7 @@ abbrev pub NoEscaped : (text : List ℕ) → Type 0
 NoEscaped text =
     (word rest : Text) → all_scalars word ≡ true → ends_tag rest ≡ true → text ≡ encode_utf8_all (percent_escaped word ++ rest) → ⊥
 
--- a tag and the space behind it
+-- a tag and the space after it
 pub record IsTagRead (text : List ℕ) (tag : Text) (rest : List ℕ) : Type 0 where
   pub sound : tag_fault tag ≡ None
   pub parts : text ≡ encode_utf8_all (tag_text (Some tag) false) ++ rest
@@ -60,7 +60,7 @@ pub record IsScalarRead (anchor : Option Text) (tag : Text) (text : List ℕ) (e
   pub only : (other after : Text) → all_scalars other ≡ true → text ≡ encode_utf8_all (in_quotes other ++ after)
       → (value ≡ other) × (rest ≡ encode_utf8_all after)
 
--- what stands behind such a node's tag
+-- the text after such a node's tag
 pub record IsHeldRead (anchor : Option Text) (tag : Text) (text : List ℕ) (event : Event) (rest : List ℕ) : Type 0 where
   pub held : Held
   pub written : Text

@@ -1,4 +1,4 @@
--- Why bytes are not read as a document, and where.
+-- The reasons why bytes are not read as a document, and their places.
 use Rattle.std.specs.Prelude.{ℕ, ◌-◌, ◌≡◌, ◌≢◌, ◌⊎◌, None, Result, Ok, Err, IfErr, IfOk, List, Vec, [], ◌∷◌, ◌++◌, All, codes, length, map}
 use Rattle.std.specs.Str.{IsUtf8, IsValidUpTo, encode_utf8_all}
 use Rattle.yaml_base.specs.Characters.{Text, line_feed}
@@ -33,7 +33,7 @@ pub record AreEventsOf (bytes : List ℕ) (all : List Event) : Type 0 where
   pub whole : all ≡ in_document events
   pub run : AreRunBytes bytes events
 
--- so far before their end a document's first line is missing, or behind it no event goes on
+-- so far before their end a document's first line is missing, or an event or the end after it
 abbrev pub StopsInDumpedBytes : (bytes : List ℕ) → (left : ℕ) → Type 0
 StopsInDumpedBytes bytes left =
     ((past_word (codes "---\n") bytes ≡ None) × (left ≡ length bytes)) ⊎ IsBehindMarker bytes (λ whole. StopsInRun whole left)
@@ -44,8 +44,8 @@ pub record AreNotNumbered (bytes : List ℕ) : Type 0 where
   pub run : AreRunBytes bytes events
   pub none : (graph : Graph) → IsWholeGraph graph → document_event_list graph ≢ in_document events
 
--- an error has the line and the column of where the bytes stop to be UTF-8, or else of where they stop to be those of events; or they
--- are those of events that no graph has
+-- An error has the line and the column of the place at which the bytes stop to be UTF-8, or else of the place at which they stop to be those of
+-- events; or they are those of events that no graph has.
 abbrev pub IsDocumentPlaced : (bytes : List ℕ) → ReadError → Type 0
 IsDocumentPlaced bytes (told.NotCanonical line column) =
     (at : ℕ) × (line ≡ line_of bytes at) × (column ≡ column_of bytes at)

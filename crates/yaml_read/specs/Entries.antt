@@ -5,7 +5,7 @@ use Rattle.yaml_read.specs.declared.errors.Stop.{Stop}
 use Rattle.yaml_read.specs.declared.levels.Entry.{Entry}
 use Rattle.yaml_read.specs.declared.levels.Entry.TheVariants.{Another, End}
 
--- another entry where its lead stands first, or the end where that does
+-- another entry if the text begins with its lead, or the end if it begins with that
 abbrev pub EntryFound : (lead end text : List ℕ) → Result Entry Stop → Type 0
 EntryFound lead end text (Ok (Another rest)) = text ≡ lead ++ rest.now
 EntryFound lead end text (Ok (End rest)) = (past_word lead text ≡ None) × (text ≡ end ++ rest.now)

@@ -6,11 +6,12 @@ use Rattle.yaml_base.specs.Characters.{Text, line_feed}
 use Rattle.yaml_base.specs.Event.{Event, document_start, document_end}
 use Rattle.yaml_read.specs.EventSteps.{ReadsEvent, ReadsNode, text_behind_lead}
 use Rattle.yaml_read.specs.EventTexts.{Pending, BeginsNode, HasRunText, IsInNode, ends_name, event_text, may_come}
-use Rattle.yaml_read.specs.RunPlaces.{RunStops, StopsAmong, bare_start, in_document}
+use Rattle.yaml_read.specs.Places.{LacksEnd}
+use Rattle.yaml_read.specs.RunPlaces.{RunStops, StopsBy, bare_start, in_document}
 use Rattle.yaml_read.specs.declared.errors.Stop.{Stop}
 use Rattle.yaml_read.specs.declared.errors.Stop.TheVariants as stop
 
--- one more event, which begins a node, was read behind what leads to it, and it is the only one
+-- one more event, which begins a node, was read after what leads to it, and it is the only one
 pub record IsNodeRead (found : List Event) (levels : List Pending) (text : List ℕ) (new : List Event) (after : Option (List Pending)) (rest : List ℕ)
     : Type 0 where
   pub event : Event
@@ -43,7 +44,7 @@ pub record RunEnded (whole : List ℕ) (found : List Event) (bytes : List ℕ) :
   pub in_node : All IsInNode events
   pub parts : whole ≡ encode_utf8_all text ++ bytes
 
--- nothing but the document's end is due, behind the root
+-- nothing but the document's end is due, after the root
 pub record EndDue (events found : List Event) (bytes : List ℕ) : Type 0 where
   pub all : in_document events ≡ found ++ document_end true ∷ []
   pub bytes_are : bytes ≡ codes "\n"
@@ -65,7 +66,7 @@ RootRead whole found (Err error) = RunFails whole error
 -- a line's end follows the root, and nothing else; the document's end was added
 abbrev pub EndRead : {T : Type 0} (found : List Event) (bytes : List ℕ) (new : List Event) → Result T Stop → Type 0
 EndRead found bytes new (Ok _) = (new ≡ found ++ document_end true ∷ []) × (bytes ≡ codes "\n")
-EndRead found bytes new (Err error) = StopsAmong bytes error × (bytes ≡ codes "\n" → error ≡ stop.Memory)
+EndRead found bytes new (Err error) = StopsBy (λ left. LacksEnd bytes (stop.Refused left)) error × (bytes ≡ codes "\n" → error ≡ stop.Memory)
 
 -- the events of the whole document, and they are the only ones
 pub record IsEventRun (whole : List ℕ) (found : List Event) : Type 0 where

@@ -10,13 +10,13 @@ use Rattle.yaml_read.specs.declared.leads.Await.TheVariants as code
 use Rattle.yaml_read.specs.declared.steps.Progress.{Progress}
 use Rattle.yaml_read.specs.declared.steps.Progress.TheVariants.{Continues, RootEnds}
 
--- what a collection that an event opens awaits; none where it opens none
+-- what a collection that an event opens awaits; none if it opens none
 abbrev pub await_opened : Event → Option Await
 await_opened (sequence_start start) = Some code.FirstItem
 await_opened (mapping_start start) = Some code.FirstKey
 await_opened _ = None
 
--- what is open behind the beginning of a node, by the collection that it opens; none where the root ends
+-- what is open after the beginning of a node, by the collection that it opens; none if the root ends
 abbrev pub open_behind_opening : List Pending → Option Await → Option (List Pending)
 open_behind_opening levels None = left_open levels
 open_behind_opening levels (Some awaited) = Some (seen_await awaited ∷ levels)
@@ -26,13 +26,13 @@ abbrev pub trail_behind_opening : List Pending → Option Await → Text
 trail_behind_opening levels None = trail_text levels
 trail_behind_opening levels (Some awaited) = []
 
--- the text of an event that begins a node, behind what leads to it
+-- the text of an event that begins a node, after what leads to it
 abbrev pub text_behind_lead : List Pending → Event → Text
 text_behind_lead levels event = opening_text event ++ trail_behind_opening levels (await_opened event)
 
 -- ---- the code's answers
 
--- what is open now; none where the root has ended
+-- what is open now; none if the root has ended
 abbrev pub open_now : List Pending → Progress → Option (List Pending)
 open_now levels (Continues rest) = Some levels
 open_now levels (RootEnds rest) = None
@@ -42,11 +42,11 @@ abbrev pub bytes_behind : Progress → List ℕ
 bytes_behind (Continues rest) = rest.now
 bytes_behind (RootEnds rest) = rest.now
 
--- bytes begin with a word; what is open behind it, and what follows
+-- bytes begin with a word; what is open after it, and what follows
 abbrev pub GoesTo : (behind : Option (List Pending)) → (word text : List ℕ) → (now : List Pending) → Progress → Type 0
 GoesTo behind word text now progress = (behind ≡ open_now now progress) × (text ≡ word ++ bytes_behind progress)
 
--- an event that begins a node was read, behind what leads to it
+-- an event that begins a node was read, after what leads to it
 pub record ReadsNode (before : List Pending) (text : List ℕ) (after : Option (List Pending)) (event : Event) (rest : List ℕ) : Type 0 where
   pub begins : BeginsNode event
   pub opened : open_behind_opening before (await_opened event) ≡ after

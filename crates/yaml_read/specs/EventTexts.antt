@@ -8,7 +8,7 @@ use Rattle.yaml_base.specs.graphs.DumpedText.{closing_line, collection_propertie
 use Rattle.yaml_base.specs.graphs.Meetings.{mapping_held, opening_event_of, scalar_held, sequence_held}
 use Rattle.yaml_base.specs.values.ValueText.{in_quotes, line_at}
 
--- what a sequence or a mapping that is open awaits: an item or its end, a key or its end, the value of a key
+-- the thing that a sequence or a mapping awaits: an item or its end, a key or its end, the value of a key
 pub data Pending : Type 0 where
   item_awaited : (empty : Bool) → Pending
   key_awaited : (empty : Bool) → Pending
@@ -16,7 +16,7 @@ pub data Pending : Type 0 where
 
 -- ---- text
 
--- what leads to a node; what is open stands innermost first
+-- The text that leads to a node. What is open is listed innermost first.
 abbrev pub lead_text : List Pending → Text
 lead_text [] = []
 lead_text (item_awaited empty ∷ outer) = line_at (length (item_awaited empty ∷ outer) * 2)
@@ -61,18 +61,18 @@ event_text levels _ = []
 
 -- ---- order
 
--- what an open collection awaits behind a node in it
+-- what an open collection awaits after a node in it
 abbrev pub next_awaited : Pending → Pending
 next_awaited (item_awaited empty) = item_awaited false
 next_awaited (key_awaited empty) = value_awaited
 next_awaited value_awaited = key_awaited false
 
--- what is open behind a node; none where it is the root
+-- what is open after a node; none if it is the root
 abbrev pub left_open : List Pending → Option (List Pending)
 left_open [] = None
 left_open (awaited ∷ outer) = Some (next_awaited awaited ∷ outer)
 
--- what is open behind an event; none where the root ends
+-- what is open after an event; none if the root ends
 abbrev pub next_open : List Pending → Event → Option (List Pending)
 next_open levels (sequence_start start) = Some (item_awaited true ∷ levels)
 next_open levels (mapping_start start) = Some (key_awaited true ∷ levels)
@@ -98,7 +98,7 @@ pub data HasRunText : List Pending → List Event → Text → Type 0 where
       → next_open levels event ≡ Some next → text ≡ event_text levels event ++ rest → HasRunText next events rest
       → HasRunText levels (event ∷ events) text
 
--- events from the root's beginning on, their text, and what is open behind them
+-- events from the root's beginning on, their text, and what is open after them
 pub data HasBegunText : List Pending → List Event → Text → Type 0 where
   none_begun : HasBegunText [] [] []
   one_more : (before levels : List Pending) (events : List Event) (event : Event) (text : Text) → HasBegunText before events text

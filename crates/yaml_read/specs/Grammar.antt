@@ -1,4 +1,4 @@
--- Which words stand where in canonical bytes. Each definition is of the words that may come in turn.
+-- The words that may come at each place of canonical bytes. Each definition is of the words that may come in turn.
 use Rattle.std.specs.Prelude.{ℕ, ℤ, zero, suc, ◌<◌, ◌≤◌, ◌^◌, ◌≡◌, ◌⊎◌, true, List, [], ◌∷◌, codes, length}
 use Rattle.std.specs.Fmt.{signed_decimal}
 use Rattle.std.specs.Int.Signed.{mag}
@@ -53,11 +53,11 @@ integer words = (n : ℤ) × (mag n < 2 ^ 63) × word_then (encode_utf8_all (in_
 abbrev pub truth : List (List ℕ) → Type 0
 truth = these_or_those (word_then (codes "\"true\"") nothing) (word_then (codes "\"false\"") nothing)
 
--- behind the opening bracket of a list or a map that lies in so many others: those, or no word where it lies too deep
+-- after the opening bracket of a list or a map that lies in so many others: those, or no word if it lies too deep
 abbrev pub unless_deep : (depth : ℕ) → (More : List (List ℕ) → Type 0) → List (List ℕ) → Type 0
 unless_deep depth More words = ((depth < most_nested) × More words) ⊎ ((most_nested ≤ depth) × nothing words)
 
--- behind the tag of a node that lies in so many lists and maps: up to its end, or to the first node in it
+-- after the tag of a node that lies in so many lists and maps: up to its end, or to the first node in it
 abbrev pub behind_tag : (depth : ℕ) → Kind → List (List ℕ) → Type 0
 behind_tag depth kind.Null = word_then (codes "\"null\"") nothing
 behind_tag depth kind.Bool = truth
@@ -71,19 +71,19 @@ behind_tag depth kind.Map =
 abbrev pub node : (depth : ℕ) → List (List ℕ) → Type 0
 node depth words = (k : Kind) × word_then (tag_word k) (behind_tag depth k) words
 
--- ---- behind a node
+-- ---- after a node
 
--- behind an entry: up to the next one, or past the closing bracket
+-- after an entry: up to the next one, or past the closing bracket
 abbrev pub entry_end : (depth : ℕ) → (lead end : List ℕ) → List (List ℕ) → Type 0
 entry_end depth lead end = word_then (codes ",") (line_then depth (these_or_those (word_then lead nothing) (word_then end nothing)))
 
--- behind a value in a list or a map that lies so deep; behind a key up to its value
+-- after a value in a list or a map that lies so deep; after a key up to its value
 abbrev pub behind_in : (depth : ℕ) → OpenLevel → List (List ℕ) → Type 0
 behind_in depth (items_open items) = entry_end depth (codes "  ") (codes "]")
 behind_in depth (value_due pairs key) = entry_end depth (codes "  ? ") (codes "}")
 behind_in depth (pairs_open pairs) = line_then depth (word_then (codes "  : ") nothing)
 
--- behind a value that has its place in the open lists and maps
+-- after a value that has its place in the open lists and maps
 abbrev pub behind_value : List OpenLevel → List (List ℕ) → Type 0
 behind_value [] = word_then (codes "\n") nothing
 behind_value (level ∷ levels) = behind_in (length levels) level

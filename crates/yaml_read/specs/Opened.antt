@@ -31,7 +31,7 @@ opened_text (value_due pairs key ∷ levels) =
     ++ (entry_lead (codes "{") (has_no_value_pairs pairs)
     ++ (line_at (column_in levels + 2) ++ (codes "? " ++ (value_text (column_in levels + 2) key ++ (line_at (column_in levels + 2) ++ codes ": ")))))))
 
--- what they hold could be written where it lies
+-- what they hold could be written there
 abbrev pub OpenCanBeRead : List OpenLevel → Type 0
 OpenCanBeRead [] = Unit {0}
 OpenCanBeRead (items_open items ∷ levels) = OpenCanBeRead levels × ((length levels < most_nested) × AllCanBeReadAt (suc (length levels)) items)
@@ -58,12 +58,12 @@ abbrev pub EntryCut : (depth : ℕ) → (lead end text : List ℕ) → Entry →
 EntryCut depth lead end text (Another rest) = text ≡ codes "," ++ (line_at (depth * 2) ++ (lead ++ rest.now))
 EntryCut depth lead end text (End rest) = text ≡ codes "," ++ (line_at (depth * 2) ++ (end ++ rest.now))
 
--- behind a value in a list or a map
+-- after a value in a list or a map
 abbrev pub TurnRead : {A : Type 0} → List ℕ → List OpenLevel → Turn A → Type 0
 TurnRead whole levels (Continues level rest) = IsOpen whole (seen_level level ∷ levels) rest.now
 TurnRead whole levels (Ends value rest) = HasRead whole levels (seen_value value) rest.now
 
--- behind a value
+-- after a value
 abbrev pub NextRead : {A : Type 0} → List ℕ → List OpenLevel → Next A → Type 0
 NextRead whole levels (Done value) = (whole ≡ encode_utf8_all (value_text 0 (seen_value value) ++ line_feed ∷ [])) × CanBeReadAt 0 (seen_value value)
 NextRead whole levels (Node rest) = IsOpen whole levels rest.now

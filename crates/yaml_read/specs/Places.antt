@@ -1,4 +1,4 @@
--- Where bytes break off, and the place of an error.
+-- The places at which bytes break off, and the place of an error.
 use Rattle.std.specs.Prelude.{ℕ, ◌+◌, ◌-◌, ◌*◌, ◌<◌, ◌≡◌, ◌⊎◌, None, Option, Result, Ok, Err, List, [], ◌∷◌, ◌++◌, codes, flat_map, length, replicate}
 use Rattle.std.specs.Prelude.{IfErr, IfOk, IfSome}
 use Rattle.std.specs.Borrow.{Bor}
@@ -16,8 +16,8 @@ use Rattle.yaml_read.specs.declared.errors.ReadError.TheVariants as told
 use Rattle.yaml_read.specs.declared.errors.Stop.{Stop}
 use Rattle.yaml_read.specs.declared.errors.Stop.TheVariants as stop
 
--- so far before their end a word is missing: before it stand words with which some of these begin, a further word is due, and what
--- follows begins with none that may come next
+-- So far before their end a word is missing: words with which some of these begin precede it, a further word is due, and what
+-- follows begins with none that may come next.
 pub record BreaksOff (These : List (List ℕ) → Type 0) (bytes : List ℕ) (left : ℕ) : Type 0 where
   pub read : List (List ℕ)
   pub rest : List ℕ
@@ -28,8 +28,8 @@ pub record BreaksOff (These : List (List ℕ) → Type 0) (bytes : List ℕ) (le
   pub begins : These (read ++ due ∷ more)
   pub none : (next : List ℕ) (after : List (List ℕ)) → These (read ++ next ∷ after) → past_word next rest ≡ None
 
--- behind a document's first line the bytes are a value's up to a node, or up to what follows one, and a word is missing from there on;
--- or they are a value's, and more follows
+-- After a document's first line the bytes are a value's up to a node, or up to what follows one, and a word is missing from there on;
+-- or they are a value's, and more follows.
 pub data BreaksInValue (whole : List ℕ) (left : ℕ) : Type 0 where
   in_node : (levels : List OpenLevel) (bytes : List ℕ) → IsOpen whole levels bytes → BreaksOff (node (length levels)) bytes left
       → BreaksInValue whole left
@@ -54,12 +54,12 @@ pub record OpensPastDepth (whole : List ℕ) (left : ℕ) : Type 0 where
 abbrev pub IsBehindMarker : (bytes : List ℕ) → (Holds : List ℕ → Type 0) → Type 0
 IsBehindMarker bytes Holds = (whole : List ℕ) × (bytes ≡ codes "---\n" ++ whole) × Holds whole
 
--- a word can't stand so far before the end
+-- the word so far before the end is impossible there
 abbrev pub CannotStand : (bytes : List ℕ) → (left : ℕ) → Type 0
 CannotStand bytes left =
     BreaksOff (word_then (codes "---\n") nothing) bytes left ⊎ IsBehindMarker bytes (λ whole. BreaksInValue whole left)
 
--- an error has the line and the column of where the bytes stop to be UTF-8, or else of the first word that can't stand there, or of
+-- An error has the line and the column at which the bytes stop to be UTF-8, or else of the first word that is impossible there, or of
 -- the first list or map that lies too deep
 abbrev pub IsPlaced : (bytes : List ℕ) → ReadError → Type 0
 IsPlaced bytes (told.NotCanonical line column) =
@@ -73,7 +73,7 @@ IsPlaced bytes told.Memory = Unit {0}
 
 -- ---- the code's answers
 
--- the first word of the bytes can't stand there
+-- the first word of the bytes is impossible there
 abbrev pub IsHere : (bytes : List ℕ) → Stop → Type 0
 IsHere bytes error = error ≡ stop.Refused (length bytes)
 
@@ -103,12 +103,12 @@ pub data LacksLine (depth : ℕ) (bytes : List ℕ) (error : Stop) : Type 0 wher
   no_line : past_word (codes "\n") bytes ≡ None → IsHere bytes error → LacksLine depth bytes error
   no_level : (line : List ℕ) → bytes ≡ codes "\n" ++ line → LacksLevel depth line error → LacksLine depth bytes error
 
--- behind the outermost value its line's end is missing, or more follows that
+-- after the outermost value its line's end is missing, or more follows that
 pub data LacksEnd (bytes : List ℕ) (error : Stop) : Type 0 where
   no_end : past_word (codes "\n") bytes ≡ None → IsHere bytes error → LacksEnd bytes error
   more_follows : (rest : List ℕ) → bytes ≡ codes "\n" ++ rest → 0 < length rest → IsHere rest error → LacksEnd bytes error
 
--- a word stands first, and this follows it; or it doesn't stand first
+-- the bytes begin with a word, and this follows it; or they don't begin with it
 pub record PastWord (word bytes : List ℕ) (result : Option (Bor (List ℕ))) : Type 0 where
   pub cut : CutsIf word bytes result
   pub shorter : IfSome result (λ rest. length rest.now + length word ≡ length bytes)
@@ -118,7 +118,7 @@ pub record WordCut (word bytes : List ℕ) (result : Result (Bor (List ℕ)) Sto
   pub placed : IfErr result (IsHere bytes)
   pub shorter : IfOk result (λ rest. length rest.now + length word ≡ length bytes)
 
--- a line's end and the indentation of a depth stand first, and this follows them; or they don't stand first
+-- the bytes begin with a line's end and the indentation of a depth, and this follows them; or they don't begin so
 pub record IndentCut (depth : ℕ) (bytes : List ℕ) (result : Result (Bor (List ℕ)) Stop) : Type 0 where
   pub cut : Cuts (line_at (depth * 2)) bytes result
   pub lacks : IfErr result (LacksLine depth bytes)
@@ -135,7 +135,7 @@ BreaksAt These bytes (stop.Refused left) = BreaksOff These bytes left
 BreaksAt These bytes (stop.TooDeep left) = ⊥
 BreaksAt These bytes stop.Memory = Unit {0}
 
--- why reading stops behind a document's first line, and anywhere
+-- why reading stops after a document's first line, and anywhere
 abbrev pub StopsIn : (whole : List ℕ) → Stop → Type 0
 StopsIn whole (stop.Refused left) = BreaksInValue whole left
 StopsIn whole (stop.TooDeep left) = OpensPastDepth whole left

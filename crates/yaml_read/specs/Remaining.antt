@@ -19,7 +19,7 @@ abbrev pub column_in : List OpenLevel → ℕ
 column_in [] = 0
 column_in (level ∷ levels) = column_in levels + 2
 
--- behind a value that has its place in the open lists and maps this text completes a whole value
+-- after a value that has its place in the open lists and maps this text completes a whole value
 pub data Completes (root : TypedValue) : List OpenLevel → TypedValue → Text → Type 0 where
   text_ends : (value : TypedValue) (text : Text) → value ≡ root → text ≡ line_feed ∷ [] → Completes root [] value text
   item_follows : (levels : List OpenLevel) (items : TypedValues) (value item : TypedValue) (rest text : Text)
@@ -54,7 +54,7 @@ pub record IsDue (root : TypedValue) (levels : List OpenLevel) (bytes : List ℕ
   pub text : bytes ≡ encode_utf8_all (value_text (column_in levels) value ++ rest)
   pub completes : Completes root levels value rest
 
--- these bytes stand behind such a value
+-- these bytes follow such a value
 pub record IsRead (root : TypedValue) (levels : List OpenLevel) (value : TypedValue) (bytes : List ℕ) : Type 0 where
   pub rest : Text
   pub text : bytes ≡ encode_utf8_all rest
@@ -62,14 +62,14 @@ pub record IsRead (root : TypedValue) (levels : List OpenLevel) (value : TypedVa
 
 -- ---- the code's answers
 
--- behind a value in a list or a map, unless memory gave out
+-- after a value in a list or a map, unless memory gave out
 abbrev pub TurnReached : {A : Type 0} → TypedValue → List OpenLevel → Result (Turn A) Stop → Type 0
 TurnReached root levels (Ok (Continues level rest)) = IsDue root (seen_level level ∷ levels) rest.now
 TurnReached root levels (Ok (Ends value rest)) = IsRead root levels (seen_value value) rest.now
 TurnReached root levels (Err stop.Memory) = Unit {0}
 TurnReached root levels (Err _) = ⊥
 
--- behind a value, unless memory gave out
+-- after a value, unless memory gave out
 abbrev pub Reached : {A : Type 0} → TypedValue → List OpenLevel → Result (Next A) Stop → Type 0
 Reached root levels (Ok (Done value)) = seen_value value ≡ root
 Reached root levels (Ok (Node rest)) = IsDue root levels rest.now

@@ -27,7 +27,7 @@ NumberRead least found None =
     (read : ℕ × Bor (List ℕ)) → found ≡ Some read → least ≤ read.0 → needs_escape true read.0 ≡ true → letter_among short_escapes read.0 ≡ None
     → all_scalars (read.0 ∷ []) ≡ true → ⊥
 
--- an escape behind its backslash
+-- an escape after its backslash
 pub record IsEscape (bytes : List ℕ) (c : ℕ) (rest : List ℕ) : Type 0 where
   pub scalar : all_scalars (c ∷ []) ≡ true
   pub needs : needs_escape true c ≡ true

@@ -1,4 +1,4 @@
--- What the reader of a node and of what follows a node answers.
+-- The answers of the readers of a node and of the text after a node.
 use Rattle.std.specs.Prelude.{ℕ, suc, ◌*◌, ◌<◌, ◌≤◌, ◌≡◌, None, Result, Ok, Err, IfErr, IfOk, List, [], ◌∷◌, ◌++◌, String, codes, length, true}
 use Rattle.std.specs.Borrow.{Bor}
 use Rattle.std.specs.Str.{all_scalars, encode_utf8_all}
@@ -31,31 +31,31 @@ use Rattle.yaml_read.specs.declared.levels.Turn.TheVariants.{Continues, Ends}
 
 -- ---- less is left of the text
 
--- behind an entry
+-- after an entry
 abbrev pub EntryShorter : List ℕ → Entry → Type 0
 EntryShorter text (Another rest) = length rest.now < length text
 EntryShorter text (End rest) = length rest.now < length text
 
--- behind a value in a list or a map
+-- after a value in a list or a map
 abbrev pub TurnShorter : {A : Type 0} → List ℕ → Turn A → Type 0
 TurnShorter text (Continues level rest) = length rest.now < length text
 TurnShorter text (Ends value rest) = length rest.now < length text
 
--- behind a value, where another node follows
+-- after a value, if another node follows
 abbrev pub NextShorter : {A : Type 0} → List ℕ → Next A → Type 0
 NextShorter text (Done value) = Unit {0}
 NextShorter text (Node rest) = length rest.now < length text
 
 -- ---- nodes, between the lists and maps that were open before and those that are open after
 
--- at a node: where a value is due it is read, what is read has these bytes, and else they break off
+-- At a node: a value that is due is read, what is read has these bytes, and else they break off.
 pub record NodeStepped {A : Type 0} (before after : List OpenLevel) (text : List ℕ) (result : Result (Next A) Stop) : Type 0 where
   pub reached : (root : TypedValue) → IsDue root before text → Reached root after result
   pub read : (whole : List ℕ) → IsOpen whole before text → IfOk result (NextRead whole after)
   pub stops : (whole : List ℕ) → IsOpen whole before text → IfErr result (StopsIn whole)
   pub shorter : IfOk result (NextShorter text)
 
--- behind a value, in the same way
+-- after a value, in the same way
 pub record ValueSettled {A : Type 0} (before after : List OpenLevel) (value : TypedValue) (text : List ℕ) (result : Result (Next A) Stop) : Type 0 where
   pub reached : (root : TypedValue) → IsRead root before value text → Reached root after result
   pub read : (whole : List ℕ) → HasRead whole before value text → IfOk result (NextRead whole after)
@@ -64,7 +64,7 @@ pub record ValueSettled {A : Type 0} (before after : List OpenLevel) (value : Ty
 
 -- ---- tags and scalars
 
--- the tag that stands first, or none does
+-- the tag that the bytes begin with, or they begin with none
 abbrev pub TagRead : List ℕ → Result (Kind × Bor (List ℕ)) Stop → Type 0
 TagRead bytes (Ok found) = bytes ≡ tag_word found.0 ++ found.1.now
 TagRead bytes (Err error) = ((kind : Kind) → past_word (tag_word kind) bytes ≡ None) × IsHere bytes error
@@ -77,7 +77,7 @@ pub record QuotedRead {A : Type 0} (bytes : List ℕ) (result : Result (String A
   pub breaks : IfErr result (BreaksAt quoted_text bytes)
   pub shorter : IfOk result (λ found. length found.1.now < length bytes)
 
--- behind a scalar's tag
+-- after a scalar's tag
 pub record ScalarRead {A : Type 0} (kind : Kind) (bytes : List ℕ) (result : Result (Value A × Bor (List ℕ)) Stop) : Type 0 where
   pub reads : (depth column : ℕ) (value : TypedValue) (rest : Text) → CanBeReadAt depth value
       → tag_word kind ++ bytes ≡ encode_utf8_all (value_text column value ++ rest) → OrMemory (IsWhole value rest) result
@@ -87,18 +87,18 @@ pub record ScalarRead {A : Type 0} (kind : Kind) (bytes : List ℕ) (result : Re
 
 -- ---- brackets
 
--- behind a tag no bracket stands, or it stands within as many lists and maps as may be open
+-- no bracket follows a tag, or it lies within as many lists and maps as may be open
 pub data BracketLacks (depth : ℕ) (bracket text behind : List ℕ) (error : Stop) : Type 0 where
   no_bracket : past_word bracket behind ≡ None → IsHere behind error → BracketLacks depth bracket text behind error
   no_room : (inside : List ℕ) → behind ≡ bracket ++ inside → most_nested ≤ depth → IsDeepHere text error → BracketLacks depth bracket text behind error
 
--- behind an opening bracket no line of this depth stands, or no lead in it; or memory gave out
+-- after an opening bracket a line of this depth is missing, or a lead in it; or memory gave out
 pub data EntryLacks (depth : ℕ) (lead text : List ℕ) (error : Stop) : Type 0 where
   no_memory : error ≡ stop.Memory → EntryLacks depth lead text error
   no_line : past_word (line_at (depth * 2)) text ≡ None → LacksLine depth text error → EntryLacks depth lead text error
   no_lead : (line : List ℕ) → text ≡ line_at (depth * 2) ++ line → past_word lead line ≡ None → IsHere line error → EntryLacks depth lead text error
 
--- a line of this depth with a lead in it stands first, and this follows it; or one of them is missing
+-- the text begins with a line of this depth with a lead in it, and this follows it; or one of them is missing
 pub record LeadCut (depth : ℕ) (lead text : List ℕ) (result : Result (Bor (List ℕ)) Stop) : Type 0 where
   pub cut : Cuts (line_at (depth * 2) ++ lead) text result
   pub lacks : IfErr result (EntryLacks depth lead text)
@@ -132,7 +132,7 @@ pub record EntryRead (depth : ℕ) (lead end text : List ℕ) (result : Result E
   pub breaks : IfErr result (BreaksAt (entry_end depth lead end) text)
   pub shorter : IfOk result (EntryShorter text)
 
--- behind a value in a list or a map that lies so deep
+-- after a value in a list or a map that lies so deep
 pub record ValueTaken {A : Type 0} (depth : ℕ) (level : OpenLevel) (value : TypedValue) (text : List ℕ) (result : Result (Turn A) Stop) : Type 0 where
   pub reached : (root : TypedValue) (levels : List OpenLevel) → depth ≡ length levels → IsRead root (level ∷ levels) value text
       → TurnReached root levels result
@@ -141,7 +141,7 @@ pub record ValueTaken {A : Type 0} (depth : ℕ) (level : OpenLevel) (value : Ty
   pub breaks : IfErr result (BreaksAt (behind_in depth level) text)
   pub shorter : IfOk result (TurnShorter text)
 
--- behind the value that such a list or a map took last: another node in it, or its end; a value follows a key
+-- after the value that such a list or a map took last: another node in it, or its end; a value follows a key
 abbrev pub BehindRead : (depth : ℕ) → OpenLevel → (text : List ℕ) → Result Entry Stop → Type 0
 BehindRead depth (items_open items) text result = EntryRead depth (codes "  ") (codes "]") text result
 BehindRead depth (pairs_open pairs) text result = EntryRead depth (codes "  ? ") (codes "}") text result

@@ -1,4 +1,4 @@
--- What joins the texts of values and the words of the grammar.
+-- How the texts of values are related to the words of the grammar.
 use Rattle.std.specs.Prelude.{ℕ, ◌≡◌, List, [], ◌∷◌, ◌++◌, flat_map, length}
 use Rattle.std.specs.Str.{encode_utf8_all}
 use Rattle.yaml_base.specs.Characters.{Text, line_feed}
@@ -22,7 +22,7 @@ pub record BeginsText (levels : List OpenLevel) (words : List (List ℕ)) : Type
   pub rest : List ℕ
   pub is : encode_utf8_all (value_text (column_in levels) value) ≡ flat_map (λ word. word) words ++ rest
 
--- behind a value that has its place a text goes on with the words, and completes a whole value
+-- after a value that has its place a text goes on with the words, and completes a whole value
 pub record GoesOnWith (levels : List OpenLevel) (value : TypedValue) (words : List (List ℕ)) : Type 0 where
   pub root : TypedValue
   pub text : Text

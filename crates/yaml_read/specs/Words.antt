@@ -10,7 +10,7 @@ past_word [] text = Some text
 past_word (w ∷ word) [] = None
 past_word (w ∷ word) (c ∷ text) = if c == w then past_word word text else None
 
--- the word stands first, and this follows it; or it doesn't stand first
+-- the text begins with the word, and this follows it; or it doesn't begin with the word
 abbrev pub CutsIf : (word text : List ℕ) → Option (Bor (List ℕ)) → Type 0
 CutsIf word text (Some rest) = text ≡ word ++ rest.now
 CutsIf word text None = past_word word text ≡ None

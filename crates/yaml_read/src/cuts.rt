@@ -1,11 +1,11 @@
-//! The rest of a text behind a word or a character at its beginning.
+//! The rest of a text after a word or a character at its beginning.
 ghost use Rattle.std.specs.Prelude.{◌≡◌, ◌++◌, MatchOption, encode_utf8, length};
 ghost use Rattle.yaml_read.specs.Places.{EndsText, IndentCut, PastWord, WordCut};
 ghost use Rattle.yaml_read.specs.Stepped.{LeadCut};
 
 use crate::errors::{Stop, refused_at};
 
-/// Returns what follows a word, where the text begins with it.
+/// Returns what follows a word, if the text begins with it.
 pub(crate) fn past<'a>(text: &'a str, word: &str) -> Option<&'a str>
     ensures { PastWord word.now text.now result }
 {

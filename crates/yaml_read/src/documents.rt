@@ -26,7 +26,7 @@ fn composed<A: Allocator + Copy>(
 {
     match document_of_events(alloc, events) {
         Ok(document) => {
-            // A law: what the nodes hold are numbers of nodes.
+            // A law: the numbers in the nodes are numbers of nodes.
             document.numbers_name_nodes();
             Ok(document)
         }
@@ -37,15 +37,16 @@ fn composed<A: Allocator + Copy>(
 
 /// Returns the document that these are the canonical bytes of. They are exactly what `yaml_emitter_dump` writes, by the settings
 /// `canonical_settings()` of `yaml_value`, of one document that has neither a version nor directives, and an end that isn't written.
-/// Nothing else is accepted. (Bytes are read also where the document nests deeper than an emitter goes.)
+/// Nothing else is accepted. (Documents that nest deeper than an emitter goes are read, too.)
 ///
 /// Its nodes are numbered in the order in which they begin, and their styles are `ANY`. Dumped so again, it gives these bytes.
 ///
 /// # Errors
-/// `NotCanonical` where the bytes aren't laid out as those of a document: its place lies in the first event that can't stand where it
-/// stands. `NotNumbered` where they are, but no dump gives its nodes these anchors and aliases: an anchor without an alias, an alias
-/// before its anchor, names other than `id001`, `id002` and so on in the order of each node's first alias. `Memory` where an allocation
-/// fails, or where there are more nodes than a document can number.
+/// `NotCanonical` if the bytes aren't laid out as those of a document. Its place is that of the first event that is impossible there:
+/// the beginning of the text that leads to it, or of its node if that text is right, or of what follows if its node is right.
+/// `NotNumbered` if they are laid out so, but no dump gives its nodes these anchors and aliases: an anchor without an alias, an alias
+/// before its anchor, names other than `id001`, `id002` and so on in the order of each node's first alias. `Memory` if an allocation
+/// fails, or if there are more nodes than a document can number.
 pub fn read_document<A: Allocator + Copy>(
     alloc: A,
     bytes: &[u8],

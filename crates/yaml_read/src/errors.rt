@@ -1,7 +1,6 @@
 //! The reasons why bytes aren't read.
 ghost use Rattle.std.specs.Prelude.{◌≡◌};
 ghost use Rattle.yaml_read.specs.Places.{IsHere, IsWholeWord};
-ghost use Rattle.yaml_read.specs.RunPlaces.{IsWithin};
 ghost use Rattle.yaml_read.specs.declared.errors.Stop.TheVariants as stop;
 
 use std::alloc::AllocError;
@@ -10,11 +9,11 @@ use thiserror::Error;
 /// The reason why bytes aren't read. Lines end with LF, and lines and columns count from 1, columns in characters.
 #[derive(Clone, Copy, Debug, Drop, Error, PartialEq, Eq)]
 pub enum ReadError {
-    /// They are no value's canonical bytes. The first word that can't stand where it stands begins here: a tag, a bracket,
+    /// They are no value's canonical bytes. The first word that is impossible at its place begins here: a tag, a bracket,
     /// a comma, a line's end, a level's two spaces, `? ` or `: ` with the two spaces before it, a character of a text or its
-    /// escape, another scalar with its quotes. Where they end too early, a word is missing or cut off here. Where they aren't
-    /// UTF-8, this is the end of their longest prefix that is. By `read_document` they are no document's, and the place lies in the
-    /// first event that can't stand where it stands, or behind the root.
+    /// escape, another scalar with its quotes. If they end too early, a word is missing or cut off here. If they aren't
+    /// UTF-8, this is the end of their longest prefix that is. By `read_document` they are no document's, and no event goes on here:
+    /// here a line's end and what leads to a node are wrong, or a node after these, or what follows a node or a bracket.
     #[error("line {line}, column {column}: not canonical")]
     NotCanonical { line: usize, column: usize },
     /// Lists and maps nest more than 1,000 deep. The first that lies too deep begins here.
@@ -31,7 +30,7 @@ pub enum ReadError {
 /// The reason why the reader stops.
 #[derive(Clone, Copy, Drop)]
 pub(crate) enum Stop {
-    /// The word so many bytes before the end can't stand there.
+    /// The word so many bytes before the end is impossible there.
     Refused(usize),
     /// The list or the map that begins so many bytes before the end lies too deep.
     TooDeep(usize),
@@ -46,7 +45,7 @@ impl From<AllocError> for Stop {
     }
 }
 
-/// Returns that the first word of the rest can't stand there.
+/// Returns that the first word of the rest is impossible there.
 pub(crate) fn refused_at(rest: &str) -> Stop
     ensures { IsHere rest.now result }
 {
@@ -60,16 +59,5 @@ pub(crate) fn refused_whole(reason: Stop, rest: &str) -> Stop
     match reason {
         Stop::Memory => Stop::Memory,
         _ => refused_at(rest),
-    }
-}
-
-/// Returns why reading stops, at a place within the rest.
-pub(crate) fn stopped_within(reason: Stop, rest: &str) -> Stop
-    ensures { IsWithin rest.now reason result }
-{
-    match reason {
-        Stop::Refused(left) => Stop::Refused(left.min(rest.len())),
-        Stop::TooDeep(left) => Stop::Refused(left.min(rest.len())),
-        Stop::Memory => Stop::Memory,
     }
 }

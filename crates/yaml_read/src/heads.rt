@@ -75,7 +75,7 @@ pub(crate) fn read_tag(text: &str) -> Result<(Kind, &str), Stop>
     }
 }
 
-/// Reads a scalar behind its tag.
+/// Reads a scalar after its tag.
 pub(crate) fn read_scalar<A: Allocator + Copy>(
     alloc: A,
     kind: Kind,

@@ -28,8 +28,8 @@ pub fn written_values_are_read<A: Allocator>()
         → IsAnswerTo bytes.items answer → IfOk answer (λ found. seen_value found ≡ value) × IfErr answer (λ error. error ≡ told.Memory) }
 {}
 
-/// States that the words that may stand at a node and behind one are those with which texts of values go on there: where a text
-/// has a node, or goes on behind one, words of these stand there; and any of these words begin the text of some value, or go on
+/// States that the words that the grammar allows at a node and after one are those with which texts of values go on there. If a text
+/// has a node there, or goes on after one, it has words of these; and any of these words begin the text of some value, or go on
 /// in one.
 pub fn words_are_those_of_texts()
     ensures at_node { (root : TypedValue) (levels : List OpenLevel) (bytes : List ℕ) → IsDue root levels bytes
@@ -42,8 +42,8 @@ pub fn words_are_those_of_texts()
         → GoesOnWith levels value words }
 {}
 
-/// States that up to a place where a word is missing the bytes are the beginning of a canonical text: in a node, unless the
-/// greatest depth is reached, and behind one.
+/// States that the bytes before a missing word are the beginning of a canonical text: in a node, unless the greatest depth is
+/// reached, and after one.
 pub fn texts_begin_up_to_places()
     ensures in_node { (whole : List ℕ) (levels : List OpenLevel) (bytes : List ℕ) (left : ℕ) → IsOpen whole levels bytes
         → length levels < most_nested → BreaksOff (node (length levels)) bytes left → BeginsValue (take (length whole - left) whole) }

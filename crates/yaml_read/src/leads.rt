@@ -66,7 +66,7 @@ pub(crate) fn another_entry<'a>(
     }
 }
 
-/// Returns what follows the lead of a node, or the end of the innermost collection, where so many are open.
+/// Returns what follows the lead of a node, or the end of the innermost collection; so many collections are open.
 pub(crate) fn read_lead<'a>(
     innermost: Option<Await>,
     count: usize,

@@ -16,7 +16,7 @@ use yaml_value::{Level, Value};
 /// The maximum nesting depth of lists and maps.
 const MOST_NESTED: usize = 1_000;
 
-/// After a value in a list or a map: another node in it follows, or it ends. The text is what follows then.
+/// The state after a value in a list or a map: another node in it follows, or it ends. The text is the rest.
 #[derive(Drop)]
 pub(crate) enum Turn<'a, A: Allocator> {
     Continues(Level<A>, &'a str),
@@ -30,7 +30,7 @@ pub(crate) enum Next<'a, A: Allocator> {
     Node(&'a str),
 }
 
-/// After an entry: another one, or the closing bracket, and what follows it.
+/// The state after an entry: another one follows, or the closing bracket has come. The text is the rest.
 pub(crate) enum Entry<'a> {
     Another(&'a str),
     End(&'a str),
@@ -100,8 +100,8 @@ fn take_value<'a, A: Allocator>(
     }
 }
 
-/// Gives a value to the innermost list or map, and each that ends with it to the one around it. Behind the outermost value comes a
-/// line's end, and nothing else.
+/// Gives a value to the innermost list or map, and gives each list or map that it ends to the one around it. After the outermost
+/// value a line's end follows, and nothing else.
 pub(crate) fn settle<'a, A: Allocator>(
     levels: &mut Vec<Level<A>, A>,
     mut value: Value<A>,
@@ -160,8 +160,8 @@ pub(crate) struct Words {
     pub(crate) lead: &'static str,
 }
 
-/// Reads a list or a map behind its tag, from its bracket on: up to its first item or key, or to what follows an empty one. It lies
-/// too deep where as many are open as may be.
+/// Reads a list or a map after its tag, from its bracket on: up to its first item or key, or, if it is empty, past its end. It lies
+/// too deep if as many are open as may be.
 pub(crate) fn begin<'a, A: Allocator>(
     levels: &mut Vec<Level<A>, A>,
     level: Level<A>,

@@ -9,7 +9,7 @@ use crate::errors::{Stop, refused_at};
 use std::alloc::Allocator;
 use yaml_base::is_alpha;
 
-/// Returns how many of the first bytes may stand in a name.
+/// Returns the number of bytes at the beginning that a name may have.
 fn name_length(text: &str) -> usize
     ensures { result ≡ prefix_len class.is_alpha text.now }
 {
@@ -21,8 +21,8 @@ fn name_length(text: &str) -> usize
     count
 }
 
-/// Returns a copy of the name that a text begins with, and what follows it. It ends before the first character that can't stand
-/// in a name.
+/// Returns a copy of the name that a text begins with, and what follows it. It ends before the first character that no name
+/// has.
 pub(crate) fn read_name<A: Allocator>(alloc: A, text: &str) -> Result<(String<A>, &str), Stop>
     ensures { ReadOr (λ found. IsNameRead text.now (seen_text found.0) found.1.now) (NoName text.now) result }
 {

@@ -13,14 +13,14 @@ use crate::errors::{Stop, refused_at};
 use std::alloc::Allocator;
 use yaml_base::{is_break, is_printable};
 
-/// Returns whether a character can't stand as itself.
+/// Returns whether a character may not be written as itself.
 fn needs_escape(c: char) -> bool
     ensures { result ≡ double.needs_escape true c }
 {
     !is_printable(c) || is_break(c) || c == '"' || c == '\\'
 }
 
-/// Returns the character that a letter after a backslash stands for.
+/// Returns the character that a letter after a backslash means.
 fn meaning_of(letter: char) -> Option<char>
     ensures { result ≡ letter_meaning letter }
 {
@@ -113,7 +113,7 @@ fn read_four_digits(text: &str) -> Option<(u32, &str)>
     }
 }
 
-/// Returns the character of a number, which no shorter escape has and which can't stand as itself.
+/// Returns the character of a number. It has no shorter escape, and may not be written as itself.
 fn character_of(number: u32, least: u32) -> Option<char>
     ensures reads { all_scalars (number ∷ []) ≡ true → least ≤ number → double.needs_escape true number ≡ true
         → double.letter_among double.short_escapes number ≡ None → result ≡ Some number }

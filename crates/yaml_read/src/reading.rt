@@ -105,8 +105,8 @@ pub(crate) fn error_of(bytes: &[u8], stop: Stop) -> ReadError
 /// accepted.
 ///
 /// # Errors
-/// `NotCanonical` where the bytes are no value's, with the line and the column of the first word that can't stand there.
-/// `TooDeep` where a list or a map begins within 1,000 others, with those of its tag. `Memory` where an allocation fails.
+/// `NotCanonical` if the bytes are no value's, with the line and the column of the first word that is impossible there.
+/// `TooDeep` if a list or a map begins within 1,000 others; its tag begins there. `Memory` if an allocation fails.
 pub fn read_canonical<A: Allocator + Copy>(alloc: A, bytes: &[u8]) -> Result<Value<A>, ReadError>
     ensures read { IfOk result (λ value. WritesValue (seen_value value) bytes.now) }
     ensures complete { IfErr result (λ error. (error ≡ ReadError.Memory)

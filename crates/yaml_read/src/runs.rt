@@ -8,7 +8,7 @@ ghost use Rattle.yaml_read.specs.EventReads.{RootRead, RunAnswer};
 ghost use Rattle.yaml_read.specs.RunPlaces.{bare_start};
 
 use crate::cuts::{after, end_text};
-use crate::errors::{Stop, stopped_within};
+use crate::errors::Stop;
 use crate::leads::Await;
 use crate::steps::{Progress, push, read_event};
 use std::alloc::Allocator;
@@ -43,12 +43,12 @@ fn read_root<'a, A: Allocator + Copy>(
                 Progress::Continues(next) => rest = next,
                 Progress::RootEnds(end) => return Ok(end),
             },
-            Err(stop) => return Err(stopped_within(stop, rest)),
+            Err(stop) => return Err(stop),
         }
     }
 }
 
-/// Reads all events of a document whose text, behind its first line, this is.
+/// Reads all events of a document; this is its text after its first line.
 fn read_run<A: Allocator + Copy>(
     alloc: A,
     events: &mut Vec<yaml_event_t<A>, A>,

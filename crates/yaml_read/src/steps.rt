@@ -1,30 +1,30 @@
 //! The events of a document, one at a time.
-ghost use Rattle.std.specs.Prelude.{◌≡◌, ◌++◌, ◌∷◌, [], List, None, map};
+ghost use Rattle.std.specs.Prelude.{◌≡◌, ◌++◌, ◌∷◌, [], IfErr, List, None, length, map};
 ghost use Rattle.yaml_base.specs.Seen.{seen_event};
 ghost use Rattle.yaml_read.specs.Awaits.{IsInnermostAwait, closing_event, seen_await, seen_awaits};
 ghost use Rattle.yaml_read.specs.Beginnings.{ReadOr};
 ghost use Rattle.yaml_read.specs.EventReads.{IsEventRead, IsNodeRead, NoNode};
 ghost use Rattle.yaml_read.specs.EventSteps.{GoesTo, await_opened, bytes_behind, open_behind_opening, open_now, trail_behind_opening};
 ghost use Rattle.yaml_read.specs.EventTexts.{Pending, next_awaited, left_open, trail_text};
-ghost use Rattle.yaml_read.specs.RunPlaces.{NoEventBegins};
+ghost use Rattle.yaml_read.specs.RunPlaces.{IsEventPlace, IsNodePlace, NoEventBegins, StopsBy};
 ghost use Rattle.yaml_read.specs.Words.{OrMemory, past_word};
 
 use crate::cuts::after;
-use crate::errors::Stop;
+use crate::errors::{Stop, refused_whole};
 use crate::leads::{Await, innermost, read_lead};
 use crate::levels::Entry;
 use crate::nodes::read_opening;
 use std::alloc::Allocator;
 use yaml_base::yaml_event_t;
 
-/// Behind an event: another one follows, or the root has ended. The text is what follows then.
+/// The state after an event: another one follows, or the root has ended. The text is the rest.
 #[derive(Drop)]
 pub(crate) enum Progress<'a> {
     Continues(&'a str),
     RootEnds(&'a str),
 }
 
-/// Returns what stands behind a node in a collection.
+/// Returns the text after a node in a collection.
 fn trail(awaited: Await) -> &'static str
     ensures { (outer : List Pending) → result.now ≡ trail_text (seen_await awaited ∷ outer) }
 {
@@ -37,7 +37,7 @@ fn trail(awaited: Await) -> &'static str
     }
 }
 
-/// Returns what a collection awaits behind a node in it.
+/// Returns what a collection awaits after a node in it.
 fn next_await(awaited: Await) -> Await
     ensures { seen_await result ≡ next_awaited (seen_await awaited) }
 {
@@ -50,13 +50,14 @@ fn next_await(awaited: Await) -> Await
     }
 }
 
-/// Reads what follows a node, and says what is open behind it.
+/// Reads the text after a node, and notes what is open then.
 fn leave_node<'a, A: Allocator>(
     awaits: &mut Vec<Await, A>,
     text: &'a str,
 ) -> Result<Progress<'a>, Stop>
-    ensures { ReadOr (GoesTo (left_open (seen_awaits awaits.old.items)) (trail_text (seen_awaits awaits.old.items)) text.now
+    ensures goes { ReadOr (GoesTo (left_open (seen_awaits awaits.old.items)) (trail_text (seen_awaits awaits.old.items)) text.now
         (seen_awaits awaits.new.items)) (past_word (trail_text (seen_awaits awaits.old.items)) text.now ≡ None) result }
+    ensures placed { IfErr result (StopsBy (λ left. left ≡ length text.now)) }
 {
     match awaits.pop() {
         None => Ok(Progress::RootEnds(text)),
@@ -76,9 +77,10 @@ fn go_behind<'a, A: Allocator>(
     opened: Option<Await>,
     text: &'a str,
 ) -> Result<Progress<'a>, Stop>
-    ensures { ReadOr (GoesTo (open_behind_opening (seen_awaits awaits.old.items) opened)
+    ensures goes { ReadOr (GoesTo (open_behind_opening (seen_awaits awaits.old.items) opened)
         (trail_behind_opening (seen_awaits awaits.old.items) opened) text.now (seen_awaits awaits.new.items))
         (past_word (trail_behind_opening (seen_awaits awaits.old.items) opened) text.now ≡ None) result }
+    ensures placed { IfErr result (StopsBy (λ left. left ≡ length text.now)) }
 {
     match opened {
         None => leave_node(awaits, text),
@@ -123,15 +125,17 @@ pub(crate) fn push<T: Drop, A: Allocator>(list: &mut Vec<T, A>, value: T) -> Res
     Ok(())
 }
 
-/// Reads the event with which a node begins, behind what leads to it, and says what follows it.
+/// Reads the event with which a node begins, after what leads to it, and the text after it.
 fn read_node<'a, A: Allocator + Copy>(
     alloc: A,
     events: &mut Vec<yaml_event_t<A>, A>,
     awaits: &mut Vec<Await, A>,
     text: &'a str,
 ) -> Result<Progress<'a>, Stop>
-    ensures { ReadOr (λ found. IsNodeRead (map seen_event events.old.items) (seen_awaits awaits.old.items) text.now (map seen_event events.new.items)
-        (open_now (seen_awaits awaits.new.items) found) (bytes_behind found)) (NoNode (seen_awaits awaits.old.items) text.now) result }
+    ensures reads { ReadOr (λ found. IsNodeRead (map seen_event events.old.items) (seen_awaits awaits.old.items) text.now
+        (map seen_event events.new.items) (open_now (seen_awaits awaits.new.items) found) (bytes_behind found))
+        (NoNode (seen_awaits awaits.old.items) text.now) result }
+    ensures placed { IfErr result (StopsBy (IsNodePlace text.now)) }
 {
     match read_opening(alloc, text) {
         Ok((event, rest)) => {
@@ -141,7 +145,7 @@ fn read_node<'a, A: Allocator + Copy>(
                 Err(stop) => Err(stop),
             }
         }
-        Err(stop) => Err(stop),
+        Err(stop) => Err(refused_whole(stop, text)),
     }
 }
 
@@ -152,8 +156,10 @@ pub(crate) fn read_event<'a, A: Allocator + Copy>(
     awaits: &mut Vec<Await, A>,
     text: &'a str,
 ) -> Result<Progress<'a>, Stop>
-    ensures { ReadOr (λ found. IsEventRead (map seen_event events.old.items) (seen_awaits awaits.old.items) text.now (map seen_event events.new.items)
-        (open_now (seen_awaits awaits.new.items) found) (bytes_behind found)) (NoEventBegins (seen_awaits awaits.old.items) text.now) result }
+    ensures reads { ReadOr (λ found. IsEventRead (map seen_event events.old.items) (seen_awaits awaits.old.items) text.now
+        (map seen_event events.new.items) (open_now (seen_awaits awaits.new.items) found) (bytes_behind found))
+        (NoEventBegins (seen_awaits awaits.old.items) text.now) result }
+    ensures placed { IfErr result (StopsBy (IsEventPlace (seen_awaits awaits.old.items) text.now)) }
 {
     let last = innermost(awaits);
     match read_lead(last, awaits.len(), text) {
@@ -167,6 +173,6 @@ pub(crate) fn read_event<'a, A: Allocator + Copy>(
                 }
             }
         },
-        Err(stop) => Err(stop),
+        Err(stop) => Err(refused_whole(stop, text)),
     }
 }

@@ -1,4 +1,4 @@
-//! Tags, verbatim or behind a handle, each in its one spelling.
+//! Tags, verbatim or after a handle, each in its one spelling.
 ghost use Rattle.std.specs.Prelude.{◌≡◌, List, IsTrue, chars, is_some, nat_lt, ℕ};
 ghost use Rattle.std.specs.List.{list_all};
 ghost use Rattle.yaml_base.specs.Percent.{is_tag_character};
@@ -12,7 +12,7 @@ use crate::errors::{Stop, refused_at};
 use crate::quoted::read_two_digits;
 use std::alloc::Allocator;
 
-/// Returns whether a character stands as itself in a written tag.
+/// Returns whether a character is written as itself in a tag.
 fn is_tag_character(c: char) -> bool
     ensures { result ≡ is_tag_character c }
 {
@@ -23,7 +23,7 @@ fn is_tag_character(c: char) -> bool
     )
 }
 
-/// Returns the first byte of a written tag, which stands as itself, or else as its percent form, and what follows.
+/// Returns the first byte of a written tag, which is written as itself or as its percent form, and the rest.
 fn read_byte(text: &str) -> Option<(u8, &str)>
     ensures { ByteRead text.now result }
 {
@@ -90,8 +90,8 @@ fn goes_on(text: &str, prefix: &'static str) -> bool
     }
 }
 
-/// Returns whether a tag is written behind the handle that stands for a prefix, which is ASCII: it goes on from that. Where the prefix is
-/// empty, whether it is written as a whole: it has a character, and goes on from no prefix that a handle stands for.
+/// Returns whether a tag is written after the handle for a prefix, which is ASCII: the tag begins with the prefix, and goes on. For an
+/// empty prefix, returns whether it is written as a whole: it has a character, and goes on from the prefix of no handle.
 fn is_spelled_by(tag: &str, prefix: &'static str) -> bool
     requires { IsTrue (list_all (λ byte. nat_lt byte 128) prefix.now) }
     ensures { result ≡ is_spelled_by prefix.now (chars tag.now) }
@@ -108,7 +108,7 @@ fn is_spelled_by(tag: &str, prefix: &'static str) -> bool
     !goes_on(tag, "tag:yaml.org,2002:")
 }
 
-/// Returns a tag behind the handle that stands for a prefix, which is ASCII, and what follows the tag's end.
+/// Returns a tag that is written after the handle for a prefix, which is ASCII, and what follows the tag's end.
 fn read_spelled<'a, A: Allocator>(
     alloc: A,
     prefix: &'static str,
@@ -134,7 +134,7 @@ fn read_spelled<'a, A: Allocator>(
     }
 }
 
-/// Returns a tag and what follows the space behind it.
+/// Returns a tag and what follows the space after it.
 pub(crate) fn read_written_tag<A: Allocator + Copy>(
     alloc: A,
     text: &str,

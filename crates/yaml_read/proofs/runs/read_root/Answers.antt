@@ -15,7 +15,7 @@ steps-preserved g c =
     let now = seen_awaits c.read_event.new.awaits.items in
     let new = map seen_event c.read_event.new.events.items in
     let goes = run_goes c.args.text.now (map seen_event c.steps.events.items) new (seen_awaits c.steps.awaits.items) c.steps.rest.now
-    (bytes_behind c.in-Ok.progress) (open_now now c.in-Ok.progress) c.steps.invariant.1 c.steps.invariant.2 c.in-Ok.ensures in (
+    (bytes_behind c.in-Ok.progress) (open_now now c.in-Ok.progress) c.steps.invariant.1 c.steps.invariant.2 c.in-Ok.ensures.reads in (
       search rules,
       subst (λ (p : Progress). RunRead c.args.text.now new (open_now now p) (bytes_behind p)) c.in-Continues.is goes.0,
       subst (λ (p : Progress). RunDue c.args.text.now new (open_now now p) (bytes_behind p)) c.in-Continues.is goes.1,
@@ -25,14 +25,14 @@ pub steps-smaller : goal.steps-smaller
 steps-smaller g c =
     subst (λ (p : Progress). length (bytes_behind p) < length c.steps.rest.now) c.in-Continues.is
     (event_shorter (seen_awaits c.steps.awaits.items) c.steps.rest.now (bytes_behind c.in-Ok.progress)
-    (open_now (seen_awaits c.read_event.new.awaits.items) c.in-Ok.progress) c.in-Ok.ensures.event c.in-Ok.ensures.read)
+    (open_now (seen_awaits c.read_event.new.awaits.items) c.in-Ok.progress) c.in-Ok.ensures.reads.event c.in-Ok.ensures.reads.read)
 
 pub returns-in-RootEnds : goal.returns-in-RootEnds
 returns-in-RootEnds g c =
     let now = seen_awaits c.read_event.new.awaits.items in
     let new = map seen_event c.read_event.new.events.items in
     let goes = run_goes c.args.text.now (map seen_event c.steps.events.items) new (seen_awaits c.steps.awaits.items) c.steps.rest.now
-    (bytes_behind c.in-Ok.progress) (open_now now c.in-Ok.progress) c.steps.invariant.1 c.steps.invariant.2 c.in-Ok.ensures in
+    (bytes_behind c.in-Ok.progress) (open_now now c.in-Ok.progress) c.steps.invariant.1 c.steps.invariant.2 c.in-Ok.ensures.reads in
     root_ended c.args.text.now new c.in-RootEnds.end.now
     (subst (λ (p : Progress). RunRead c.args.text.now new (open_now now p) (bytes_behind p) × RunDue c.args.text.now new (open_now now p) (bytes_behind p))
     c.in-RootEnds.is goes)
@@ -40,4 +40,4 @@ returns-in-RootEnds g c =
 pub returns-in-Err : goal.returns-in-Err
 returns-in-Err g c =
     fails_at_event c.args.text.now (map seen_event c.steps.events.items) (seen_awaits c.steps.awaits.items) c.steps.rest.now c.in-Err.stop
-    c.stopped_within.result c.steps.invariant.1 c.steps.invariant.2 c.in-Err.ensures c.stopped_within.ensures
+    c.steps.invariant.1 c.steps.invariant.2 c.in-Err.ensures.reads c.in-Err.ensures.placed

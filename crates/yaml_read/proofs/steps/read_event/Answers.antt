@@ -9,10 +9,12 @@ use Rattle.yaml_read.proofs.Awaits.{awaits_length, innermost_is, lead_at, taken_
 use Rattle.yaml_read.proofs.EventSteps.{end_due, end_read, event_read, it_comes, node_due, none_comes}
 use Rattle.yaml_read.proofs.{NodeTexts.memory_reads, NodeTexts.none_read, NodeTexts.read_or_then, Words.no_word}
 use Rattle.yaml_read.specs.Words.{past_word}
+use Rattle.yaml_read.proofs.EventPlaces.{bracket_placed, lead_placed, memory_placed, whole_placed_at}
+use Rattle.yaml_read.specs.RunPlaces.{IsEventPlace, at_event}
 use Rattle.yaml_read.proofs.steps.read_event.Goals as goal
 
-pub returns-in-Another : goal.returns-in-Another
-returns-in-Another g c =
+pub returns-in-Another-clause-reads : goal.returns-in-Another-clause-reads
+returns-in-Another-clause-reads g c =
     let levels = seen_awaits c.args.awaits.now.items in
     let now = seen_awaits c.read_node.new.awaits.items in
     let text = c.args.text.now in
@@ -31,10 +33,10 @@ returns-in-Another g c =
     (λ none other tail in_node comes ends is.
     let due = node_due levels other tail text rest (it_comes levels other tail text in_node comes is) stands in
     none other tail due.0 ends due.1)
-    c.read_node.ensures
+    c.read_node.ensures.reads
 
-pub returns-in-Ok-push : goal.returns-in-Ok-push
-returns-in-Ok-push g c =
+pub returns-in-Ok-push-clause-reads : goal.returns-in-Ok-push-clause-reads
+returns-in-Ok-push-clause-reads g c =
     let levels = seen_awaits c.args.awaits.now.items in
     let now = seen_awaits c.leave_node.new.awaits.items in
     let text = c.args.text.now in
@@ -58,16 +60,37 @@ returns-in-Ok-push g c =
     (λ none other tail in_node comes ends is.
     let due = end_due levels other tail text rest (it_comes levels other tail text in_node comes is) stands.0 stands.1 in
     no_word (trail_text (outside levels)) rest (encode_utf8_all tail) (ap (λ (l : List Pending). past_word (trail_text l) rest) (sym off) ∙ none) due.1)
-    c.leave_node.ensures
+    c.leave_node.ensures.goes
 
-pub returns-in-Err-push : goal.returns-in-Err-push
-returns-in-Err-push g c = memory_reads (NoEventBegins (seen_awaits c.args.awaits.now.items) c.args.text.now) c.in-Err-push.stop c.in-Err-push.ensures
+pub returns-in-Err-push-clause-reads : goal.returns-in-Err-push-clause-reads
+returns-in-Err-push-clause-reads g c = memory_reads (NoEventBegins (seen_awaits c.args.awaits.now.items) c.args.text.now) c.in-Err-push.stop c.in-Err-push.ensures
 
-pub returns-in-Err : goal.returns-in-Err
-returns-in-Err g c =
+pub returns-in-Err-clause-reads : goal.returns-in-Err-clause-reads
+returns-in-Err-clause-reads g c =
     let levels = seen_awaits c.args.awaits.now.items in
-    none_read (NoEventBegins levels c.args.text.now) c.in-Err.stop
+    none_read (NoEventBegins levels c.args.text.now) c.refused_whole.result
     (λ _ event tail in_node comes ends is.
     none_comes levels event tail c.args.text.now c.in-Err.stop (it_comes levels event tail c.args.text.now in_node comes is)
     (c.in-Err.ensures levels (innermost_is c.args.awaits.now.items c.innermost-last.result c.innermost-last.ensures)
     (c.len.ensures ∙ c.args.awaits.now.ok.0 ∙ sym (awaits_length c.args.awaits.now.items))))
+
+pub returns-in-Another-clause-placed : goal.returns-in-Another-clause-placed
+returns-in-Another-clause-placed g c =
+    let stands = lead_at c.args.awaits.now.items c.innermost-last.result c.len.result c.args.text.now c.in-Ok.lead (Another c.in-Another.rest)
+    c.innermost-last.ensures (c.len.ensures ∙ c.args.awaits.now.ok.0) c.in-Another.is c.in-Ok.ensures in
+    lead_placed (seen_awaits c.args.awaits.now.items) c.args.text.now c.in-Another.rest.now c.read_node.result stands c.read_node.ensures.placed
+
+pub returns-in-Ok-push-clause-placed : goal.returns-in-Ok-push-clause-placed
+returns-in-Ok-push-clause-placed g c =
+    let stands = lead_at c.args.awaits.now.items c.innermost-last.result c.len.result c.args.text.now c.in-Ok.lead (End c.in-End.rest)
+    c.innermost-last.ensures (c.len.ensures ∙ c.args.awaits.now.ok.0) c.in-End.is c.in-Ok.ensures in
+    bracket_placed (seen_awaits c.args.awaits.now.items) c.args.text.now c.in-End.rest.now c.leave_node.result stands.0 stands.1 c.leave_node.ensures.placed
+
+pub returns-in-Err-push-clause-placed : goal.returns-in-Err-push-clause-placed
+returns-in-Err-push-clause-placed g c =
+    memory_placed (IsEventPlace (seen_awaits c.args.awaits.now.items) c.args.text.now) c.in-Err-push.stop c.in-Err-push.ensures
+
+pub returns-in-Err-clause-placed : goal.returns-in-Err-clause-placed
+returns-in-Err-clause-placed g c =
+    whole_placed_at (IsEventPlace (seen_awaits c.args.awaits.now.items) c.args.text.now) c.args.text.now c.in-Err.stop c.refused_whole.result
+    (at_event refl) c.refused_whole.ensures

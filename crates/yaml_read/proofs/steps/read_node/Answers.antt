@@ -1,14 +1,16 @@
-use Rattle.std.proofs.Common.{[], ◌∷◌, ◌++◌, Option, map, ap, sym, ◌∙◌, append_assoc, encode_utf8_all}
+use Rattle.std.proofs.Common.{refl, [], ◌∷◌, ◌++◌, Option, map, ap, sym, ◌∙◌, append_assoc, encode_utf8_all}
 use Rattle.std.proofs.lemmas.List.{map-append}
 use Rattle.yaml_base.specs.Seen.{seen_event}
 use Rattle.yaml_read.specs.EventSteps.{await_opened, bytes_behind, open_behind_opening, open_now, trail_behind_opening}
 use Rattle.yaml_read.specs.{Awaits.seen_awaits, Beginnings.NoOpening, EventReads.NoNode, EventTexts.opening_text, declared.leads.Await.Await}
 use Rattle.yaml_read.proofs.EventSteps.{behind_encoded, node_read, trail_ends}
-use Rattle.yaml_read.proofs.{NodeTexts.absent_then, NodeTexts.memory_reads, NodeTexts.read_or_then, Words.no_word}
+use Rattle.yaml_read.proofs.EventPlaces.{memory_placed, node_placed, whole_placed_at}
+use Rattle.yaml_read.proofs.{NodeTexts.absent_then, NodeTexts.memory_reads, NodeTexts.read_or_then, NodeTexts.whole_absent, Words.no_word}
+use Rattle.yaml_read.specs.RunPlaces.{IsNodePlace, at_node}
 use Rattle.yaml_read.proofs.steps.read_node.Goals as goal
 
-pub returns-in-Ok-push : goal.returns-in-Ok-push
-returns-in-Ok-push g c =
+pub returns-in-Ok-push-clause-reads : goal.returns-in-Ok-push-clause-reads
+returns-in-Ok-push-clause-reads g c =
     let levels = seen_awaits c.args.awaits.now.items in
     let opened = c.opened_by-opened.result in
     let now = seen_awaits c.go_behind.new.awaits.items in
@@ -34,17 +36,30 @@ returns-in-Ok-push g c =
     no_word (trail_behind_opening levels opened) rest (encode_utf8_all tail) none
     (same.1 ∙ behind_encoded levels (await_opened other) tail
     ∙ ap (λ (o : Option Await). trail_behind_opening levels o ++ encode_utf8_all tail) (sym (c.opened_by-opened.ensures ∙ ap await_opened same.0))))
-    c.go_behind.ensures
+    c.go_behind.ensures.goes
 
-pub returns-in-Err-push : goal.returns-in-Err-push
-returns-in-Err-push g c = memory_reads (NoNode (seen_awaits c.args.awaits.now.items) c.args.text.now) c.in-Err-push.stop c.in-Err-push.ensures
+pub returns-in-Err-push-clause-reads : goal.returns-in-Err-push-clause-reads
+returns-in-Err-push-clause-reads g c = memory_reads (NoNode (seen_awaits c.args.awaits.now.items) c.args.text.now) c.in-Err-push.stop c.in-Err-push.ensures
 
-pub returns-in-Err : goal.returns-in-Err
-returns-in-Err g c =
+pub returns-in-Err-clause-reads : goal.returns-in-Err-clause-reads
+returns-in-Err-clause-reads g c =
     let levels = seen_awaits c.args.awaits.now.items in
-    absent_then (NoOpening c.args.text.now) (NoNode levels c.args.text.now) c.in-Err.stop
+    whole_absent (NoNode levels c.args.text.now) c.args.text.now c.in-Err.stop c.refused_whole.result c.refused_whole.ensures
+    (absent_then (NoOpening c.args.text.now) (NoNode levels c.args.text.now) c.in-Err.stop
     (λ none event tail begins ends is.
     let trail = trail_behind_opening levels (await_opened event) in
     none event (trail ++ tail) begins (trail_ends levels (await_opened event) tail ends)
     (is ∙ ap encode_utf8_all (append_assoc (opening_text event) trail tail)))
-    c.in-Err.ensures
+    c.in-Err.ensures)
+
+pub returns-in-Ok-push-clause-placed : goal.returns-in-Ok-push-clause-placed
+returns-in-Ok-push-clause-placed g c =
+    node_placed c.args.text.now c.in-Ok.rest.now (seen_event c.in-Ok.event) c.go_behind.result c.in-Ok.ensures.begins c.in-Ok.ensures.parts
+    c.go_behind.ensures.placed
+
+pub returns-in-Err-push-clause-placed : goal.returns-in-Err-push-clause-placed
+returns-in-Err-push-clause-placed g c = memory_placed (IsNodePlace c.args.text.now) c.in-Err-push.stop c.in-Err-push.ensures
+
+pub returns-in-Err-clause-placed : goal.returns-in-Err-clause-placed
+returns-in-Err-clause-placed g c =
+    whole_placed_at (IsNodePlace c.args.text.now) c.args.text.now c.in-Err.stop c.refused_whole.result (at_node refl) c.refused_whole.ensures
