@@ -34,7 +34,7 @@ uncut : IsUncut cycle_settings cycle_events
 unfolding encode_utf8 decimal_digits
 uncut = lit≤ tt
 
--- so where the dump fails, memory gave out
+-- so if the dump fails, memory gave out
 pub cycle_failed : (graph : Graph) (after : State) (error : yaml_error_t) → graph ≡ cycle_graph → DumpsAlone cycle_settings graph (Err error) after
     → error ≡ Memory
 cycle_failed graph after error is (inl memory) = memory

@@ -1,4 +1,4 @@
--- What a dump and the stream's end come to on an unopened emitter.
+-- The result of a dump and the stream's end on an unopened emitter.
 use Rattle.yaml_caller.proofs.Common.{if◌then◌else◌, ◌==◌, OnOk, None, Result, Err, Ok, length, Bool, false, ◌||◌, List, [], ◌++◌, ◌∷◌, ◌≡◌, append-nil, inl}
 use Rattle.yaml_caller.proofs.Common.{append_assoc, inr, ap, subst, sym, ◌∙◌, All-nil, All-cons, Event, stream_start, stream_end, IsDumpOf, IsWholeGraph}
 use Rattle.yaml_caller.proofs.Common.{Settings, Graph, document_event_list, graph_events, opening_unless, closing_unless, Dumps, StandsAfter, State}
@@ -18,7 +18,7 @@ one_dumped graph is =
       parts = ap (λ events. stream_start None ∷ (events ++ stream_end ∷ [])) (append-nil (document_event_list graph));
     }
 
--- what is emitted before the stream's end
+-- the events that are emitted before the stream's end
 abbrev before_end : Graph → List Event
 before_end graph = stream_start None ∷ document_event_list graph
 

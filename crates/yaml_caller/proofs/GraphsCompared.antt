@@ -1,4 +1,4 @@
--- Two graphs are isomorphic exactly where their bytes are the same.
+-- Two graphs are isomorphic exactly if their bytes are the same.
 use Rattle.yaml_caller.proofs.Common.{ℕ, ◌<◌, ◌==◌, Decides, is_none, bytes_eq, None, Result, Err, Ok, length, Bool, false, true, List, [], map, ◌++◌, ◌∷◌, ◌⊎◌}
 use Rattle.yaml_caller.proofs.Common.{refl, ◌≡◌, append_assoc, inl, inr, ap, subst, sym, ◌∙◌, arith, bytes_eq-Decides, GraphsRead, State, bare, GraphNode}
 use Rattle.yaml_caller.proofs.Common.{Graph, IsWholeGraph, typed_settings, graph_events, IsRefused}
@@ -125,7 +125,7 @@ refused_named graph error is refused =
 pub is_document : (graph : Graph) → is_whole graph ≡ true → (length graph.nodes == 0) ≡ false → IsWholeGraph (bare graph)
 is_document graph whole some = record { whole = whole; has_nodes = some }
 
--- what a dump of its nodes comes to
+-- the result of a dump of its nodes
 dump_is : (graph made : Graph) (after : State) (answer result : Result (Unit {0}) yaml_error_t) → made ≡ bare graph → answer ≡ result
     → DumpsAlone typed_settings made answer after → DumpsAlone typed_settings (bare graph) result after
 dump_is graph made after answer result is same dumps =
@@ -138,7 +138,7 @@ dump_writes graph made bytes after answer done is ok same dumps =
     let dumped = dump_is graph made after answer (Ok done) is ok dumps in
     record { output = same ∙ dumped.output_is; reads = subst (GraphsRead false (bare graph ∷ [])) (sym same) (dumped.reads refl) }
 
--- why one failed, where its output is less than full
+-- why one failed, if its output is less than full
 pub dump_refused : (graph made : Graph) (error : yaml_error_t) (bytes : List ℕ) (after : State) (answer : Result (Unit {0}) yaml_error_t)
     → made ≡ bare graph → answer ≡ Err error → bytes ≡ after.page.output → length bytes < largest_usize → DumpsAlone typed_settings made answer after
     → (error ≡ Memory) ⊎ IsRefused graph error

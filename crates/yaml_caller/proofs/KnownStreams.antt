@@ -1,4 +1,4 @@
--- What the promises of an emitter come to for a whole stream that is known.
+-- The promises of an emitter for a whole stream that is known.
 use Rattle.yaml_caller.proofs.Common.{None, true, List, [], ◌≡◌, subst, sym, ◌∙◌, Event, held_back, Settings, Promised, State}
 use Rattle.yaml_emitter.specs.Promises.{HasRoomAndMemory, ends_stream, IsWritten}
 

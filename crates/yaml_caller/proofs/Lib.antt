@@ -7,4 +7,5 @@ pub mod Dumped
 pub mod CycleFits
 pub mod GraphsCompared
 pub mod PairReads
+pub mod ServiceLemmas
 pub mod Opened

@@ -1,5 +1,5 @@
 -- Why an emitter fails that has the first events of an accepted list: for want of memory, or because the list's bytes pass the
--- limit. Where they don't, memory alone can give out.
+-- limit. If they don't, memory alone can give out.
 use Rattle.yaml_caller.proofs.Common.{ℕ, ◌<◌, ◌≤◌, IsErrAnd, IfErr, IsErr, Some, Result, Err, Ok, length, List, [], ◌++◌, ◌∷◌, ◌⊎◌, refl, ◌≡◌, append_assoc, ap}
 use Rattle.yaml_caller.proofs.Common.{inl, inr, subst, sym, ◌∙◌, arith, Event, most_open, open_count, IsAccepted, Settings, RefusedAt, Promised, State}
 use Rattle.yaml_base.proofs.Common.{◌+◌, ◌-◌, count_by, cond, sum_by-append, settings_for, bytes_written, list_layout, begins_collection}
@@ -31,7 +31,7 @@ never_refused given events all rest error state accepted begins refused =
         ∙ sym (append_assoc refused.prefix (refused.event ∷ refused.later) rest)
         ∙ ap (λ before. before ++ rest) refused.parts ∙ begins
 
--- so where the list may not fit, either memory or the limit gave out
+-- so if the list may not fit, either memory or the limit gave out
 pub memory_or_limit : (given : Settings) (events all rest : List Event) (state : State) (error : yaml_error_t) → IsAccepted given.canonical events
     → all ++ rest ≡ events → Promised given all state → state.error ≡ Some error
     → (error ≡ Memory)
@@ -42,7 +42,7 @@ memory_or_limit given events all rest state Memory accepted begins promised is =
 memory_or_limit given events all rest state error accepted begins promised is =
     absurd (never_refused given events all rest error state accepted begins (promised.refused error is tt))
 
--- what holds of an error holds where it is passed on
+-- a fact about an error holds after it is passed on
 pub at_exit : {A : Type 0} (P : Result A yaml_error_t → Type 0) (error : yaml_error_t) (answer : Result A yaml_error_t) → P (Err error)
     → IsErr answer × IsErrAnd answer (λ given. given ≡ error) → P answer
 at_exit P error (Ok done) holds is = absurd (true≢false (sym is.0))

@@ -24,7 +24,7 @@ not_opened bytes digest read error is (inl memory) = inl (ap NotRead memory)
 not_opened bytes digest read error is (inr none) =
     inr (λ value readable entry. none value readable (sym (text_written value (Ok bytes) entry.written) ∙ sym is))
 
--- what was written didn't nest too deep
+-- a value that was written didn't nest too deep
 pub no_error : {T : Type 0} (written : T) → ◌≡◌ {A = Result T yaml_error_t} (Ok written) (Err TooDeep) → ⊥
 no_error written is = cc
 

@@ -1,4 +1,4 @@
--- What the promises of an emitter come to for a mapping of one text to another.
+-- The promises of an emitter for a mapping of one text to another.
 use Rattle.yaml_dump.proofs.Common.{EmitsAll, EmitsEach, FailsAt}
 use Rattle.yaml_caller.proofs.Common.{◌++◌, ◌∷◌, append_assoc, OnOk, IfErr, None, Result, Err, Ok, false, true, List, [], refl, ◌≡◌, subst, ◌∙◌, Text}
 use Rattle.yaml_caller.proofs.Common.{any_style, block, Event, scalar_node, no_documents, documents_and, Stream}
@@ -34,7 +34,7 @@ accepted : (key value : Text) → IsAccepted false (pair_events key value)
 accepted key value =
     record { stream = pair_stream key value; is_stream = refl; sound = refl; shallow = shallow (pair_events key value) (lit≤ tt) }
 
--- what emitting the events comes to, by its answer
+-- the result of emitting the events, by its answer
 pub pair_emitted : (key value : Text) (events : List Event) (answer : Result (Unit {0}) yaml_error_t) (before state : State) → events ≡ pair_events key value
     → StandsAfter portable_settings [] before → EmitsEach before events answer state
     → OnOk answer (agrees false (pair_events key value) (stream_trees false state.page.output) ≡ true) × IfErr answer (FailsPair key value)

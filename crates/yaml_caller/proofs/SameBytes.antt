@@ -1,4 +1,4 @@
--- Values are the same exactly where their bytes are.
+-- Values are the same exactly if their bytes are.
 use Rattle.yaml_caller.proofs.Common.{ℕ, Decides, bytes_eq, Bool, List, ◌≡◌, ap, subst, sym, ◌∙◌, bytes_eq-Decides}
 use Rattle.yaml_base.specs.values.TypedValues.{TypedValue, ReadsAs, typed_output, WritesValue}
 

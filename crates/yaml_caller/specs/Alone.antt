@@ -23,7 +23,7 @@ pub record IsUnopened (emitter : State) : Type 0 where
 abbrev pub graph_events : Graph → List Event
 graph_events graph = stream_start None ∷ (document_event_list graph ++ stream_end ∷ [])
 
--- the output is that of the stream, and what the readers find in it unfolds the graph
+-- the output is that of the stream, and the trees that the readers find in it unfold the graph
 pub record DumpedAlone (given : Settings) (graph : Graph) (output : List ℕ) : Type 0 where
   pub output_is : output ≡ output_of given (graph_events graph)
   pub reads : given.canonical ≡ true → GraphsRead given.breaks12 (graph ∷ []) output

@@ -2,4 +2,5 @@ pub mod Alone
 pub mod Cycle
 pub mod GraphBytes
 pub mod Pair
+pub mod Service
 pub mod Store

@@ -1,4 +1,4 @@
--- A mapping of one text to another: what it is written by, its events, and how it can fail.
+-- A mapping of one text to another: its settings, its events, and how it can fail.
 use Rattle.std.specs.Prelude.{◌≡◌, ◌⊎◌, ◌<◌, ℕ, true, None, List, [], ◌∷◌, length}
 use Rattle.yaml_base.specs.Characters.{Text}
 use Rattle.yaml_base.specs.Settings.{Settings, nothing_given}

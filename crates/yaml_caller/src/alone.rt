@@ -21,7 +21,7 @@ pub(crate) fn dump_alone<A: Allocator + Copy>(
     ensures taken { emitter.new.page.taken ≡ emitter.old.page.taken }
     ensures dumps { (given : Settings) → StandsAfter given [] emitter.old → DumpsAlone given (graph_of document) result emitter.new }
 {
-    // A law: what the nodes hold are numbers of nodes.
+    // A law: the numbers in the nodes are numbers of nodes.
     document.numbers_name_nodes();
     yaml_emitter_dump(alloc, emitter, document)?;
     yaml_emitter_close(emitter)

@@ -23,7 +23,7 @@ use yaml_emitter::{
 /// Returns the canonical bytes of a mapping whose one key is the string `k`, and whose value is the mapping itself.
 ///
 /// # Errors
-/// `Memory` where an allocation fails; no other error occurs.
+/// `Memory` if an allocation fails; no other error occurs.
 pub fn cycle_written<A: Allocator + Copy>(alloc: A) -> Result<Vec<u8, A>, yaml_error_t>
     ensures bytes { IfOk result (λ bytes. bytes.items ≡ codes "---\n&id001 !!map {\n  ? !!str \"k\"\n  : *id001,\n}\n") }
     ensures graph { IfOk result (λ bytes. GraphsRead false (cycle_graph ∷ []) bytes.items) }

@@ -10,12 +10,12 @@ use yaml_base::{yaml_document_t, yaml_error_t};
 use yaml_emitter::{yaml_emitter_t, yaml_emitter_take_output};
 use yaml_value::canonical_settings;
 
-/// Returns whether two documents have the same canonical bytes, their directives and document markers aside: exactly where
-/// the parts of their graphs that the roots reach are isomorphic. The numbers and the styles of nodes don't count; which
-/// nodes are shared, does.
+/// Returns whether two documents have the same canonical bytes, their directives and document markers aside. They have exactly if
+/// the parts of their graphs that the roots reach are isomorphic. The numbers and the styles of nodes don't count; sharing
+/// does.
 ///
 /// # Errors
-/// Where a graph can't be written the refusal of its first event that is refused: `TagEmpty`, or `TooDeep`. `Memory` where an
+/// If a graph can't be written, the refusal of its first event that is refused: `TagEmpty`, or `TooDeep`. `Memory` if an
 /// allocation fails.
 pub fn same_graph<A: Allocator + Copy>(
     alloc: A,
@@ -49,7 +49,7 @@ fn same_nodes<A: Allocator + Copy>(
     ensures failed { IfErr result (λ error. (error ≡ yaml_error_t.Memory) ⊎ (IsRefused (graph_of first) error ⊎ IsRefused (graph_of second) error)) }
     ensures named { IfErr result (λ error. (error ≡ yaml_error_t.Memory) ⊎ ((error ≡ yaml_error_t.TagEmpty) ⊎ (error ≡ yaml_error_t.TooDeep))) }
 {
-    // A law: what the nodes hold are numbers of nodes.
+    // A law: the numbers in the nodes are numbers of nodes.
     first.numbers_name_nodes();
     second.numbers_name_nodes();
     let one = graph_bytes(alloc, first)?;

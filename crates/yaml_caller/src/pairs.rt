@@ -22,7 +22,7 @@ use yaml_emitter::{
 /// what the reader of whole streams finds in them agrees with the events.
 ///
 /// # Errors
-/// `Memory` where an allocation fails, and `WriteError` where there would be more than 1,000,000 bytes; no other error occurs.
+/// `Memory` if an allocation fails, and `WriteError` if there would be more than 1,000,000 bytes; no other error occurs.
 pub fn pair_written<A: Allocator + Copy>(
     alloc: A,
     key: String<A>,

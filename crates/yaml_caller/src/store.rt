@@ -36,7 +36,7 @@ pub enum OpenError {
 /// Returns the entry of a value.
 ///
 /// # Errors
-/// `TooDeep` where more than 1,000 lists and maps lie within one another. `Memory` where an allocation fails.
+/// `TooDeep` if more than 1,000 lists and maps lie within one another. `Memory` if an allocation fails.
 pub fn seal<A: Allocator + Copy>(alloc: A, value: &Value<A>) -> Result<Entry<A>, yaml_error_t>
     ensures sealed { IfOk result (λ entry. IsEntryOf (seen_value value.now) entry.bytes.items entry.digest) }
     ensures too_deep { (result ≡ Err yaml_error_t.TooDeep) ↔ (most_nested < nesting (seen_value value.now)) }
@@ -62,7 +62,7 @@ fn has_digest(bytes: &[u8], digest: &[u8; 32]) -> bool
 /// digest are accepted.
 ///
 /// # Errors
-/// `DigestDiffers` exactly where the digest isn't the SHA-256 of the bytes. `NotRead` where the bytes aren't the canonical
+/// `DigestDiffers` exactly if the digest isn't the SHA-256 of the bytes. `NotRead` if the bytes aren't the canonical
 /// bytes of a value, or an allocation fails.
 pub fn open<A: Allocator + Copy>(alloc: A, entry: &Entry<A>) -> Result<Value<A>, OpenError>
     ensures opened { IfOk result (λ value. IsEntryOf (seen_value value) entry.now.bytes.items entry.now.digest) }
@@ -79,11 +79,11 @@ pub fn open<A: Allocator + Copy>(alloc: A, entry: &Entry<A>) -> Result<Value<A>,
     }
 }
 
-/// Seals a value and opens the entry. What is opened is the value; only want of memory keeps it from being opened.
+/// Seals a value and opens the entry. The value that is opened is the same; only want of memory keeps it from being opened.
 ///
 /// # Errors
-/// `TooDeep` where more than 1,000 lists and maps of the value lie within one another, and `Memory` where an allocation
-/// fails while it is sealed. The inner error is that of opening: `NotRead(ReadError::Memory)`, where an allocation fails.
+/// `TooDeep` if more than 1,000 lists and maps of the value lie within one another, and `Memory` if an allocation
+/// fails while it is sealed. The inner error is that of opening: `NotRead(ReadError::Memory)`, if an allocation fails.
 pub fn sealed_and_opened<A: Allocator + Copy>(
     alloc: A,
     value: &Value<A>,

@@ -9,10 +9,10 @@ use yaml_base::yaml_error_t;
 use yaml_read::{ReadError, read_canonical, written_values_are_read};
 use yaml_value::{Value, write_canonical};
 
-/// Returns whether two values have the same canonical bytes: exactly where they are the same value.
+/// Returns whether two values have the same canonical bytes. They have exactly if they are the same value.
 ///
 /// # Errors
-/// `TooDeep` where more than 1,000 lists and maps of one of them lie within one another. `Memory` where an allocation
+/// `TooDeep` if more than 1,000 lists and maps of one of them lie within one another. `Memory` if an allocation
 /// fails.
 pub fn same_bytes<A: Allocator + Copy>(
     alloc: A,
@@ -28,11 +28,11 @@ pub fn same_bytes<A: Allocator + Copy>(
     Ok(first.as_slice() == second.as_slice())
 }
 
-/// Writes a value and reads its bytes. What is read is the value; only want of memory keeps it from being read.
+/// Writes a value and reads its bytes. The value that is read is the same; only want of memory keeps it from being read.
 ///
 /// # Errors
-/// `TooDeep` where more than 1,000 lists and maps of the value lie within one another, and `Memory` where an allocation
-/// fails while it is written. The inner error is that of reading: `ReadError::Memory`, where an allocation fails.
+/// `TooDeep` if more than 1,000 lists and maps of the value lie within one another, and `Memory` if an allocation
+/// fails while it is written. The inner error is that of reading: `ReadError::Memory`, if an allocation fails.
 pub fn written_and_read<A: Allocator + Copy>(
     alloc: A,
     value: &Value<A>,
@@ -42,7 +42,7 @@ pub fn written_and_read<A: Allocator + Copy>(
     ensures failed { IfErr result (λ error. (error ≡ yaml_error_t.TooDeep) ⊎ (error ≡ yaml_error_t.Memory)) }
 {
     let bytes = write_canonical(alloc, value)?;
-    // A law: what was written is read back.
+    // A law: a value that was written is read back.
     written_values_are_read::<A>();
     Ok(read_canonical(alloc, bytes.as_slice()))
 }
