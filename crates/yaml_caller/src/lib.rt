@@ -11,7 +11,7 @@ mod values;
 
 pub use cycles::cycle_written;
 pub use graphs::same_graph;
-pub use pairs::pair_written;
+pub use pairs::write_pair;
 pub use service::{Service, service_yaml};
 pub use store::{Entry, OpenError, entries_are_values, open, seal, sealed_and_opened};
 pub use values::{same_bytes, written_and_read};

@@ -19,11 +19,11 @@ use yaml_emitter::{
 };
 
 /// Returns the bytes of a stream of one document, a block mapping of the key to the value, whatever these texts are:
-/// what the reader of whole streams finds in them agrees with the events.
+/// the reader of whole streams finds documents in them that agree with the events.
 ///
 /// # Errors
 /// `Memory` if an allocation fails, and `WriteError` if there would be more than 1,000,000 bytes; no other error occurs.
-pub fn pair_written<A: Allocator + Copy>(
+pub fn write_pair<A: Allocator + Copy>(
     alloc: A,
     key: String<A>,
     value: String<A>,

@@ -1,4 +1,4 @@
--- What a text that was checked is, and why one is refused.
+-- The nature of a text that was checked, and the reason why one is refused.
 use Rattle.yaml_base.proofs.Common.{ℕ, ◌<◌, Bool, true, List, [], refl, ◌≡◌, ap, subst, ◌∙◌, inl, arith, Some, Settings}
 use Rattle.json.specs.Json.{value}
 use Rattle.json.specs.Lex.{tokens}

@@ -46,7 +46,7 @@ not_parsed text answer error parses is integer = apart (sym (parsed text answer 
     apart : Ok (integer_of text) ≡ Err error → ⊥
     apart e = cc
 
--- what was parsed isn't spelled so
+-- a text that was parsed isn't spelled so
 pub not_spelled : {E : Type 0} (text : List ℕ) (n : ℤ) (answer : Result ℤ E) → ParsesSigned w64 10 text answer → answer ≡ Ok n
     → (text ≡ signed_decimal n → ⊥) → IsIntegerText text → ⊥
 not_spelled {E} text n answer parses is other integer = other (integer.digits ∙ ap signed_decimal (inside (sym (parsed text answer integer parses) ∙ is)))

@@ -11,7 +11,7 @@ use Rattle.yaml_json_value.specs.Walked.{EndsAt, IsRoot, ReadsNoToken, StopsAtOt
 use Rattle.yaml_json_value.specs.declared.error.Stop.{Stop}
 use Rattle.yaml_json_value.specs.declared.error.Stop.TheVariants as stop
 
--- what a token makes of the walk
+-- the state of the walk after a token
 runs_on : (start ahead left : List Token) (token : Token) (levels : List OpenLevel) (now : Option ValueStanding) → WalkedTo start ahead levels
     → ahead ≡ token ∷ left
     → take_token token levels ≡ now → run start (within []) ≡ option_and_then (run left) now

@@ -1,4 +1,4 @@
--- A token's answer, from where the walk stands after it.
+-- A token's answer, by the state of the walk after it.
 use Rattle.yaml_base.proofs.Common.{List, [], ◌∷◌, ◌++◌, refl, ◌≡◌, ap, subst, sym, ◌∙◌, Option, None, Some, ℕ}
 use Rattle.std.specs.Prelude.{Result, Ok, Err, Vec}
 use Rattle.json.specs.Token.{Token}
@@ -22,7 +22,7 @@ taken_as token before levels due (Err stop.Misplaced) is integer stands = is ∙
 taken_as token before levels due (Err stop.NotInteger) is integer stands = absurd stands
 taken_as token before levels due (Err stop.Memory) is integer stands = tt
 
--- what follows of the innermost level, taken from the others
+-- the facts that follow for the innermost level, taken from the others
 pub on_innermost : {A : Type 0} (after : List OpenLevel → Option ValueStanding) (old new later : List (Level A)) (level : Level A)
     (answer : Result (Option (Value A)) Stop) → old ≡ new ++ level ∷ [] → StandsAt (after (seen_level level ∷ seen_levels new)) later answer
     → StandsAt (after (seen_levels old)) later answer

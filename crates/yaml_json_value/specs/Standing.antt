@@ -1,4 +1,4 @@
--- Where a walk over tokens stands that builds a typed value.
+-- The state of a walk over tokens that builds a typed value.
 use Rattle.std.specs.Prelude.{Option, None, Some, option_and_then, List, [], ◌∷◌}
 use Rattle.std.specs.Str.{chars}
 use Rattle.json.specs.Token.{Token}
@@ -11,7 +11,7 @@ pub data ValueStanding : Type 0 where
   whole : TypedValue → ValueStanding
   within : List OpenLevel → ValueStanding
 
--- after a value, which is misplaced where a name is due
+-- after a value, which is misplaced if a name is due
 abbrev pub give : List OpenLevel → TypedValue → Option ValueStanding
 give [] value = Some (whole value)
 give (pairs_open pairs ∷ outer) value = None

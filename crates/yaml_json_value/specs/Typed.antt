@@ -38,13 +38,13 @@ abbrev mutual
   typed_value (string text) = text_value (chars text)
   typed_value (array items) = list_value (typed_items items no_values)
   typed_value (object members) = map_value (typed_members members no_value_pairs)
+      -- after the items before
 
-  -- behind the items before
   pub typed_items : Items → TypedValues → TypedValues
   typed_items no_items before = before
   typed_items (item json items) before = typed_items items (values_and before (typed_value json))
+      -- after the members before
 
-  -- behind the members before
   pub typed_members : Members → TypedPairs → TypedPairs
   typed_members no_members before = before
   typed_members (member name json members) before = typed_members members (value_pairs_and before (text_value (chars name)) (typed_value json))
@@ -77,7 +77,7 @@ pub record IsCanonicalOf (text bytes : List ℕ) : Type 0 where
 abbrev pub IsJson : (text : List ℕ) → Type 0
 IsJson text = (json : Json) × (value most_nested (tokens text) ≡ Some (json, [])) × HasUniqueKeys json
 
--- what `yaml_from_json` promises of an error, under the settings for values, in flow
+-- the promise of `yaml_from_json` for an error, under the settings for values, in flow
 abbrev pub IsJsonErrorOf : (text : List ℕ) → JsonError → Type 0
 IsJsonErrorOf text error = HasNoYaml given_for_values true most_nested true text error
 
@@ -100,7 +100,7 @@ pub record HasOtherNumber (text : List ℕ) (line column : ℕ) : Type 0 where
   pub begins : AreFrom text from at
   pub place : AreOf text at line column
 
--- what an error says of the text
+-- the fact about the text that an error tells
 abbrev pub ExplainsValueError : (text : List ℕ) → ValueError → Type 0
 ExplainsValueError text (errors.Json error) = IsJsonErrorOf text error
 ExplainsValueError text (errors.NotInteger line column) = HasOtherNumber text line column

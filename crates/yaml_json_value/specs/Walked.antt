@@ -1,4 +1,4 @@
--- What the walk over tokens returns, as it is seen.
+-- The results of the walk over tokens, as they are seen.
 use Rattle.std.specs.Prelude.{◌≡◌, ℕ, ℤ, true, Option, None, Some, Result, Ok, Err, List, [], ◌∷◌, ◌++◌}
 use Rattle.std.specs.Str.{chars}
 use Rattle.json.specs.Token.{Token}
@@ -20,7 +20,7 @@ IsIntegerIn digits (Err stop.Misplaced) = ⊥
 IsIntegerIn digits (Err stop.NotInteger) = IsIntegerText digits → ⊥
 IsIntegerIn digits (Err stop.Memory) = ⊥
 
--- so the walk stands, unless memory ran out, or a number is no integer
+-- the walk has this state, unless memory ran out, or a number is no integer
 abbrev pub StandsAt : {A : Type 0} → Option ValueStanding → List (Level A) → Result (Option (Value A)) Stop → Type 0
 StandsAt due levels (Ok (Some value)) = due ≡ Some (whole (seen_value value))
 StandsAt due levels (Ok None) = due ≡ Some (within (seen_levels levels))
@@ -32,7 +32,7 @@ StandsAt due levels (Err stop.Memory) = Unit {0}
 abbrev pub IsOtherNumber : Token → Type 0
 IsOtherNumber token = (digits : List ℕ) × (token ≡ Token.number digits) × (IsIntegerText digits → ⊥)
 
--- a token's answer: where the walk stands; whether it is an integer, if it is a number
+-- a token's answer: the state of the walk; whether it is an integer, if it is a number
 abbrev pub Taken : {A : Type 0} → Token → List OpenLevel → List (Level A) → Result (Option (Value A)) Stop → Type 0
 Taken token before levels (Ok (Some value)) = (take_token token before ≡ Some (whole (seen_value value))) × IsIntegerToken token
 Taken token before levels (Ok None) = (take_token token before ≡ Some (within (seen_levels levels))) × IsIntegerToken token
@@ -47,7 +47,7 @@ IsRoot root (Err stop.Misplaced) = ⊥
 IsRoot root (Err stop.NotInteger) = Unit {0}
 IsRoot root (Err stop.Memory) = Unit {0}
 
--- where a number is no integer, these tokens of all are those from it on
+-- if a number is no integer, these tokens of all are those from it on
 abbrev pub StopsAtOther : {A : Type 0} → (all from : List Token) → Result (Value A) Stop → Type 0
 StopsAtOther all from (Err stop.NotInteger) = IsFromOtherNumber all from
 StopsAtOther all from _ = Unit {0}

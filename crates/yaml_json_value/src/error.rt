@@ -17,7 +17,7 @@ pub enum ValueError {
 /// The reason why the walk stops.
 #[derive(Clone, Copy, Debug, Drop)]
 pub(crate) enum Stop {
-    /// The token can't stand here, or one is missing.
+    /// The token is impossible here, or one is missing.
     Misplaced,
     /// The last token that was read is a number, and no integer of 64 bits.
     NotInteger,

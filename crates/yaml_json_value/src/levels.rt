@@ -22,7 +22,7 @@ pub(crate) fn enter<A: Allocator>(
     }
 }
 
-/// Gives a value to the innermost level, which was taken from the others. It is misplaced where a name is due.
+/// Gives a value to the innermost level, which was taken from the others. It is misplaced if a name is due.
 fn give_to<A: Allocator>(
     levels: &mut Vec<Level<A>, A>,
     level: Level<A>,
@@ -39,7 +39,7 @@ fn give_to<A: Allocator>(
     }
 }
 
-/// Gives a value to the innermost level; where none is open, the value is the whole.
+/// Gives a value to the innermost level; if none is open, the value is the whole.
 pub(crate) fn settle<A: Allocator>(
     levels: &mut Vec<Level<A>, A>,
     value: Value<A>,

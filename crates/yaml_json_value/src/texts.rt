@@ -27,12 +27,12 @@ fn settings() -> JsonSettings
 
 /// Returns the value of a JSON text whose numbers are integers of 64 bits. Names are texts, and all keeps its order.
 ///
-/// The text is read twice: `yaml_from_json` finds what is wrong with it, and then its tokens become the value.
+/// The text is read twice: `yaml_from_json` finds the first fault, and then its tokens become the value.
 ///
 /// # Errors
 ///
-/// `Json` where `yaml_from_json` refuses the text, with arrays and objects that nest at most 1,000 deep and each name once in its
-/// object, or where an allocation fails. `NotInteger` where the text is JSON, and a number isn't an integer of 64 bits.
+/// `Json` if `yaml_from_json` refuses the text, with arrays and objects that nest at most 1,000 deep and each name once in its
+/// object, or if an allocation fails. `NotInteger` if the text is JSON, and a number isn't an integer of 64 bits.
 pub fn value_from_json<A: Allocator + Copy>(alloc: A, text: &str) -> Result<Value<A>, ValueError>
     ensures read { IfOk result (λ value. IsValueOf text.now (seen_value value)) }
     ensures why { IfErr result (ExplainsValueError text.now) }

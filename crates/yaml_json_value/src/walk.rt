@@ -64,7 +64,7 @@ fn take_number<A: Allocator + Copy>(
     }
 }
 
-/// Takes a token more. Returns the value where it is whole then.
+/// Takes a token more. Returns the value if it is whole then.
 fn take_token<'a, A: Allocator + Copy>(
     alloc: A,
     levels: &mut Vec<Level<A>, A>,
@@ -99,7 +99,7 @@ fn next_token<'a, A: Allocator + Copy>(reader: &mut Tokens<'a, A>) -> Result<Tok
     }
 }
 
-/// Returns the value, where no token is left.
+/// Returns the value, if no token is left.
 fn finish<'a, A: Allocator + Copy>(
     reader: &Tokens<'a, A>,
     value: Value<A>,

@@ -1,4 +1,4 @@
--- What is open in the code, and the text before an event.
+-- The collections that are open in the code, and the text before an event.
 use Rattle.yaml_base.proofs.Common.{ℕ, ◌-◌, ◌+◌, ◌*◌, suc, true, false, Option, None, Some, List, [], ◌∷◌, ◌++◌, refl, ◌≡◌, ap, subst, sym, ◌∙◌, append_assoc}
 use Rattle.yaml_base.proofs.Common.{append-nil, arith, codes, false≢true, length, Text, encode_utf8_all}
 use Rattle.yaml_base.specs.values.ValueText.{line_at}
@@ -61,7 +61,7 @@ entry_line depth word = sym (line_deeper (depth * 2) word) ∙ ap (λ n. line_at
 item_lead : (depth : ℕ) → line_at (depth * 2) ++ codes "  " ≡ line_at (suc depth * 2)
 item_lead depth = entry_line depth [] ∙ append-nil (line_at (suc depth * 2))
 
--- what is found by the code's words is what the innermost collection awaits
+-- the part that is found by the code's words is the one that the innermost collection awaits
 stands_by : (lead end : List ℕ) (levels : List Pending) (text : List ℕ) (result : Result Entry Stop) → lead ≡ lead_text levels → end ≡ closing_text levels
     → can_end levels ≡ true → EntryStands lead end text result → LeadStands levels text result
 stands_by lead end levels text (Ok (Another rest)) is ends can stands = stands ∙ ap (λ w. w ++ rest.now) is

@@ -18,7 +18,7 @@ use Rattle.yaml_read.specs.declared.errors.Stop.TheVariants as stop
 use Rattle.yaml_read.specs.declared.heads.Kind.TheVariants as kind
 use Rattle.yaml_read.proofs.Words.{absent, behind_word as behind_itself, no_word}
 
--- ---- what follows words in UTF-8 is UTF-8
+-- ---- the text after words in UTF-8 is UTF-8
 
 utf8_behind : (word : Text) (bytes rest : List ℕ) → IsUtf8 bytes → bytes ≡ encode_utf8_all word ++ rest → IsUtf8 rest
 utf8_behind [] bytes rest utf8 is = subst IsUtf8 is utf8
@@ -36,7 +36,7 @@ unread word bytes utf8 lacks =
 
 -- ---- texts between quotes
 
--- what follows the characters that were read
+-- the text after the characters that were read
 pub utf8_left : (whole value bytes : List ℕ) → IsUtf8 whole → ReadSoFar whole value bytes → IsUtf8 bytes
 utf8_left whole value bytes utf8 so_far =
     let inside = flat_map (character_text true) so_far.read in

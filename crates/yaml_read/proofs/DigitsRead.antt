@@ -1,4 +1,4 @@
--- What the readers of digits answer.
+-- The answers of the readers of digits.
 use Rattle.yaml_base.proofs.Common.{ℕ, ◌-◌, ◌<◌, Option, None, Some, List, Bool, true, false, refl, ◌≡◌, ◌++◌, arith, nat_tests, and_parts, if◌then◌else◌}
 use Rattle.yaml_base.proofs.Common.{Text, encode_utf8_all, is_between}
 use Rattle.yaml_base.specs.{reading.ReadDouble.digit_meaning}

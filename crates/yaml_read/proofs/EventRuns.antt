@@ -76,7 +76,7 @@ more_ends_name : (levels next : List Pending) (event : Event) (events : List Eve
 more_ends_name levels [] event events text more after run = absurd (after_open levels event after)
 more_ends_name levels (awaited ∷ outer) event events text more after run = run_ends_name awaited outer events text more run
 
--- ---- what was read, and what follows it
+-- ---- the events that were read, and the text after them
 
 -- events from the root's beginning, and then events up to its end
 pub begun_and_run : (levels : List Pending) (events more : List Event) (text rest : Text) → HasBegunText levels events text → HasRunText levels more rest
@@ -136,7 +136,7 @@ event_more whole found levels bytes rest (Some next) event begun read =
       parts = one_more_parts whole bytes rest begun.text (event_text levels event) begun.parts read.parts;
     }
 
--- ---- what is due
+-- ---- the events that are due
 
 -- after the events found so far the others of a document are due
 pub record EventsDue (events found : List Event) (levels : List Pending) (bytes : List ℕ) : Type 0 where

@@ -87,7 +87,7 @@ no_closing levels found is innermost =
     let none : levels ≡ [] = subst (IsInnermostAwait levels) is innermost in
     ap closing_event (sym none)
 
--- ---- what is read of an event's text
+-- ---- the part of an event's text that is read
 
 -- a comma or nothing ends a name, if what follows ends it
 pub trail_ends : (levels : List Pending) (opened : Option Await) (tail : Text) → ends_name tail ≡ true

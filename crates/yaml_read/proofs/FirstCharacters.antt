@@ -1,4 +1,4 @@
--- What a character between quotes says by its first character.
+-- The meaning of a character between quotes, by its first character.
 use Rattle.yaml_base.proofs.Common.{ℕ, ◌<◌, ◌≤◌, [], ◌∷◌, ◌++◌, ◌≡◌, ◌∙◌, true≢false, true, false, Option, None, Some, List, ap, sym, arith, Text}
 use Rattle.yaml_base.proofs.Common.{encode_utf8_all, encode_utf8, all_scalars, hex_digits, character_text, short_escapes, letter_among, needs_escape}
 use Rattle.yaml_base.{proofs.Common.escape_after_backslash, proofs.Common.length, specs.reading.ReadDouble.letter_meaning, specs.Characters.backslash}

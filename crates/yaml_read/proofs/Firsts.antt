@@ -33,7 +33,7 @@ four_text n rest =
 
 -- ---- escapes
 
--- what an escape's first character says
+-- the meaning of an escape's first character
 pub data AfterBackslash (c : ℕ) : Text → Type 0 where
   by_letter : (letter : ℕ) → letter_meaning letter ≡ Some c → AfterBackslash c (letter ∷ [])
   by_two : letter_among short_escapes c ≡ None → c < 256 → AfterBackslash c (120 ∷ hex_digits 2 c)

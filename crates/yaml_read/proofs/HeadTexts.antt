@@ -76,7 +76,7 @@ pub value_bytes : (column : ℕ) (value : TypedValue) (rest : Text)
     → encode_utf8_all (value_text column value ++ rest) ≡ value_word value ++ encode_utf8_all (value_tail column value rest)
 value_bytes column value rest = ap encode_utf8_all (value_parts column value rest) ∙ word_bytes value (value_tail column value rest)
 
--- ---- what follows a tag that was read
+-- ---- the text after a tag that was read
 
 -- by its kind
 abbrev pub TailOf : Kind → ℕ → TypedValue → Text → List ℕ → Type 0

@@ -105,7 +105,7 @@ pub root_between : (graph : Graph) → IsWholeGraph graph
 root_between graph is =
     ap (λ (none : Bool). if none then [] else document_start graph.start ∷ (root_events graph ++ document_end graph.end_implicit ∷ [])) is.has_nodes
 
--- what holds of each event of a document holds of those of its root
+-- a fact about each event of a document is one about those of its root
 inside_all : (P : Event → Type 0) (graph : Graph) → IsWholeGraph graph → All P (document_event_list graph) → All P (root_events graph)
 inside_all P graph is all =
     let between = subst (λ (events : List Event). All P events) (root_between graph is) all in

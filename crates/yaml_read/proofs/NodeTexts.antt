@@ -198,7 +198,7 @@ both_read first second text behind rest is also =
     is ∙ ap (λ t. encode_utf8_all first ++ t) also ∙ sym (append_assoc (encode_utf8_all first) (encode_utf8_all second) rest)
     ∙ ap (λ t. t ++ rest) (sym (encodes-append first second))
 
--- ---- what was read
+-- ---- nodes that were read
 
 -- a scalar follows a tag if no collection opens
 pub held_read : (anchor : Option Text) (tag : Text) (text : List ℕ) (event : Event) (rest : List ℕ) → past_word (codes "[") text ≡ None
@@ -349,7 +349,7 @@ opening_read anchor text behind rest event named is one read =
 
 -- ---- answers
 
--- what was read is more, and what is absent too
+-- a part that was read is part of more, and so if it is absent
 pub read_or_then : {T P Q : Type 0} (Read More : T → Type 0) (result : Result T Stop) → ((found : T) → Read found → More found) → (P → Q)
     → ReadOr Read P result → ReadOr More Q result
 read_or_then Read More (Ok found) more none is = more found is
@@ -375,7 +375,7 @@ memory_reads Absent error is = none_read Absent error (λ other. absurd (other (
 pub absent_then : (P Q : Type 0) (error : Stop) → (P → Q) → ReadOr (λ (_ : List ℕ). Unit {0}) P (Err error) → ReadOr (λ (_ : List ℕ). Unit {0}) Q (Err error)
 absent_then P Q error then_is is = read_or_then (λ (_ : List ℕ). Unit {0}) (λ (_ : List ℕ). Unit {0}) (Err error) (λ _ found. found) then_is is
 
--- what is refused as a whole is absent
+-- a part that is refused as a whole is absent
 pub whole_absent : (Absent : Type 0) (bytes : List ℕ) (reason error : Stop) → IsWholeWord bytes reason error
     → ReadOr (λ (_ : List ℕ). Unit {0}) Absent (Err reason) → ReadOr (λ (_ : List ℕ). Unit {0}) Absent (Err error)
 whole_absent Absent bytes stop.Memory error is none =

@@ -51,7 +51,7 @@ reached_unstyled graph first_reached = first_reached
 reached_unstyled graph (child_reached {number = parent} {child = child} reached within) =
     child_reached (reached_unstyled graph reached) (subst (λ (numbers : List ℕ). Contains numbers child) (sym (children_unstyled graph parent)) within)
 
--- what is isomorphic without styles is so with them
+-- graphs that are isomorphic without styles are so with them
 pub styled_isomorphic : (graph other : Graph) → Isomorphic (unstyled_graph graph) other → Isomorphic graph other
 styled_isomorphic graph other alike =
     record {

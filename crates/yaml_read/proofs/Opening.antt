@@ -1,4 +1,4 @@
--- What was read grows with each word.
+-- The part of a text that was read grows with each word.
 use Rattle.yaml_base.proofs.Common.{ℕ, ◌+◌, ◌*◌, ◌<◌, Bool, true, false, true≢false, List, [], ◌∷◌, ◌++◌, refl, ◌≡◌, ap, subst, sym, ◌∙◌, append_assoc}
 use Rattle.yaml_base.proofs.Common.{append-nil, arith, length, codes, line_feed, Text, encode_utf8_all, eqb-true, ◌==◌}
 use Rattle.yaml_base.specs.values.TypedValues.{TypedValue, TypedValues, no_values, values_and, TypedPairs, no_value_pairs, value_pairs_and, list_value}

@@ -12,7 +12,7 @@ use Rattle.yaml_read.{specs.Grammar.behind_value, specs.Opened.opened_text, spec
 use Rattle.yaml_read.{specs.Grammar.node, specs.Opened.HasRead, specs.Opened.IsOpen, specs.Places.BreaksOff, proofs.WordTexts.flat}
 use Rattle.yaml_read.{specs.Remaining.value_follows, specs.TextsAndWords.BeginsValue, proofs.Encoded.word_encoded, proofs.WordsBehind.behind_words}
 
--- ---- what was read and what completes it are a value's text
+-- ---- a text that was read and the text that completes it are a value's text
 
 abbrev IsText : (whole : List ℕ) → (root : TypedValue) → Type 0
 IsText whole root = (whole ≡ encode_utf8_all (value_text 0 root ++ line_feed ∷ [])) × CanBeReadAt 0 root

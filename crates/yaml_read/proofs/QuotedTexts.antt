@@ -12,7 +12,7 @@ use Rattle.yaml_read.{proofs.Encoded.word_encoded, proofs.Words.no_word, specs.H
 abbrev pub to_quote : Text → Text → Text
 to_quote todo rest = flat_map (character_text true) todo ++ quote ∷ rest
 
--- what is left of a text between quotes
+-- the rest of a text between quotes
 pub record Left (text rest : Text) (value bytes : List ℕ) : Type 0 where
   pub read : Text
   pub todo : Text
@@ -20,7 +20,7 @@ pub record Left (text rest : Text) (value bytes : List ℕ) : Type 0 where
   pub value_is : value ≡ encode_utf8_all read
   pub bytes_are : bytes ≡ encode_utf8_all (to_quote todo rest)
 
--- what is left of each text between quotes with which bytes may begin
+-- the rest of each text between quotes with which bytes may begin
 pub record ReadsOn (whole value bytes : List ℕ) : Type 0 where
   pub left : (text rest : Text) → all_scalars text ≡ true → whole ≡ encode_utf8_all (in_quotes text ++ rest) → Left text rest value bytes
 

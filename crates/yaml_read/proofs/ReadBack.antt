@@ -1,4 +1,4 @@
--- What was written is read back.
+-- A value that was written is read back.
 use Rattle.yaml_base.proofs.Common.{ℕ, ◌<◌, ◌≤◌, ◌≡◌, List, Some, arith, encode, inl, inr, sym, utf8}
 use Rattle.std.specs.Prelude.{Err, IfErr, IfOk, Ok, Result, Vec}
 use Rattle.yaml_base.specs.values.TypedValues.{TypedValue, WritesValue, most_nested, nesting}

@@ -1,4 +1,4 @@
--- What is left of a value's text while it is read.
+-- The rest of a value's text while it is read.
 use Rattle.yaml_base.proofs.Common.{ℕ, ◌+◌, ◌≤◌, suc, List, ◌∷◌, ◌++◌, refl, ◌≡◌, ◌∙◌, arith, append_assoc, length, codes, space, line_feed, Text, replicate}
 use Rattle.yaml_base.specs.values.TypedValues.{TypedValue, null_value, bool_value, int_value, text_value, list_value, map_value, TypedValues, no_values}
 use Rattle.yaml_base.specs.values.TypedValues.{values_and, TypedPairs, no_value_pairs, value_pairs_and, Has64Bits, Have64Bits, PairsHave64Bits}

@@ -126,7 +126,7 @@ over (c ∷ rest) b x ends is = by (is_tag_character b) refl is
 
 -- ---- bytes that were read
 
--- what wasn't read of bytes that were written
+-- the rest of bytes that were written, after those that were read
 pub record Unread (read written left end : List ℕ) : Type 0 where
   pub todo : List ℕ
   pub parts : read ++ todo ≡ written
@@ -173,7 +173,7 @@ all_unread text read left value rest parts few none scalars ends is = by un.todo
 
 -- ---- by its first character
 
--- what the first character of a written byte says
+-- the meaning of the first character of a written byte
 pub data FirstOfByte (byte : ℕ) (rest : Text) (c : ℕ) (tail : List ℕ) : Type 0 where
   as_itself : is_tag_character byte ≡ true → c ≡ byte → tail ≡ encode_utf8_all rest → FirstOfByte byte rest c tail
   as_form : is_tag_character byte ≡ false → c ≡ percent_sign → tail ≡ encode_utf8_all (hex_digits 2 byte ++ rest) → FirstOfByte byte rest c tail

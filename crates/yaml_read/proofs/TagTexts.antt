@@ -43,7 +43,7 @@ is_spelled (c ∷ tail) sound = by (behind (codes "!") (c ∷ tail)) (behind typ
         subst (λ (t : Text). IsSpelled (c ∷ tail) (codes "!<" ++ t)) (sym (append_assoc (percent_escaped (c ∷ tail)) (codes ">") (space ∷ [])))
         (whole (ap (λ o. not (is_some o) && not (is_some (behind type_prefix (c ∷ tail)))) e ∙ ap (λ o. not (is_some o)) f))
 
--- ---- what was read is written so
+-- ---- a tag that was read is written so
 
 none_is : (o : Option Text) → not (is_some o) ≡ true → o ≡ None
 none_is None h = refl
@@ -86,7 +86,7 @@ type_bytes suffix = word_bytes (handle_text (codes "!!") suffix) (ends_ascii suf
 pub document_bytes : (suffix : Text) → encode_utf8_all (handle_text (codes "!") suffix) ≡ handle_text (codes "!") suffix
 document_bytes suffix = word_bytes (handle_text (codes "!") suffix) (ends_ascii suffix (space ∷ []) refl)
 
--- ---- what the first bytes tell
+-- ---- the meaning of the first bytes
 
 -- a handle's text after its handle
 behind_handle : (handle suffix rest : Text) → are_ascii handle ≡ true
@@ -190,7 +190,7 @@ tag_there tag _ rest text (of_document suffix some same) is none = no_word (code
 pub suffix_scalars : (prefix tag suffix : Text) → prefix ++ suffix ≡ tag → all_scalars tag ≡ true → all_scalars suffix ≡ true
 suffix_scalars prefix tag suffix is scalars = scalars_behind prefix suffix (ap all_scalars is ∙ scalars)
 
--- ---- what a tag goes on from
+-- ---- the prefix from which a tag goes on
 
 behind_prefix : (prefix rest : Text) → behind prefix (prefix ++ rest) ≡ behind [] rest
 behind_prefix [] rest = refl
@@ -302,7 +302,7 @@ document_sound tag suffix text inside rest cut some same read =
 
 -- ---- by its handle
 
--- what is known of a handle: what ends its tag is ASCII, and no tag goes on with that
+-- the facts about a handle: the word that ends its tag is ASCII, and no tag goes on with that
 pub end_ascii : (text prefix end inside : List ℕ) → OpensTag text prefix end inside → are_ascii end ≡ true
 end_ascii text _ _ inside (opens_whole _ cut) = refl
 end_ascii text _ _ inside (opens_type _ none cut) = refl

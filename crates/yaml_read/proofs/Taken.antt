@@ -1,4 +1,4 @@
--- What follows a value that a list or a map took.
+-- The text after a value that a list or a map took.
 use Rattle.yaml_base.proofs.Common.{ℕ, ◌*◌, List, ◌∷◌, ◌++◌, ◌≡◌, ◌∙◌, ap, append_assoc, codes, subst, sym}
 use Rattle.std.specs.Prelude.{Ok, Err}
 use Rattle.std.specs.Borrow.{Bor}

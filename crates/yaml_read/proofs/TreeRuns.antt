@@ -8,7 +8,7 @@ use Rattle.yaml_base.specs.values.ValueText.{in_quotes, line_at}
 use Rattle.yaml_read.specs.EventTexts.{Pending, HasRunText, event_text, item_awaited, key_awaited, lead_text, may_come, more_come, next_awaited, next_open}
 use Rattle.yaml_read.specs.EventTexts.{left_open, root_ends, trail_text, value_awaited}
 
--- what may follow a node: nothing after the root, else a run
+-- the events that may follow a node: none after the root, else a run
 abbrev pub FollowsNode : List Pending → List Event → Text → Type 0
 FollowsNode [] more rest = (more ≡ []) × (rest ≡ [])
 FollowsNode (awaited ∷ outer) more rest = HasRunText (next_awaited awaited ∷ outer) more rest

@@ -18,7 +18,7 @@ use Rattle.yaml_read.proofs.{Encoded.word_encoded, Encoded.line_encoded, HeadTex
 use Rattle.yaml_read.specs.declared.errors.Stop.TheVariants as stop
 use Rattle.yaml_read.specs.declared.heads.Kind.TheVariants as kind
 
--- what follows a word is one text
+-- one text alone follows a word
 pub cut_is : (word text rest tail : List ℕ) → text ≡ word ++ rest → text ≡ word ++ tail → rest ≡ tail
 cut_is word text rest tail is also = append_cancel_left word rest tail (sym is ∙ also)
 
@@ -248,7 +248,7 @@ root_due value bytes readable is = (
   },
 )
 
--- what a text of a whole value leaves, by the lists and maps that are open
+-- the rest of a text of a whole value, by the lists and maps that are open
 pub record TextDue (whole : List ℕ) (levels : List OpenLevel) (bytes : List ℕ) : Type 0 where
   pub due : (value : TypedValue) → CanBeRead value → whole ≡ encode_utf8_all (document_text value) → IsDue value levels bytes
 

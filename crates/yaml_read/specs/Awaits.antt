@@ -1,4 +1,4 @@
--- What is open while the events of a document are read.
+-- The collections that are open while the events of a document are read.
 use Rattle.std.specs.Prelude.{ℕ, ◌≡◌, Bool, true, false, Option, None, Some, Result, Ok, Err, List, [], ◌∷◌, ◌++◌}
 use Rattle.yaml_base.specs.Event.{Event, sequence_end, mapping_end}
 use Rattle.yaml_read.specs.EventTexts.{Pending, closing_text, item_awaited, key_awaited, lead_text, value_awaited}
@@ -11,7 +11,7 @@ use Rattle.yaml_read.specs.declared.levels.Entry.TheVariants.{Another, End}
 
 -- ---- the code's list of what is open
 
--- what a collection of the code awaits
+-- The part that a collection of the code awaits.
 abbrev pub seen_await : Await → Pending
 seen_await code.FirstItem = item_awaited true
 seen_await code.Item = item_awaited false
@@ -24,7 +24,7 @@ abbrev pub awaits_onto : List Pending → List Await → List Pending
 awaits_onto outer [] = outer
 awaits_onto outer (awaited ∷ awaits) = awaits_onto (seen_await awaited ∷ outer) awaits
 
--- what is open in the code, the innermost first
+-- The collections that are open in the code, the innermost first.
 abbrev pub seen_awaits : List Await → List Pending
 seen_awaits awaits = awaits_onto [] awaits
 

@@ -1,4 +1,4 @@
--- What was read of the beginning of a node, piece by piece; each piece can be read in one way only.
+-- The beginning of a node as it was read, piece by piece; each piece can be read in one way only.
 use Rattle.std.specs.Prelude.{◌≡◌, true, false, Option, None, Some, Result, Ok, Err, List, ℕ, ◌++◌}
 use Rattle.std.specs.Str.{all_scalars, encode_utf8_all}
 use Rattle.yaml_base.specs.Characters.{Text}

@@ -33,7 +33,7 @@ pub record AreDumpedBytes (graph : Graph) (bytes : List ℕ) : Type 0 where
 
 -- ---- styles
 
--- what a node holds, a node and a graph, each of no style; the document's start is implicit
+-- The contents of a node, a node and a graph, each of no style; the document's start is implicit.
 abbrev pub unstyled_held : Held → Held
 unstyled_held (scalar_held value style) = scalar_held value any_style
 unstyled_held (sequence_held items style) = sequence_held items any_layout

@@ -1,4 +1,4 @@
--- What follows an entry of a list or a map.
+-- The text after an entry of a list or a map.
 use Rattle.std.specs.Prelude.{ℕ, ◌≡◌, None, Result, Ok, Err, List, ◌++◌}
 use Rattle.yaml_read.specs.Words.{past_word}
 use Rattle.yaml_read.specs.declared.errors.Stop.{Stop}

@@ -1,4 +1,4 @@
--- What was read of the events of a document.
+-- The events of a document that were read.
 use Rattle.std.specs.Prelude.{◌≡◌, true, Option, Result, Ok, Err, List, ℕ, [], ◌∷◌, ◌++◌, All, codes}
 use Rattle.std.specs.Borrow.{Bor}
 use Rattle.std.specs.Str.{encode_utf8_all}

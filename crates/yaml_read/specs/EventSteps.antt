@@ -1,4 +1,4 @@
--- What is read with an event of a document.
+-- The parts that are read with an event of a document.
 use Rattle.std.specs.Prelude.{ℕ, ◌≡◌, true, Option, None, Some, List, [], ◌∷◌, ◌++◌}
 use Rattle.std.specs.Str.{encode_utf8_all}
 use Rattle.yaml_base.specs.Characters.{Text}
@@ -10,18 +10,18 @@ use Rattle.yaml_read.specs.declared.leads.Await.TheVariants as code
 use Rattle.yaml_read.specs.declared.steps.Progress.{Progress}
 use Rattle.yaml_read.specs.declared.steps.Progress.TheVariants.{Continues, RootEnds}
 
--- what a collection that an event opens awaits; none if it opens none
+-- The part that a collection awaits that an event opens; none if it opens none.
 abbrev pub await_opened : Event → Option Await
 await_opened (sequence_start start) = Some code.FirstItem
 await_opened (mapping_start start) = Some code.FirstKey
 await_opened _ = None
 
--- what is open after the beginning of a node, by the collection that it opens; none if the root ends
+-- The collections that are open after the beginning of a node, by the one that it opens; none if the root ends.
 abbrev pub open_behind_opening : List Pending → Option Await → Option (List Pending)
 open_behind_opening levels None = left_open levels
 open_behind_opening levels (Some awaited) = Some (seen_await awaited ∷ levels)
 
--- what follows the beginning of a node in its event's text
+-- The text after the beginning of a node in its event's text.
 abbrev pub trail_behind_opening : List Pending → Option Await → Text
 trail_behind_opening levels None = trail_text levels
 trail_behind_opening levels (Some awaited) = []
@@ -32,7 +32,7 @@ text_behind_lead levels event = opening_text event ++ trail_behind_opening level
 
 -- ---- the code's answers
 
--- what is open now; none if the root has ended
+-- The collections that are open now; none if the root has ended.
 abbrev pub open_now : List Pending → Progress → Option (List Pending)
 open_now levels (Continues rest) = Some levels
 open_now levels (RootEnds rest) = None

@@ -23,7 +23,7 @@ lead_text (item_awaited empty ∷ outer) = line_at (length (item_awaited empty �
 lead_text (key_awaited empty ∷ outer) = line_at (length (key_awaited empty ∷ outer) * 2) ++ codes "? "
 lead_text (value_awaited ∷ outer) = line_at (length (value_awaited ∷ outer) * 2) ++ codes ": "
 
--- what follows a node
+-- The text that follows a node.
 abbrev pub trail_text : List Pending → Text
 trail_text [] = []
 trail_text (item_awaited empty ∷ outer) = codes ","
@@ -44,7 +44,7 @@ closing_text (item_awaited empty ∷ outer) = closing_line (length outer * 2) em
 closing_text (key_awaited empty ∷ outer) = closing_line (length outer * 2) empty ++ codes "}"
 closing_text _ = []
 
--- what lies around the innermost collection
+-- The collections around the innermost one.
 abbrev pub outside : List Pending → List Pending
 outside [] = []
 outside (awaited ∷ outer) = outer
@@ -61,18 +61,18 @@ event_text levels _ = []
 
 -- ---- order
 
--- what an open collection awaits after a node in it
+-- The part that an open collection awaits after a node in it.
 abbrev pub next_awaited : Pending → Pending
 next_awaited (item_awaited empty) = item_awaited false
 next_awaited (key_awaited empty) = value_awaited
 next_awaited value_awaited = key_awaited false
 
--- what is open after a node; none if it is the root
+-- The collections that are open after a node; none if it is the root.
 abbrev pub left_open : List Pending → Option (List Pending)
 left_open [] = None
 left_open (awaited ∷ outer) = Some (next_awaited awaited ∷ outer)
 
--- what is open after an event; none if the root ends
+-- The collections that are open after an event; none if the root ends.
 abbrev pub next_open : List Pending → Event → Option (List Pending)
 next_open levels (sequence_start start) = Some (item_awaited true ∷ levels)
 next_open levels (mapping_start start) = Some (key_awaited true ∷ levels)

@@ -1,4 +1,4 @@
--- What was read of a value's text, by the lists and maps that are open.
+-- The part of a value's text that was read, by the lists and maps that are open.
 use Rattle.std.specs.Prelude.{ℕ, suc, ◌+◌, ◌*◌, ◌<◌, ◌≡◌, List, [], ◌∷◌, ◌++◌, codes, length}
 use Rattle.std.specs.Str.{encode_utf8_all}
 use Rattle.yaml_base.specs.Characters.{Text, line_feed}
@@ -31,7 +31,7 @@ opened_text (value_due pairs key ∷ levels) =
     ++ (entry_lead (codes "{") (has_no_value_pairs pairs)
     ++ (line_at (column_in levels + 2) ++ (codes "? " ++ (value_text (column_in levels + 2) key ++ (line_at (column_in levels + 2) ++ codes ": ")))))))
 
--- what they hold could be written there
+-- The values that they hold could be written there.
 abbrev pub OpenCanBeRead : List OpenLevel → Type 0
 OpenCanBeRead [] = Unit {0}
 OpenCanBeRead (items_open items ∷ levels) = OpenCanBeRead levels × ((length levels < most_nested) × AllCanBeReadAt (suc (length levels)) items)
@@ -53,7 +53,7 @@ pub record HasRead (whole : List ℕ) (levels : List OpenLevel) (value : TypedVa
 
 -- ---- the code's answers
 
--- what follows an entry
+-- The text after an entry.
 abbrev pub EntryCut : (depth : ℕ) → (lead end text : List ℕ) → Entry → Type 0
 EntryCut depth lead end text (Another rest) = text ≡ codes "," ++ (line_at (depth * 2) ++ (lead ++ rest.now))
 EntryCut depth lead end text (End rest) = text ≡ codes "," ++ (line_at (depth * 2) ++ (end ++ rest.now))

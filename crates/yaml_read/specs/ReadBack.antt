@@ -1,4 +1,4 @@
--- What `read_canonical` answers.
+-- The answers of `read_canonical`.
 use Rattle.std.specs.Prelude.{ℕ, ◌≡◌, ◌≢◌, ◌⊎◌, IfErr, IfOk, List, Result, Some}
 use Rattle.yaml_base.specs.Encoding.{encode}
 use Rattle.yaml_base.specs.Settings.{utf8}
@@ -14,7 +14,7 @@ use Rattle.yaml_read.specs.declared.errors.ReadError.TheVariants as told
 abbrev pub IsJust : List ℕ → ReadError → Type 0
 IsJust bytes error = (error ≡ told.Memory) ⊎ ((value : TypedValue) → CanBeRead value → encode (Some utf8) (document_text value) ≢ bytes)
 
--- what the clauses `read` and `complete` of `read_canonical` say of its answer to these bytes
+-- The clauses `read` and `complete` of `read_canonical` for its answer to these bytes.
 pub record IsAnswerTo {A : Type 0} (bytes : List ℕ) (answer : Result (Value A) ReadError) : Type 0 where
   pub read : IfOk answer (λ value. WritesValue (seen_value value) bytes)
   pub complete : IfErr answer (IsJust bytes)

@@ -1,4 +1,4 @@
--- What is left of a value's text while it is read, by the lists and maps that are open.
+-- The rest of a value's text while it is read, by the lists and maps that are open.
 use Rattle.std.specs.Prelude.{ℕ, suc, ◌+◌, ◌≡◌, Result, Ok, Err, List, [], ◌∷◌, ◌++◌, codes, length}
 use Rattle.std.specs.Str.{encode_utf8_all}
 use Rattle.yaml_base.specs.Characters.{Text, line_feed}

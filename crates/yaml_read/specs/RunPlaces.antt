@@ -10,7 +10,7 @@ use Rattle.yaml_read.specs.Places.{LacksEnd}
 use Rattle.yaml_read.specs.declared.errors.Stop.{Stop}
 use Rattle.yaml_read.specs.declared.errors.Stop.TheVariants as stop
 
--- what begins a document that has neither a version nor directives
+-- The start of a document that has neither a version nor directives.
 abbrev pub bare_start : DocumentStart
 bare_start = record { version = None; directives = []; implicit = true }
 

@@ -125,7 +125,7 @@ pub record LineEntryRead (depth : ℕ) (lead end text : List ℕ) (result : Resu
   pub breaks : IfErr result (BreaksAt (line_then depth (these_or_those (word_then lead nothing) (word_then end nothing))) text)
   pub shorter : IfOk result (EntryShorter text)
 
--- what follows an entry of a list or a map that lies so deep
+-- The text after an entry of a list or a map that lies so deep.
 pub record EntryRead (depth : ℕ) (lead end text : List ℕ) (result : Result Entry Stop) : Type 0 where
   pub found : (tail : List ℕ) → text ≡ codes "," ++ (line_at (depth * 2) ++ tail) → EntryFound lead end tail result
   pub cut : IfOk result (EntryCut depth lead end text)

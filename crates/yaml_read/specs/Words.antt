@@ -4,7 +4,7 @@ use Rattle.std.specs.Borrow.{Bor}
 use Rattle.yaml_read.specs.declared.errors.Stop.{Stop}
 use Rattle.yaml_read.specs.declared.errors.Stop.TheVariants as stop
 
--- what follows a word at a text's beginning
+-- The text after a word at a text's beginning.
 abbrev pub past_word : (word text : List ℕ) → Option (List ℕ)
 past_word [] text = Some text
 past_word (w ∷ word) [] = None

@@ -21,7 +21,7 @@ fn needs_escape(c: char) -> bool
 }
 
 /// Returns the character that a letter after a backslash means.
-fn meaning_of(letter: char) -> Option<char>
+fn unescape_letter(letter: char) -> Option<char>
     ensures { result ≡ letter_meaning letter }
 {
     let character = match letter {
@@ -153,7 +153,7 @@ fn read_escape(text: &str) -> Option<(char, &str)>
             } else if letter == 'u' {
                 read_number(read_four_digits(rest), 0x100)
             } else {
-                match meaning_of(letter) {
+                match unescape_letter(letter) {
                     Some(c) => {
                         if needs_escape(c) {
                             Some((c, rest))

@@ -15,7 +15,7 @@ bytes_of events =
     let s = settings_for given_for_values (all_of events) in
     bytes_written s (list_layout s (all_of events))
 
--- what is written by the settings for values is uncut, in UTF-8, of Unicode scalar values
+-- a stream that is written by the settings for values is uncut, in UTF-8, of Unicode scalar values
 stream_is_utf8 : (events : List Event) (bytes : List ℕ) → IsStream given_for_values (all_of events) bytes → IsUtf8 bytes
 stream_is_utf8 events bytes stream =
     let text : Text = stream.state.page.text in

@@ -1,4 +1,4 @@
--- What an emitter was given by the events of some calls, and the documents that come of it.
+-- The state of an emitter after the events of some calls, and the documents that they make.
 use Rattle.yaml_serde.proofs.Common.{ℕ, OnOk, Option, Result, Err, Ok, List, [], ◌++◌, ◌∷◌, refl, ◌≡◌, append-nil, append_assoc, subst, sym}
 use Rattle.yaml_serde.proofs.Common.{Appends, All, ∥∥₁_map, Event, Settings, State, grows_itself, Grows, IsWriterEvent, IsDocument, AppendsDocument}
 use Rattle.yaml_serde.proofs.Common.{GivesEvents, WriterState, opening, closing, StandsTaken, TakesBytes, IsStream, Finishes}
@@ -65,7 +65,7 @@ pub finished_document : (given : Settings) (start emitter : State) (bytes : List
 finished_document given start emitter bytes began gives finishes =
     ∥∥₁_map gives (λ gave. gave_document given start emitter [] bytes began gave finishes)
 
--- what is left was handed on, too
+-- the rest was handed on, too
 sent_document : (given : Settings) (held mid now : Option (List ℕ)) (start emitter : State) (rest : List ℕ) → StandsTaken given opening [] start
     → SendsEvents held start mid emitter → Finishes emitter rest → Appends mid now rest → AppendsDocument given held now
 sent_document given held mid now start emitter rest began sends finishes appends = ∥∥₁_map sends whole
@@ -90,7 +90,7 @@ sent_beginning given held mid now start emitter rest began sends finishes first 
       inr (inr ∣ gave_document given start emitter sent.0 rest began sent.2 finishes ∣₁),
     )
 
--- what an answer tells of both
+-- the facts that an answer tells of both
 pub written_by : {E : Type 0} (answer : Result (Unit {0}) E) (given : Settings) (held mid now : Option (List ℕ)) (start emitter : State) (rest : List ℕ)
     → StandsTaken given opening [] start → SendsEvents held start mid emitter → Finishes emitter rest → OnOk answer (Appends mid now rest)
     → OnOk answer (AppendsDocument given held now)
@@ -105,7 +105,7 @@ begun_by (Ok done) given held mid now start emitter rest began sends finishes fi
 begun_by (Err error) given held mid now start emitter rest began sends finishes first =
     sent_beginning given held mid now start emitter rest began sends finishes first
 
--- what holds after any error
+-- facts that hold after any error
 pub fails_with : {E P : Type 0} (answer : Result (Unit {0}) E) → P → OnErr answer P
 fails_with (Ok done) holds = tt
 fails_with (Err error) holds = holds

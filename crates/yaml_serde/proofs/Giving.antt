@@ -80,8 +80,8 @@ float_call before after format (fin negative significand exponent) answer gave =
 module _ {W : Type 0} (contents : W → Option (List ℕ)) (outside : Outside) where
   abbrev StandsIn : Outlet W → ℕ → WriterState → Type 0
   StandsIn outlet base writer = Stands contents outside outlet base writer
+      -- the events that were given, with some bytes handed on
 
-  -- what was given, with some bytes handed on
   abbrev Given : Outlet W → State → Type 0
   Given outlet emitter = GaveAndHandedOn contents outside.held outside.start.emitter outlet emitter
 
@@ -315,8 +315,8 @@ module _ {W : Type 0} (contents : W → Option (List ℕ)) (outside : Outside) w
       gives : Given outlet writer.emitter → GaveEvents outside.start.emitter [] writer.emitter
       gives given =
           subst (λ (bytes : List ℕ). GaveEvents outside.start.emitter bytes writer.emitter) (given.handed.kept (stands.kept ∙ kept)) given.gave
+      -- bytes that were written before stay
 
-  -- what was written before stays
   given_grows : (outlet : Outlet W) (base : ℕ) (writer : WriterState) → StandsIn outlet base writer → Grows outside.start.emitter.page writer.emitter.page
   given_grows outlet base writer stands =
       record {
@@ -332,8 +332,8 @@ module _ {W : Type 0} (contents : W → Option (List ℕ)) (outside : Outside) w
     canonical = stands.canonical;
     above = stands.above;
   }
+      -- and a whole one, if the writer has no error, and nothing more is open than before
 
-  -- and a whole one, where the writer has no error, and nothing more is open than before
   pub gives_value : (answer : Result (Unit {0}) Error) {outlet : Outlet W} {base : ℕ} {writer : WriterState} → outside.keeps ≡ true
       → StandsIn outlet base writer → OnOk answer ((length writer.levels ≡ base) × (awaits_node writer ≡ false))
       → OnOk answer (writer.emitter.error ≡ None) → GivesValue outside.start answer writer
@@ -346,8 +346,8 @@ module _ {W : Type 0} (contents : W → Option (List ℕ)) (outside : Outside) w
     sound = sound;
   }
   gives_value (Err error) {outlet} {base} {writer} kept stands whole sound = gave_part outlet base writer kept stands
+      -- if the sink didn't fail, it has the bytes that were taken
 
-  -- where the sink didn't fail it has what was taken
   sent_events : (outlet : Outlet W) (base : ℕ) (writer : WriterState) → has_failed outlet.handing ≡ false → StandsIn outlet base writer
       → SendsEvents outside.held outside.start.emitter (contents outlet.sink.now) writer.emitter
   sent_events outlet base writer unfailed stands =

@@ -1,4 +1,4 @@
--- What is handed on of a document's bytes.
+-- The bytes of a document that are handed on.
 use Rattle.yaml_serde.proofs.Common.{ℕ, Option, true, false, List, ◌++◌, refl, ◌≡◌, append_assoc, ap, subst, sym, ◌∙◌}
 use Rattle.yaml_serde.proofs.Common.{Appends, Err, Ok, OnOk, Result, Event, Settings, State, Grows, is_kept, WriterState, StandsTaken}
 use Rattle.yaml_base.specs.Prefix.{IsPrefix}
@@ -36,13 +36,13 @@ appends_first a b c x y whole first =
 
 -- ---- the output
 
--- what was taken, and a beginning of what is left, begin the output
+-- the bytes that were taken, and a beginning of the rest, begin the output
 pub left_begins : (given : Settings) (all : List Event) (sent first : List ℕ) (emitter : State) → StandsTaken given all sent emitter
     → IsPrefix first (output_left emitter.page) → IsPrefix (sent ++ first) emitter.page.output
 left_begins given all sent first emitter stands is =
     subst (IsPrefix (sent ++ first)) (taken_and_left given all sent emitter stands) (prefix_after sent first (output_left emitter.page) is)
 
--- what is taken stays written
+-- bytes that are taken stay written
 pub grows_taken : (before after : WriterState) → after ≡ record before { emitter = with_all_taken before.emitter }
     → Grows before.emitter.page after.emitter.page
 grows_taken before after rest =
@@ -72,7 +72,7 @@ module _ {W : Type 0} (contents : W → Option (List ℕ)) (old : Outlet W) (bef
       subst (λ (handing : Handing). HandsOn contents handing old before (Ok tt) old before) (sym is)
       (refl, record { outlet = refl; writer = refl })
 
--- what was handed on is taken; or nothing was
+-- the bytes that were handed on are taken; or none were
 taken_or_not : {W : Type 0} (contents : W → Option (List ℕ)) (handing : Handing) (old : Outlet W) (before : WriterState) (new : Outlet W)
     (after : WriterState) → HandsOn contents handing old before (Ok tt) new after
     → (after ≡ before) ⊎ (after ≡ record before { emitter = with_all_taken before.emitter })

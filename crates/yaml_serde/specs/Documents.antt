@@ -21,7 +21,7 @@ use Rattle.yaml_writer.specs.declared.floats.SpecialFloat.{SpecialFloat}
 use Rattle.yaml_base.specs.declared.kinds.CollectionKind.{CollectionKind}
 
 -- an event that a call of a writer gives, with the writer's properties of the next node: so a number is spelled for both
--- schemas, and a text stands plain only where both read it as a text
+-- schemas, and a text is plain only if both read it as a text
 pub data IsWriterEvent : Event → Type 0 where
   null_call : (writer : WriterState) → IsWriterEvent (null_event writer)
   bool_call : (writer : WriterState) (value : Bool) → IsWriterEvent (bool_event writer value)

@@ -1,4 +1,4 @@
--- Where the bytes of a document go, and what was written of it so far.
+-- The outlets for the bytes of a document, and what was written of it so far.
 use Rattle.std.specs.Io.KnownBytes.{Appends}
 use Rattle.std.specs.Prelude.{◌≡◌, ℕ, Bool, true, false, Option, None, Result, Ok, Err, List, [], ◌++◌, length, take}
 use Rattle.std.specs.Borrow.{GName}
@@ -55,7 +55,7 @@ pub record HandsNone {W : Type 0} (old : Outlet W) (before : WriterState) (new :
   pub outlet : new ≡ old
   pub writer : after ≡ before
 
--- what is left of the writer's output was handed on, all or where the sink failed a beginning; nothing, where the bytes stay with the
+-- the rest of the writer's output was handed on, all of it, or a beginning if the sink failed; nothing, if the bytes stay with the
 -- writer, or the sink failed before
 abbrev pub HandsOn :
     {W : Type 0} → (W → Option (List ℕ)) → Handing → Outlet W → WriterState → Result (Unit {0}) Error → Outlet W → WriterState → Type 0
@@ -66,8 +66,8 @@ HandsOn contents Open old before (Err error) new after = HandsFirst contents old
 
 -- ---- the whole document so far
 
--- a sink, which held others before, was handed these bytes, which are taken of the writer's output, and where it failed, some more;
--- none, where the bytes stay with the writer
+-- a sink, which held others before, was handed these bytes, which are taken of the writer's output, and some more if it failed;
+-- none, if the bytes stay with the writer
 pub record Handed {W : Type 0} (contents : W → Option (List ℕ)) (held : Option (List ℕ)) (outlet : Outlet W) (taken more : List ℕ) : Type 0 where
   pub sends : Appends held (contents outlet.sink.now) (taken ++ more)
   pub none : has_failed outlet.handing ≡ false → more ≡ []
@@ -88,7 +88,7 @@ pub record GaveAndHandedOn {W : Type 0} (contents : W → Option (List ℕ)) (he
 abbrev pub HasGiven : {W : Type 0} → (W → Option (List ℕ)) → Option (List ℕ) → State → Outlet W → State → Type 0
 HasGiven contents held start outlet emitter = ∥ GaveAndHandedOn contents held start outlet emitter ∥₁
 
--- what stood before a document: its writer and the name of the reference to it, the bytes of its sink where they are known and the name
+-- the state before a document: its writer and the name of the reference to it, the bytes of its sink if they are known and the name
 -- of the reference to that, and whether the document's bytes stay with the writer
 pub record Outside : Type 0 where
   pub start : WriterState

@@ -1,4 +1,4 @@
--- What the calls do that give a value to a writer, by their results.
+-- The effects of calls that give a value to a writer, by their results.
 use Rattle.std.specs.Prelude.{◌≡◌, ℕ, false, Option, None, Result, Ok, Err, List, [], length, take}
 use Rattle.yaml_base.specs.Settings.{Settings}
 use Rattle.yaml_pen.specs.Wrote.{Grows}
@@ -29,7 +29,7 @@ GivesValue before (Err error) after = GavePart before after
 
 -- ---- a value that is handed on to a sink
 
--- where a document began in the emitter, the known bytes of the sink grow by a beginning of one
+-- if a document began in the emitter, the known bytes of the sink grow by a beginning of one
 abbrev pub SendsBeginning : Option (List ℕ) → State → Option (List ℕ) → Type 0
 SendsBeginning held before now = (given : Settings) → StandsTaken given opening [] before → AppendsBeginning given held now
 

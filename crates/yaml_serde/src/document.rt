@@ -13,7 +13,7 @@ use std::io::Write;
 use std::marker::{Brand, PhantomData};
 use yaml_writer::{Writer, YAML_BLOCK_MAPPING_STYLE, YAML_BLOCK_SEQUENCE_STYLE, yaml_error_t};
 
-/// A type that names what stood before a document.
+/// A type that names the state before a document.
 pub(crate) trait Given {
     ghost outside: { Outside };
 }
@@ -46,7 +46,7 @@ impl Given for Brand {
     ghost outside = { some_outside };
 }
 
-/// A document being written: its writer, and where the bytes go.
+/// A document being written: its writer, and the place to which the bytes go.
 #[derive(Drop)]
 pub(crate) struct Document<'w, 'a, G: Given, W: Write> {
     writer: &'w mut Writer<Global>,
@@ -91,7 +91,7 @@ impl<'w, 'a, G: Given, W: Write> Document<'w, 'a, G, W> {
         }
     }
 
-    /// Hands on what is flushed, once an event was given.
+    /// Hands on the flushed bytes, once an event was given.
     fn settle(&mut self, given: Result<(), yaml_error_t>) -> Result<(), Error>
         ensures given { OnOk result (given ≡ Ok tt) }
         ensures hands { given ≡ Ok tt → HandsOn W.contents self.old.outlet.handing self.old.outlet self.old.writer.now result
@@ -116,7 +116,7 @@ impl<'w, 'a, G: Given, W: Write> Document<'w, 'a, G, W> {
         (writer, sink, Ok(()))
     }
 
-    /// Returns the writer, the sink, and the writer's error, if it has one; `ExpectedNode` where something that the document
+    /// Returns the writer, the sink, and the writer's error, if it has one; `ExpectedNode` if something that the document
     /// opened isn't ended, or an anchor or a tag awaits its node.
     pub(crate) fn into_writer(self) -> (&'w mut Writer<Global>, &'a mut W, Result<(), Error>)
         requires { G.outside.keeps ≡ true }
@@ -171,7 +171,7 @@ impl<G: Given, W: Write> Target for Document<'_, '_, G, W> {
     }
 }
 
-/// Returns the error of a writer, if it has one; `ExpectedNode` where it has another number of open collections, or an anchor or a tag
+/// Returns the error of a writer, if it has one; `ExpectedNode` if it has another number of open collections, or an anchor or a tag
 /// awaits its node.
 fn check_whole(writer: &Writer<Global>, base: usize) -> Result<(), Error>
     ensures whole { OnOk result ((length writer.now.levels ≡ base) × (awaits_node writer.now ≡ false)) }

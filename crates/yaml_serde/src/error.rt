@@ -6,15 +6,15 @@ use std::alloc::{AllocError, AllocFailed};
 use std::{fmt, io};
 use yaml_writer::yaml_error_t;
 
-/// The reason why a value isn't written, and the place in it. `Display` prints the path, a colon and the cause; where there is no path,
-/// the cause alone.
+/// The reason why a value isn't written, and the place in it. `Display` prints the path, a colon and the cause; without a path, the
+/// cause alone.
 #[derive(Debug, Drop)]
 pub struct Error {
     pub cause: Cause,
-    /// The keys and indices that lead to where the value's own `serialize` failed, as `jobs.build.steps[2].with`. A key that is
-    /// neither a text nor an integer is `?`; a tag and a flattened value add nothing.
+    /// The keys and indices that lead to the place at which the value's own `serialize` failed, as `jobs.build.steps[2].with`. A key
+    /// that is neither a text nor an integer is `?`; a tag and a flattened value add nothing.
     ///
-    /// `None` where it failed outside of any key and item, where only the end of the value showed the error, and where the path
+    /// `None` if it failed outside of any key and item, if only the end of the value showed the error, and if the path
     /// itself could not be allocated.
     pub path: Option<String>,
 }

@@ -26,7 +26,7 @@ pub(crate) struct Outlet<'a, W> {
     pub(crate) handing: Handing,
 }
 
-/// Hands on what is flushed. An error is that of the sink, which the outlet then holds.
+/// Hands on the flushed bytes. An error is that of the sink, which the outlet then holds.
 pub(crate) fn hand_on<W: Write>(
     writer: &mut Writer<Global>,
     outlet: &mut Outlet<'_, W>,

@@ -1,4 +1,4 @@
-//! The path to where a serializer is within its value.
+//! The path to a serializer's place within its value.
 use crate::error::Error;
 use crate::scalars::Scalar;
 use std::alloc::{AllocError, Global};
@@ -33,11 +33,11 @@ enum Step {
 struct Level {
     kind: LevelKind,
     step: Step,
-    /// The place where its key begins among the bytes of all keys.
+    /// The place at which its key begins among the bytes of all keys.
     start: usize,
 }
 
-/// The path to where a serializer is within its value.
+/// The path to a serializer's place within its value.
 #[derive(Drop)]
 pub(crate) struct Path {
     alloc: Global,
@@ -96,7 +96,7 @@ impl Path {
         }
     }
 
-    /// Passes a text, which is kept where it is a key.
+    /// Passes a text, which is kept if it is a key.
     pub(crate) fn pass_text(&mut self, text: &str) -> Result<(), Error> {
         if !self.is_in_key() {
             self.pass();
@@ -110,7 +110,7 @@ impl Path {
         Ok(())
     }
 
-    /// Passes a node that is neither a text nor a collection: an integer is kept where it is a key.
+    /// Passes a node that is neither a text nor a collection: an integer is kept if it is a key.
     pub(crate) fn pass_scalar(&mut self, scalar: Scalar<'_>) -> Result<(), Error> {
         match scalar {
             Scalar::Int(value) => self.pass_integer(&value),
@@ -124,7 +124,7 @@ impl Path {
         }
     }
 
-    /// Passes an integer, which is kept where it is a key.
+    /// Passes an integer, which is kept if it is a key.
     fn pass_integer<T: Display>(&mut self, value: &T) -> Result<(), Error> {
         if self.is_in_key() {
             let text = text_of(self.alloc, value)?;
@@ -152,7 +152,7 @@ impl Path {
         }
     }
 
-    /// Returns the path as a text; `None` where it is empty, or there is no memory for it.
+    /// Returns the path as a text; `None` if it is empty, or there is no memory for it.
     fn to_text(&self) -> Option<String> {
         let mut text = String::new(self.alloc);
         for level in &self.levels {
@@ -172,12 +172,12 @@ impl Path {
     }
 }
 
-/// Returns what a value prints.
+/// Returns the text that a value prints.
 pub(crate) fn text_of<T: Display>(alloc: Global, value: &T) -> Result<String, AllocError> {
     format!(in alloc; "{value}")
 }
 
-/// Appends a key; `?` where it is unknown.
+/// Appends a key; `?` if it is unknown.
 fn append_key(key: Option<&[u8]>, text: &mut String) -> Result<(), AllocError> {
     if !text.is_empty() {
         text.push('.')?;

@@ -30,7 +30,7 @@ enum Next {
     Members,
 }
 
-/// Writes what a value sends.
+/// Writes the calls that a value sends.
 struct ValueSerializer<D: Target> {
     alloc: Global,
     document: D,
@@ -39,7 +39,7 @@ struct ValueSerializer<D: Target> {
     path: Path,
 }
 
-/// Returns a document with a value more, and what the value's own `serialize` answered, with the path to where it did.
+/// Returns a document with a value more, and the answer of the value's own `serialize`, with the path to its error.
 pub(crate) fn with_value<T: Serialize, D: Target>(
     alloc: Global,
     variants: Variants,
@@ -225,7 +225,7 @@ impl<D: Target> Serializer for ValueSerializer<D> {
         self.text(v)
     }
 
-    /// Writes bytes. Their tag says that the text is base64; it can't stand beside the tag of a variant.
+    /// Writes bytes. Their tag says that the text is base64; a node can't have it beside the tag of a variant.
     fn bytes(&mut self, v: &[u8]) -> Result<(), Error> {
         if matches!(self.next, Next::Data) {
             return Err(Error::from(Cause::TwoTags));

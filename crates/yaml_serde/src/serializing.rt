@@ -26,16 +26,16 @@ type NoSink = io::Sink;
 /// Returns a value as a stream of one document.
 ///
 /// Structs and maps are block mappings in the order in which they give their entries, whose keys may be any values; sequences
-/// and tuples are block sequences. A text stands plain only where both schemas of YAML read it as a text, and a float is
+/// and tuples are block sequences. A text is plain only if both schemas of YAML read it as a text, and a float is
 /// spelled so that both read exactly that number (or `.inf`, `-.inf`, `.nan`). `None` and `()` are `null`; bytes are `!!binary`
 /// in base64. A variant without data is its name, a text. One with data is by `Variants::Tags` its data with the local tag
 /// `!Variant`, as serde_yaml 0.9 writes it, and by `Variants::OneKeyMap` a mapping of its name to its data, as serde_json does.
 ///
 /// # Errors
-/// `Custom` where the value's own `serialize` says so; `TwoTags` where the data of a variant with a tag is a variant with data, or
-/// bytes; `Flattened` where a flattened value is neither a struct nor a map; `Emitter` where more than 1,000,000
-/// collections are within one another, where the bytes pass the limit, and where a `Serialize` by hand writes no value,
-/// several, a key alone, or a variant's name alone where data must follow; `Memory` where an allocation fails.
+/// `Custom` if the value's own `serialize` says so; `TwoTags` if the data of a variant with a tag is a variant with data, or
+/// bytes; `Flattened` if a flattened value is neither a struct nor a map; `Emitter` if more than 1,000,000
+/// collections are within one another, if the bytes pass the limit, and if a `Serialize` by hand writes no value,
+/// several, a key alone, or a variant's name alone although data must follow; `Memory` if an allocation fails.
 pub fn to_vec_with<T: Serialize>(
     alloc: Global,
     settings: SerdeSettings,
@@ -72,10 +72,10 @@ pub fn to_string<T: Serialize>(alloc: Global, value: &T) -> Result<String, Error
 }
 
 /// Writes a value to a sink as a stream of one document, in the memory of 16,384 bytes, of the longest text and of what is open:
-/// its bytes are handed on as they are written, at most 16,384 later, or a scalar later where that is longer. The sink isn't flushed.
+/// its bytes are handed on as they are written, at most 16,384 later, or a scalar later if that is longer. The sink isn't flushed.
 ///
 /// # Errors
-/// Those of `to_vec_with`, and `Sink` where the sink fails. The sink then has a beginning of what was written of the document, which
+/// Those of `to_vec_with`, and `Sink` if the sink fails. The sink then has a beginning of what was written of the document, which
 /// may be empty.
 pub fn to_writer_with<T: Serialize, W: Write>(
     alloc: Global,
@@ -108,7 +108,7 @@ pub fn to_writer<T: Serialize, W: Write>(
 }
 
 /// Gives a value to a writer as its next node, with the anchor and the tag that await it. It doesn't notice that a `Serialize` by
-/// hand wrote no node where neither awaits one, nor that it wrote several within a collection.
+/// hand wrote no node although neither awaits one, nor that it wrote several within a collection.
 ///
 /// # Errors
 /// Those of `to_vec_with`, and else the emitter's error, also one that the writer had before or that the value's own `serialize`
@@ -143,12 +143,12 @@ pub fn write_with<T: Serialize>(
         &mut nowhere,
         value,
     );
-    // For the proof, which reads here what the writer has.
+    // For the proof, which reads the writer's state here.
     let _ = &*lent;
     answer
 }
 
-/// Gives a value to a writer, and hands on to a sink what is flushed.
+/// Gives a value to a writer, and hands on to a sink the bytes that are flushed.
 fn write_and_send<T: Serialize, W: Write>(
     alloc: Global,
     variants: Variants,
@@ -159,7 +159,7 @@ fn write_and_send<T: Serialize, W: Write>(
     ensures { SendsValue (W.contents sink.old) writer.old.emitter result (W.contents sink.new) writer.new.emitter }
 {
     let (lent, sent, answer) = handed::<T, W, Brand>(alloc, variants, writer, sink, value);
-    // For the proof, which reads here what the writer and the sink have.
+    // For the proof, which reads the state of the writer and of the sink here.
     let _ = &*lent;
     let _ = &*sent;
     answer

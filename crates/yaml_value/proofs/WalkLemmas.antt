@@ -11,7 +11,7 @@ use Rattle.yaml_value.specs.{declared.value.Value.Value, declared.walk.Rest.Rest
 use Rattle.yaml_value.specs.Walk.{items_in, values_in, count_all, count_left, Left, seen_flat, seen_rest, entered, split, stepped, stepped_by, first_event_of, HasOwn64Bits}
 use Rattle.yaml_value.specs.Walk.{step_event, StepHas64Bits}
 
--- ---- what lies in a value
+-- ---- the values in a value
 
 items_more : (before : TypedValues) (values : List TypedValue) → items_in (values_of before values) ≡ items_in before ++ values
 items_more before [] = sym (append-nil (items_in before))
@@ -76,15 +76,15 @@ entered_one (map_value pairs) = omega arith
 
 -- ---- steps
 
--- what a list or a map has left, innermost of others
+-- the rest of a list or a map, innermost of others
 abbrev with_left : List Left → List TypedValue → Event → List Left
 with_left outer values end = outer ++ record { values = values; end = end } ∷ []
 
--- what a step leaves
+-- the result of a step
 abbrev after_step : List Left → List TypedValue → Event → Option TypedValue × List Left
 after_step outer values end = stepped outer (record { values = values; end = end })
 
--- what is left to do: each turn of a walk takes some of it
+-- the work that is left: each turn of a walk does some of it
 abbrev pub work : List Left → ℕ
 work levels = count_left levels + count_left levels + length levels
 
@@ -288,7 +288,7 @@ fits_by outer (value ∷ values) end most room =
 
 -- ---- walks
 
--- what a list of a program has left, by what was taken off it
+-- the rests in a list of a program, before one was taken off it
 pub popped : {A : Type 0} (levels others : List (Rest A)) (rest : Rest A) → levels ≡ others ++ rest ∷ []
     → map (seen_rest {A = A}) levels ≡ map (seen_rest {A = A}) others ++ seen_rest rest ∷ []
 popped {A} levels others rest is = ap (map (seen_rest {A = A})) is ∙ map-append (seen_rest {A = A}) others (rest ∷ [])

@@ -1,4 +1,4 @@
--- What contracts see of values: no capacity and no allocator, texts as their characters.
+-- Values as contracts see them: no capacity and no allocator, texts as their characters.
 use Rattle.std.specs.Prelude.{List, [], ◌∷◌, map}
 use Rattle.yaml_base.specs.Seen.{seen_text}
 use Rattle.yaml_base.specs.values.TypedValues.{TypedValue, null_value, bool_value, int_value, text_value, list_value, map_value, TypedValues, no_values}

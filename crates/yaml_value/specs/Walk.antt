@@ -20,7 +20,7 @@ abbrev pub values_in : TypedPairs → List TypedValue
 values_in no_value_pairs = []
 values_in (value_pairs_and pairs key value) = values_in pairs ++ key ∷ value ∷ []
 
--- what is left of a list or a map: values, and then the event of its end
+-- The rest of a list or a map: values, and then the event of its end.
 pub record Left : Type 0 where
   pub values : List TypedValue
   pub end : Event
@@ -29,13 +29,13 @@ pub record Left : Type 0 where
 abbrev pub seen_flat : {A : Type 0} → List (Value A × Value A) → List TypedValue
 seen_flat pairs = flat_map (λ pair. seen_value pair.0 ∷ seen_value pair.1 ∷ []) pairs
 
--- what a program has left of a list or a map
+-- The rest of a list or a map of a program.
 abbrev pub seen_rest : {A : Type 0} → Rest A → Left
 seen_rest (Rest.Items items) = record { values = map seen_value items.now; end = sequence_end }
 seen_rest (Rest.Pairs pairs) = record { values = seen_flat pairs.now; end = mapping_end }
 seen_rest (Rest.PairsFromValue pairs) = record { values = drop 1 (seen_flat pairs.now); end = mapping_end }
 
--- what is left if a value was just entered; nothing of a scalar
+-- The rest of a value that was just entered; none of a scalar.
 abbrev pub entered : TypedValue → List Left
 entered (list_value items) = record { values = items_in items; end = sequence_end } ∷ []
 entered (map_value pairs) = record { values = values_in pairs; end = mapping_end } ∷ []

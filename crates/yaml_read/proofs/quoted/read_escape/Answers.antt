@@ -54,16 +54,16 @@ returns-then-letter-eq117 c =
 pub returns-then-needs_escape : goal.returns-then-needs_escape
 returns-then-needs_escape c =
     let letter = c.in-Some.letter in
-    let means = sym c.in-Some-meaning_of.ensures in
+    let means = sym c.in-Some-unescape_letter.ensures in
     record {
       reads =
           λ d rest scalar needs is.
           let follows = letter_follows d rest letter c.args.text.now c.in-Some.rest.now scalar needs is c.in-Some.ensures.cut
           c.if-letter-eq120.false c.if-letter-eq117.false in
-          read_on (Some (c.in-Some-meaning_of.c, c.in-Some.rest)) d rest c.in-Some.rest.now follows.1
-          (same_Some c.in-Some-meaning_of.c d (c.in-Some-meaning_of.ensures ∙ follows.0), refl);
+          read_on (Some (c.in-Some-unescape_letter.c, c.in-Some.rest)) d rest c.in-Some.rest.now follows.1
+          (same_Some c.in-Some-unescape_letter.c d (c.in-Some-unescape_letter.ensures ∙ follows.0), refl);
       sound =
-          letter_read c.args.text.now c.in-Some.rest.now letter c.in-Some-meaning_of.c (letter_scalar letter c.in-Some-meaning_of.c means) means
+          letter_read c.args.text.now c.in-Some.rest.now letter c.in-Some-unescape_letter.c (letter_scalar letter c.in-Some-unescape_letter.c means) means
           (sym c.needs_escape.ensures ∙ c.if-needs_escape.true) c.in-Some.ensures.cut;
     }
 
@@ -74,18 +74,18 @@ returns-else-needs_escape c =
           λ d rest scalar needs is.
           let follows = letter_follows d rest c.in-Some.letter c.args.text.now c.in-Some.rest.now scalar needs is c.in-Some.ensures.cut
           c.if-letter-eq120.false c.if-letter-eq117.false in
-          let same = same_Some c.in-Some-meaning_of.c d (c.in-Some-meaning_of.ensures ∙ follows.0) in
+          let same = same_Some c.in-Some-unescape_letter.c d (c.in-Some-unescape_letter.ensures ∙ follows.0) in
           true≢false (sym needs ∙ ap (needs_escape true) (sym same) ∙ sym c.needs_escape.ensures ∙ c.if-needs_escape.false);
       sound = tt;
     }
 
-pub returns-in-None-meaning_of : goal.returns-in-None-meaning_of
-returns-in-None-meaning_of c =
+pub returns-in-None-unescape_letter : goal.returns-in-None-unescape_letter
+returns-in-None-unescape_letter c =
     record {
       reads =
           λ d rest scalar needs is.
           let follows = letter_follows d rest c.in-Some.letter c.args.text.now c.in-Some.rest.now scalar needs is c.in-Some.ensures.cut
           c.if-letter-eq120.false c.if-letter-eq117.false in
-          absurd (none-some d (c.in-None-meaning_of.ensures ∙ follows.0));
+          absurd (none-some d (c.in-None-unescape_letter.ensures ∙ follows.0));
       sound = tt;
     }

@@ -1,7 +1,7 @@
 use Rattle.yaml_caller.proofs.Common.{ℕ, false, true, List, ◌≡◌, subst, sym, ◌∙◌, seen_text, agrees, stream_trees, pair_events}
 use Rattle.yaml_caller.{proofs.OnlyMemory.passed_on, specs.Pair.FailsPair}
 use Rattle.std.proofs.lemmas.Result.{IfOk-from_err}
-use Rattle.yaml_caller.proofs.pairs.pair_written.Goals as goal
+use Rattle.yaml_caller.proofs.pairs.write_pair.Goals as goal
 
 pub returns-in_err-emit_pair-clause-reads : goal.returns-in_err-emit_pair-clause-reads
 returns-in_err-emit_pair-clause-reads g c = IfOk-from_err c.from_residual.result _ c.from_residual.ensures.0
