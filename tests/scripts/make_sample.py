@@ -35,11 +35,11 @@ def main():
     sys.path.insert(0, str(pathlib.Path(__file__).resolve().parents[1] / "model"))
     sys.setrecursionlimit(100000)
     import compare
-    import program
+    import runs
 
     seed = found = 0
     while found < COUNT:
-        made = case(seed, compare.script_of(seed, True), program.run)
+        made = case(seed, compare.script_of(seed, True), runs.run)
         seed += 1
         if made:
             print(json.dumps(made, sort_keys=True))
