@@ -14,7 +14,7 @@
 A difference is printed with its seed and kept as out-SEED.script beside the caller.
 """
 import random, subprocess, sys
-import content, random_lists, readers, stream_reader, runs
+import content, random_lists, readers, stream_reader, program_model
 from layout import *
 
 def broken_events(r):
@@ -82,7 +82,7 @@ def main(argv):
             if not content.agrees(eff, L, stream_reader.read(p.stdout)): differ += 1; print("seed %d does not read back" % seed)
             continue
         seen += 1
-        status, out, line, length = runs.run(script)
+        status, out, line, length = program_model.run(script)
         said = p.stderr.decode("utf-8", "replace").rstrip("\n")
         same_line = said == line or (length > 16000 and said.endswith("write error") and line.endswith("write error"))
         if (p.returncode, p.stdout) != (status, out) or not same_line:

@@ -5,7 +5,7 @@ With `portable` on without a condition; without it for all lists but two kinds (
 sequences in mappings; the lines reader reads what the stream reader reads. First the rows of `portable`.
 """
 import itertools, random, sys
-import content, random_lists, lines_reader, readers, stream_reader, runs
+import content, random_lists, lines_reader, readers, stream_reader, program_model
 from layout import *
 
 sys.setrecursionlimit(200000)
@@ -44,12 +44,12 @@ check("breaks of 1.2: with breaks12 the same", unicode("\xe9" + LS, breaks12=Tru
 check("breaks of 1.2: a key is no simple one", out(frame(MapStart(style="block"), S("a" + LS + "b"), S("v"), MapEnd()), unicode=True), b'---\n? "a\\Lb"\n: v\n')
 check("breaks of 1.2: canonical", unicode(LS, canonical=True), b'---\n"\\L"\n')
 check("breaks of 1.2: off", run_events(Settings(unicode=True), frame(S("a" + LS + "b")))[0], ("'a" + LS + "  b'\n").encode())
-check("in scripts", runs.run(b"portable on\n+STR any\n+DOC 1 -\n=VAL any 1 1 - - \"\"\n-DOC 1\n-STR\n"), (0, b"---\n", "", 4))
-check("a line too many", runs.run(b"portable on\nportable on\n")[0], 2)
+check("in scripts", program_model.run(b"portable on\n+STR any\n+DOC 1 -\n=VAL any 1 1 - - \"\"\n-DOC 1\n-STR\n"), (0, b"---\n", "", 4))
+check("a line too many", program_model.run(b"portable on\nportable on\n")[0], 2)
 seq = b"+STR any\n+DOC 1 -\n+MAP block 1 - -\n=VAL any 1 1 - - \"a\"\n+SEQ block 1 - -\n=VAL any 1 1 - - \"b\"\n-SEQ\n-MAP\n-DOC 1\n-STR\n"
-check("sequences in scripts", [runs.run(x + seq)[:3] for x in (b"", b"sequences undented\n", b"sequences indented\n")], [(0, b"a:\n- b\n", "")] * 2 + [(0, b"a:\n  - b\n", "")])
-check("sequences, bad lines", [runs.run(x + seq)[0::2] for x in (b"sequences on\n", b"sequences\n", b"sequences indented undented\n", b"sequences \"indented\"\n")], [(2, "yamlemit: line 1: cannot be read")] * 4)
-check("sequences, at most once and before the events", [runs.run(x)[0::2] for x in (b"sequences indented\nsequences undented\n", b"+STR any\nsequences indented\n")], [(2, "yamlemit: line 2: cannot be read")] * 2)
+check("sequences in scripts", [program_model.run(x + seq)[:3] for x in (b"", b"sequences undented\n", b"sequences indented\n")], [(0, b"a:\n- b\n", "")] * 2 + [(0, b"a:\n  - b\n", "")])
+check("sequences, bad lines", [program_model.run(x + seq)[0::2] for x in (b"sequences on\n", b"sequences\n", b"sequences indented undented\n", b"sequences \"indented\"\n")], [(2, "yamlemit: line 1: cannot be read")] * 4)
+check("sequences, at most once and before the events", [program_model.run(x)[0::2] for x in (b"sequences indented\nsequences undented\n", b"+STR any\nsequences indented\n")], [(2, "yamlemit: line 2: cannot be read")] * 2)
 check("sequences, to a script and back", [readers.parse_script(readers.to_script(Settings(indented_sequences=x), []))[0].indented_sequences for x in (False, True)], [False, True])
 check("sequences, two notations", [readers.to_script(Settings(indented_sequences=True), []), random_lists.script(Settings(indented_sequences=True), [StreamStart()])], [b"sequences indented\n", b"sequences indented\n+STR any\n"])
 # texts that aren't read, or as something else

@@ -35,11 +35,11 @@ def main():
     sys.path.insert(0, str(pathlib.Path(__file__).resolve().parents[1] / "model"))
     sys.setrecursionlimit(100000)
     import compare
-    import runs
+    import program_model
 
     seed = found = 0
     while found < COUNT:
-        made = case(seed, compare.script_of(seed, True), runs.run)
+        made = case(seed, compare.script_of(seed, True), program_model.run)
         seed += 1
         if made:
             print(json.dumps(made, sort_keys=True))
