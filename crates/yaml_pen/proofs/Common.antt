@@ -8,21 +8,13 @@ pub use Rattle.std.{proofs.Common.add-one, proofs.lemmas.Bool.cases_lt, proofs.l
 pub use Rattle.std.{proofs.lemmas.List.take-replicate, specs.Fmt.is_char_start, specs.Str.IsAscii, specs.Str.Iter.chars_rest}
 pub use Rattle.std.proofs.lemmas.Str.{chars-nil, IsUtf8-from_ascii, encodes-chars, scalars-chars}
 pub use Rattle.std.specs.Prelude.{Err, Ok, Result, min, IsUtf8, IsSome}
-pub use base.Logic.{SProp, emp, ent, fst∗, via}
-pub use contract.Monad.{Fun}
-pub use contract.Running.{tables}
+pub use base.Logic.{emp, ent}
 pub use denote.RattleType.{owns}
 pub use denote.Shadow.{pure_i}
-pub use denote.Triple.Entry.{alive, on_entry}
-pub use denote.Triple.Spec.{Meets, triple_of}
-pub use denote.Triple.Table.{entered}
-pub use denote.Triple.Walked.{Stays, Walks, ends_at, says, walk_Meets, walk_of, walked}
+pub use denote.Triple.Entry.{alive}
+pub use denote.Triple.Walked.{Stays, ends_at, says}
 pub use mir.Val.{vnil, vstruct}
-pub use prog.Memory.{Memory}
-pub use prog.Routine.{Routine}
-pub use prog.Wp.{Calls, Loops, Tables, WpFn}
 pub use seplogic.Ra.Ura.{Ura}
-pub use sound.WpLaws.{WpFn-mono}
 pub use types.ByLocal.{alloc_all, free_all, look_at, pass_all, sets}
 pub use types.Kit.{ !, done, move, qed, raw, suffices, ‵, ◌$◌, ◌∵◌}
 pub use types.Logic.{Logic}

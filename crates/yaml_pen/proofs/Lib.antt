@@ -13,3 +13,4 @@ pub mod NewLines
 pub mod CharacterStarts
 pub mod AsciiRuns
 pub mod Spaces
+mod TakenLists
