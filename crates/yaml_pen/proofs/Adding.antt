@@ -1,4 +1,4 @@
--- Bytes that are appended to those of a text are decoded as text that is appended.
+-- Bytes that are appended to those of a text decode as text that is appended.
 use Rattle.yaml_base.proofs.Common.{ℕ, Option, Some, true, List, [], ◌++◌, ◌∷◌, refl, ◌≡◌, append_assoc, ap, sym, ◌∙◌, and_parts, and_from, all_scalars, Text}
 use Rattle.yaml_base.proofs.Common.{encode, Encoding}
 use Rattle.yaml_base.{proofs.Decoding.decode-encode, specs.Decode.decode, specs.Encoding.character_bytes, specs.Encoding.text_bytes, specs.Encoding.bom_text}

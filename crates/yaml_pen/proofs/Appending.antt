@@ -1,4 +1,4 @@
--- What an outlet does when bytes are put into its buffer.
+-- An outlet after bytes are put into its buffer.
 use Rattle.yaml_base.proofs.Common.{ℕ, Option, None, Some, List, length, take, ◌++◌, refl, ◌≡◌, append_assoc, ap, subst, sym, ◌∙◌, cut}
 use Rattle.std.proofs.Math.Seq.{take-append_seam, take-length}
 use Rattle.yaml_base.{proofs.Prefixes.prefix_itself, specs.Prefix.IsPrefix, specs.declared.errors.yaml_error_t.yaml_error_t}
@@ -6,7 +6,7 @@ use Rattle.yaml_base.specs.declared.errors.yaml_error_t.TheVariants.{WriteError}
 use Rattle.yaml_pen.specs.{Outlet.Appended, Outlet.OutletState, Outlet.bytes_of, Outlet.Emptied, Outlet.IsOutlet, Outlet.whole_output, Page.IsFlushedOutput}
 use Rattle.yaml_pen.proofs.{Common.Ok, Common.IsSome, Common.false≢true, Common.result_of_error, Writing.none_from_result}
 
--- room was made where there was none, or there was some: nothing failed, and no byte is lost
+-- room was made if there was none, or there was some: nothing failed, and no byte is lost
 pub record MadeRoom (before after : OutletState) : Type 0 where
   pub no_error : before.error ≡ None
   pub unfailed : after.error ≡ None
@@ -41,7 +41,7 @@ none_is_not_some error none some = false≢true (subst (λ (o : Option yaml_erro
 no_write_error : (error : Option yaml_error_t) → error ≡ None → error ≡ Some WriteError → ⊥
 no_write_error error none some = cc
 
--- what is flushed stays a prefix of what is behind it
+-- the flushed bytes stay a prefix when more bytes follow
 still_flushed : (kept : ℕ) (buffer more output : List ℕ) (limit : ℕ) (error : Option yaml_error_t) → error ≡ None → kept ≡ length output
     → IsFlushedOutput (take kept output ++ buffer) output limit error → IsFlushedOutput (take kept output ++ more) output limit error
 still_flushed kept buffer more output limit error none whole flushed =

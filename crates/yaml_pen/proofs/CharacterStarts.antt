@@ -5,7 +5,7 @@ use Rattle.std.{proofs.Common.le-ltb, proofs.Common.lt-ltb, proofs.Common.take-s
 use lib.Utf8.{encode, encodes, next}
 use mir.Val.{bool_byte}
 
--- how many bytes begin a character
+-- the number of bytes that begin a character
 abbrev pub starts : List ℕ → ℕ
 starts [] = 0
 starts (b ∷ bytes) = (if is_char_start b then 1 else 0) + starts bytes

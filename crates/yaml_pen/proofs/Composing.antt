@@ -1,4 +1,4 @@
--- How calls that write compose: one after another, a failure on the way, and changes of the cursor between.
+-- How calls that write compose: one after another, after a failure, and with changes of the cursor between them.
 use Rattle.yaml_pen.proofs.Common.{ℕ, if◌then◌else◌, ◌==◌, IsSome, Option, None, Some, Result, Err, Ok, [], ◌++◌, ◌∷◌, refl, ◌≡◌, append-nil, append_assoc}
 use Rattle.yaml_pen.proofs.Common.{ap, subst, sym, ◌∙◌, false≢true, prefix_same, Text, line_feed, Cursor, Rendered, render_nothing, render_then, render_text}
 use Rattle.yaml_pen.proofs.Common.{break_text, with_breaks_written, Encoding, LineBreak, Page, IsReady, result_of_error, named_text, Wrote}
@@ -70,7 +70,7 @@ wrote_then {first} {next} {before} {between} {after} {answer} one two =
       stopped = λ some. absurd (false≢true (subst (λ (o : Option yaml_error_t). IsSome o) whole.no_error some));
     }
 
--- a call that failed: whatever was to be written after it
+-- a call that failed, whatever text was to come after its own
 pub wrote_failed : {first : Cursor → Rendered} (next : Cursor → Rendered) {before after : Page} {error : yaml_error_t}
     → Wrote first before after (Err error)
     → Wrote (λ c. render_then (first c) next) before after (Err error)
@@ -93,7 +93,7 @@ wrote_failed {first} next {before} {after} {error} one =
       stopped = one.stopped;
     }
 
--- what is written depends on what the layout puts at the cursor alone
+-- the written text depends only on the text that the layout puts at the cursor
 pub wrote_as : {render : Cursor → Rendered} (other : Cursor → Rendered) {before after : Page} {answer : Result (Unit {0}) yaml_error_t}
     → render before.cursor ≡ other before.cursor → Wrote render before after answer → Wrote other before after answer
 wrote_as {render} other {before} {after} {answer} same wrote =
@@ -115,7 +115,7 @@ wrote_as {render} other {before} {after} {answer} same wrote =
       stopped = wrote.stopped;
     }
 
--- the cursor is changed after what was written
+-- the cursor is changed after a text was written
 pub wrote_changing : {render : Cursor → Rendered} (change : Cursor → Cursor) {before between after : Page}
     → Wrote render before between (Ok tt) → after ≡ record between { cursor = change between.cursor }
     → Wrote (λ c. record { text = (render c).text; cursor = change (render c).cursor }) before after (Ok tt)
@@ -162,7 +162,7 @@ flushed_wrote {before} {after} {answer} ready flushed =
       stopped = flushed.stopped;
     }
 
--- nothing that was written is lost by a call that writes, or by a flush
+-- a call that writes, or a flush, loses nothing that was written
 pub wrote_grows : {render : Cursor → Rendered} {before after : Page} {answer : Result (Unit {0}) yaml_error_t} → Wrote render before after answer
     → Grows before after
 wrote_grows wrote = record { text = record { rest = wrote.grew.prefix; parts = sym wrote.grew.grown }; output = wrote.output }
@@ -201,7 +201,7 @@ wrote_exit {render} {before} {after} {error} {answer} is wrote =
     subst (λ (r : Result (Unit {0}) yaml_error_t). Wrote render before after r)
     (sym (p.1 ∙ ap (λ (e : yaml_error_t). let r : Result (Unit {0}) yaml_error_t = Err e in r) p.2)) wrote
 
--- a call that failed, where all that was to be written begins with its text
+-- a call that failed, if the whole text begins with its own
 pub wrote_cut : {render : Cursor → Rendered} (other : Cursor → Rendered) (rest : Text) {before after : Page} {error : yaml_error_t}
     → (other before.cursor).text ≡ (render before.cursor).text ++ rest → Wrote render before after (Err error) → Wrote other before after (Err error)
 wrote_cut {render} other rest {before} {after} {error} is one =
@@ -223,7 +223,7 @@ wrote_cut {render} other rest {before} {after} {error} is one =
       stopped = one.stopped;
     }
 
--- of a call that failed the named text alone counts
+-- for a call that failed the named text alone counts
 pub wrote_failed_as : {render : Cursor → Rendered} (other : Cursor → Rendered) {before after : Page} {error : yaml_error_t}
     → (render before.cursor).text ≡ (other before.cursor).text → Wrote render before after (Err error) → Wrote other before after (Err error)
 wrote_failed_as {render} other {before} same one = wrote_cut other [] (sym same ∙ sym (append-nil (render before.cursor).text)) one

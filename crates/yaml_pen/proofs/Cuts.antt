@@ -14,11 +14,11 @@ chars-cut bytes prefix back place is boundary in_prefix behind =
     ∙ ap (λ l. chars l ++ chars (drop place bytes)) (sym in_prefix)
     ∙ ap (λ l. chars prefix ++ chars l) (sym behind)
 
--- no break stands in the parts of a text without one
+-- the parts of a text without a break have none
 pub unbroken_parts : (xs ys : Text) → list_any is_break (xs ++ ys) ≡ false → (list_any is_break xs ≡ false) × (list_any is_break ys ≡ false)
 unbroken_parts xs ys none = or_parts _ _ (sym (list_any-append is_break xs ys) ∙ none)
 
--- the last place where it may be cut before a bound is behind its first character
+-- the last place at which it may be cut before a bound is after its first character
 pub cut-forward : (bytes : List ℕ) (place bound : ℕ) → IsUtf8 bytes → 4 ≤ bound → bound < length bytes
     → ((i : ℕ) → place < i → i ≤ bound → IsCharBoundary bytes i → ⊥) → 1 ≤ place
 cut-forward bytes (suc n) bound is wide long nearest = omega arith

@@ -1,4 +1,4 @@
--- A new line is a break where one is needed, and then spaces.
+-- A new line is a break if one is needed, and then spaces.
 use Rattle.yaml_base.proofs.Common.{suc, zero, ℕ, ◌+◌, ◌-◌, ◌≤◌, if◌then◌else◌, replicate, Bool, true, [], ◌++◌, ◌∷◌, ◌≡◌, inl, inr, ap, sym, ◌∙◌, arith}
 use Rattle.yaml_base.proofs.Common.{or_parts, Text, line_feed, space, Cursor, Rendered, render_nothing, render_then, column_after, breaks_line}
 use Rattle.std.proofs.lemmas.Bool.{ltb-false, cases_Bool}
@@ -35,7 +35,7 @@ break-then-spaces at cursor =
           ap F goes ∙ spaces_at (at - cursor.column) at [] cursor cursor.column (omega arith) ∙ sym (ap G goes)
     ]
 
--- where the line is broken, it is the text of a break and of spaces
+-- if the line is broken, it is the text of a break and of spaces
 pub broken_begun : (at : ℕ) (cursor : Cursor) → breaks_line at cursor ≡ true → render_text (line_feed ∷ replicate at space) cursor ≡ line_begun at cursor
 broken_begun at cursor breaks =
     spaces_at at at (line_feed ∷ []) cursor 0 (omega arith)

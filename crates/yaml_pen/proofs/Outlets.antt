@@ -1,4 +1,4 @@
--- What is flushed of a buffer is added to the output.
+-- The bytes that are flushed of a buffer are added to the output.
 use Rattle.yaml_base.proofs.Common.{ℕ, ◌+◌, ◌-◌, ◌≤◌, length, take, List, ◌++◌, ◌≡◌, length-append, append_assoc, ap, subst, sym, ◌∙◌, arith, cut}
 use Rattle.std.proofs.{Common.Err, Common.Ok, Common.Result, Math.Seq.take-append-add}
 use Rattle.yaml_base.{proofs.Prefixes.prefix_same, proofs.Prefixes.prefix_cut, specs.Prefix.IsPrefix, specs.declared.errors.yaml_error_t.yaml_error_t}
@@ -13,7 +13,7 @@ last_flushes_grows buffer before after limit (Err WriteError) within h = subst (
 last_flushes_grows buffer before after limit (Err Memory) within h = prefix_same before after (sym h)
 last_flushes_grows buffer before after limit (Err error) within h = absurd h
 
--- how long an output is
+-- the length of an output
 pub whole_length : (taken left : List ℕ) → length (whole_output taken left) ≡ length taken + length left
 unfolding whole_output
 whole_length taken left = length-append taken left
@@ -28,7 +28,7 @@ unfolding whole_output
 whole_take taken left count limit counted within =
     sym (take-append-add taken left (limit - count)) ∙ ap (λ n. take n (taken ++ left)) (omega (arith, counted, within))
 
--- what was taken counts for the limit
+-- bytes that were taken count for the limit
 pub hands_on : (buffer taken before after : List ℕ) (count limit : ℕ) (answer : Result (Unit {0}) yaml_error_t) → count ≡ length taken
     → length (whole_output taken before) ≤ limit → FlushesBuffer buffer before after (limit - count) answer
     → FlushesBuffer buffer (whole_output taken before) (whole_output taken after) limit answer

@@ -1,4 +1,4 @@
--- What a pen does whose bytes are refused.
+-- A pen whose bytes are refused.
 use Rattle.yaml_pen.proofs.Common.{IsSome, Option, None, Some, Err, List, ℕ, Bool, if◌then◌else◌, [], refl, ◌≡◌, append-nil, ap, subst, sym, ◌∙◌, Cursor}
 use Rattle.yaml_pen.proofs.Common.{OutletState}
 use Rattle.yaml_pen.proofs.Common.{Rendered, decode, encode, seen_encoding, Page, IsReady, IsFlushedOutput, page_of, IsPen, named_text, Wrote}
@@ -9,7 +9,7 @@ use Rattle.yaml_pen.{proofs.Writing.some_from_result, specs.Outlet.Appended}
 some_is_not_none : (given : Option yaml_error_t) (error : yaml_error_t) → given ≡ Some error → given ≡ None → ⊥
 some_is_not_none given error some none = cc
 
--- it writes nothing where its bytes are refused
+-- it writes nothing if its bytes are refused
 Wrote-refused-page : (encoding : yaml_encoding_t) (line_break : yaml_break_t) (bytes : List ℕ) (before after : OutletState) (whitespace indention due : Bool)
     (column : ℕ) (render : Cursor → Rendered) (error : yaml_error_t)
     → IsPen (page_of encoding due line_break before whitespace indention) before.all column

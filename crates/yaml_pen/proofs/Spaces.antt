@@ -13,7 +13,7 @@ pub spaces_unbroken : (count : ℕ) → list_any is_break (replicate count space
 spaces_unbroken zero = refl
 spaces_unbroken (suc count) = spaces_unbroken count
 
--- LF and spaces are of ASCII, and stand as they are where LF does
+-- LF and spaces are ASCII, and stay as they are if LF does
 pub line_start_ascii : (count : ℕ) → IsAscii (line_feed ∷ replicate count space)
 line_start_ascii count zero = omega arith
 line_start_ascii count (suc i) = spaces_ascii count i

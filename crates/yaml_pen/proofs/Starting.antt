@@ -42,7 +42,7 @@ IsPen-begun encoding old line_break bytes whitespace indention column due empty 
       marks = λ due. sym is_due ∙ due;
     }
 
--- its page differs from that before by the settings alone
+-- its page differs from the one before by the settings alone
 pub page-begun : (encoding old : yaml_encoding_t) (line_break old_break : yaml_break_t) (bytes : OutletState)
     (whitespace indention due old_due : Bool) (page : Page)
     → bytes.all ≡ [] → due ≡ has_bom (seen_encoding encoding)

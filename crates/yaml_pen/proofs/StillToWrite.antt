@@ -1,10 +1,10 @@
--- A loop that writes: what is still to be written after what has been.
+-- A loop that writes: the text that is still to be written.
 use Rattle.yaml_pen.proofs.Common.{ℕ, Result, Err, Ok, length, List, [], ◌++◌, ◌≡◌, append-nil, ap, subst, sym, ◌∙◌, arith, nil_from_length, chars-nil}
 use Rattle.yaml_pen.proofs.Common.{chars, Text, Cursor, Rendered, render_nothing, render_then, render_text, Page, IsReady, Wrote}
 use Rattle.yaml_base.{proofs.Prefixes.prefix_itself, specs.declared.errors.yaml_error_t.yaml_error_t}
 use Rattle.yaml_pen.proofs.Composing.{wrote_then, wrote_failed, wrote_as, render_text-append}
 
--- whatever writes the rest from here has written the whole from the start
+-- a call that writes the rest from here has written the whole from the start
 pub record StillToWrite (rest whole : Cursor → Rendered) (start here : Page) : Type 0 where
   pub ready : IsReady here
   pub writes : (after : Page) (answer : Result (Unit {0}) yaml_error_t) → Wrote rest here after answer → Wrote whole start after answer
@@ -25,18 +25,18 @@ pub still_failed : {first whole : Cursor → Rendered} {start here after : Page}
     → Wrote whole start after (Err error)
 still_failed {first} {whole} {start} {here} {after} {error} next still step = still.writes after (Err error) (wrote_failed next step)
 
--- what is left of a text, called by another name
+-- the rest of a text, under another name
 pub still_same : (layout : Text → Cursor → Rendered) {old new : Text} {whole : Cursor → Rendered} {start here : Page}
     → old ≡ new → StillToWrite (layout old) whole start here → StillToWrite (layout new) whole start here
 still_same layout {old} {new} {whole} {start} {here} is still = subst (λ (t : Text). StillToWrite (layout t) whole start here) is still
 
--- what is left depends on what its layout puts at the cursor alone
+-- the rest depends only on the text that its layout puts at the cursor
 pub still_as : {rest whole : Cursor → Rendered} (other : Cursor → Rendered) {start here : Page}
     → rest here.cursor ≡ other here.cursor → StillToWrite rest whole start here → StillToWrite other whole start here
 still_as {rest} other same still =
     record { ready = still.ready; writes = λ after answer wrote. still.writes after answer (wrote_as rest (sym same) wrote) }
 
--- what is left of a text is a part of it, and then the rest
+-- the rest of a text is a part of it, and then another rest
 pub still_part : (part rest : Text) {left : Text} {whole : Cursor → Rendered} {start here : Page} → left ≡ part ++ rest
     → StillToWrite (render_text left) whole start here → StillToWrite (λ cursor. render_then (render_text part cursor) (render_text rest)) whole start here
 still_part part rest {left} {whole} {start} {here} is =

@@ -1,4 +1,4 @@
--- An outlet holds the same bytes when what is left of its output is taken.
+-- An outlet holds the same bytes when the rest of its output is taken.
 use Rattle.yaml_pen.proofs.Common.{ℕ, ◌+◌, ◌≤◌, ◌≡◌, Option, length, take, List, [], ◌++◌, append-nil, length-append, ap, subst, sym, arith, OutletState}
 use Rattle.yaml_pen.proofs.Common.{IsFlushedOutput}
 use Rattle.std.proofs.{Math.Seq.drop-append_seam, Common.drop}

@@ -1,4 +1,4 @@
--- What it does to a pen that its bytes grow by those of a text.
+-- A pen whose bytes grow by those of a text.
 use Rattle.yaml_pen.proofs.Common.{min, ℕ, ◌+◌, if◌then◌else◌, ◌==◌, unwrap_or, IsSome, IsUtf8, Option, None, Some, Err, Ok, length, Bool, false, true, List}
 use Rattle.yaml_pen.proofs.Common.{[], ◌++◌, ◌∷◌, refl, ◌≡◌, append-nil, ap, subst, sym, ◌∙◌, arith, and_from, or_parts, false≢true, encodes-chars, list_any}
 use Rattle.yaml_pen.proofs.Common.{all_scalars, chars, encode_utf8_all, Text, line_feed, is_break, Cursor, Rendered, column_after, render_text, decode, encode}

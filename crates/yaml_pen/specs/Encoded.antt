@@ -1,4 +1,4 @@
--- Code units as bytes, in an order.
+-- Code units as bytes, in either order.
 use Rattle.std.specs.Prelude.{ℕ, List}
 use Rattle.yaml_base.specs.Encoding.{upper_first, lower_first}
 use Rattle.yaml_pen.specs.declared.encoded.ByteOrder.{ByteOrder}

@@ -1,4 +1,4 @@
--- What contracts see of an indicator.
+-- Indicators as contracts see them.
 use Rattle.std.specs.Str.{chars}
 use Rattle.yaml_base.specs.Indicators as seen
 use Rattle.yaml_pen.specs.declared.pen.indicators.Indicator.{Indicator}

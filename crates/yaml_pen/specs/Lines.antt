@@ -11,6 +11,6 @@ render_line_break at cursor = if breaks_line at cursor then render_text (line_fe
 abbrev pub spaces_to : ℕ → Cursor → Rendered
 spaces_to at cursor = render_text (replicate (at - cursor.column) space) cursor
 
--- the line that is begun, with the flags that were there
+-- the text of a new line, and the cursor at its column with the flags that were there
 abbrev pub line_begun : ℕ → Cursor → Rendered
 line_begun at cursor = record { text = (new_line at cursor).text; cursor = record cursor { column = at } }

@@ -1,4 +1,4 @@
--- The bytes behind a pen: those flushed, and those in the buffer.
+-- The bytes of a pen: those flushed, and those in the buffer.
 use Rattle.std.specs.Prelude.{◌≡◌, ℕ, ◌<◌, ◌≤◌, Option, None, Some, Result, Ok, Err, List, ◌++◌, IsSome, length, take}
 use Rattle.yaml_base.specs.Encoding.{cut}
 use Rattle.yaml_base.specs.Prefix.{IsPrefix}
@@ -6,7 +6,7 @@ use Rattle.yaml_base.specs.declared.errors.yaml_error_t.{yaml_error_t}
 use Rattle.yaml_base.specs.declared.errors.yaml_error_t.TheVariants.{WriteError, Memory}
 use Rattle.yaml_pen.specs.Page.{IsFlushedOutput, result_of_error}
 
--- all bytes so far, those flushed, how many of these the caller has taken, the limit and the first error
+-- all bytes so far, those flushed, the number of these that the caller has taken, the limit and the first error
 pub record OutletState : Type 0 where
   pub all : List ℕ
   pub output : List ℕ
@@ -14,7 +14,7 @@ pub record OutletState : Type 0 where
   pub limit : ℕ
   pub error : Option yaml_error_t
 
--- the output: what the caller has taken, and what is left
+-- the output: the bytes that the caller has taken, and the others
 unfoldable pub whole_output : List ℕ → List ℕ → List ℕ
 whole_output taken left = taken ++ left
 
@@ -24,11 +24,12 @@ bytes_of kept buffer taken left limit error =
     let output = whole_output taken left in
     record { all = take kept output ++ buffer; output = output; taken = length taken; limit = limit; error = error }
 
--- what is flushed of the bytes is sound
+-- the flushed bytes are sound
 abbrev pub HasSoundOutput : OutletState → Type 0
 HasSoundOutput bytes = IsFlushedOutput bytes.all bytes.output bytes.limit bytes.error
 
--- an output that was kept up to a place, and a buffer of what follows; without an error all is kept; what is taken is counted
+-- an output that was kept up to a place, and a buffer of the bytes after it; without an error all is kept; the number
+-- of taken bytes is known
 pub record IsOutlet (kept count : ℕ) (buffer taken left : List ℕ) (limit : ℕ) (error : Option yaml_error_t) : Type 0 where
   pub within : kept ≤ length (whole_output taken left)
   pub whole : error ≡ None → kept ≡ length (whole_output taken left)

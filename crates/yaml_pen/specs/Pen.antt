@@ -1,4 +1,4 @@
--- What a pen's fields mean.
+-- The meaning of a pen's fields.
 use Rattle.std.specs.Prelude.{◌≡◌, ℕ, Bool, true, None, List, unwrap_or, min}
 use Rattle.std.specs.Str.{all_scalars}
 use Rattle.yaml_base.specs.Cursor.{column_after}
@@ -26,8 +26,8 @@ page_of encoding bom_due line_break bytes whitespace indention =
       error = bytes.error;
     }
 
--- the bytes are those of the page's text, the pen's column is the cursor's up to a bound; only UTF-16 has a
--- byte order mark, before which nothing failed
+-- the bytes are those of the page's text, and the pen's column is the cursor's up to a bound; only UTF-16 has a byte
+-- order mark, before which nothing failed
 pub record IsPen (page : Page) (all : List ℕ) (stored : ℕ) : Type 0 where
   pub bytes : all ≡ written_bytes page
   pub scalars : all_scalars page.text ≡ true

@@ -1,4 +1,4 @@
--- What a call that writes does to a pen.
+-- The effect of a call that writes on a pen.
 use Rattle.std.specs.Prelude.{◌≡◌, None, Some, Result, ◌++◌, IsSome}
 use Rattle.yaml_base.specs.Characters.{Text}
 use Rattle.yaml_base.specs.LineBreaks.{with_breaks_written}
@@ -8,14 +8,14 @@ use Rattle.yaml_base.specs.declared.errors.yaml_error_t.{yaml_error_t}
 use Rattle.yaml_base.specs.declared.errors.yaml_error_t.TheVariants.{Memory}
 use Rattle.yaml_pen.specs.Page.{Page, encoded, result_of_error, IsReady, IsFlushedOutput}
 
--- the settings of a page stay, and what the caller has taken
+-- the settings of a page stay, and so does the number of taken bytes
 pub record KeepsSettings (before after : Page) : Type 0 where
   pub encoding : after.encoding ≡ before.encoding
   pub line_break : after.line_break ≡ before.line_break
   pub limit : after.limit ≡ before.limit
   pub taken : after.taken ≡ before.taken
 
--- a text grew by a prefix of what was named
+-- a text grew by a prefix of the named text
 pub record AppendsPrefixOf (before named after : Text) : Type 0 where
   pub prefix : Text
   pub rest : Text
@@ -27,19 +27,19 @@ pub record Grows (before after : Page) : Type 0 where
   pub text : IsPrefix before.text after.text
   pub output : IsPrefix before.output after.output
 
--- what a layout puts at a page's cursor, with the page's line breaks
+-- the text that a layout puts at a page's cursor, with the page's line breaks
 abbrev pub named_text : (Cursor → Rendered) → Page → Text
 named_text render page = with_breaks_written page.line_break (render page.cursor).text
 
--- all of what a layout puts at the cursor is written, and the cursor is the one that it names
+-- all of the text that a layout puts at the cursor is written, and the cursor is the one after it
 pub record WroteAll (render : Cursor → Rendered) (before after : Page) : Type 0 where
   pub no_error : before.error ≡ None
   pub text : after.text ≡ before.text ++ named_text render before
   pub cursor : after.cursor ≡ (render before.cursor).cursor
 
--- a call that writes what a layout puts at the cursor, or fails on the way: the answer tells the pen's
--- error; settings stay; the text grows by a prefix of the named text, by all of it where there is no error;
--- the output grows too; a pen that failed before stays as it is; the output is a prefix of the bytes
+-- a call that writes the text that a layout puts at the cursor, or fails on the way: the answer tells the pen's error;
+-- settings stay; the text grows by a prefix of the named text, and by all of it if there is no error; the output grows
+-- too; a pen that failed before stays as it is; the output is a prefix of the bytes
 pub record Wrote (render : Cursor → Rendered) (before after : Page) (answer : Result (Unit {0}) yaml_error_t) : Type 0 where
   pub answered : answer ≡ result_of_error after.error
   pub ready : IsReady after
@@ -50,9 +50,9 @@ pub record Wrote (render : Cursor → Rendered) (before after : Page) (answer : 
   pub all : after.error ≡ None → WroteAll render before after
   pub stopped : IsSome before.error → after ≡ before
 
--- a flush: only output and error change, and the output only grows; after Ok it is all bytes of the text so far;
--- after the limit's error their first bytes up to the limit; where memory is refused, the output is as it was;
--- a pen that failed before stays as it is
+-- a flush: only output and error change, and the output only grows; after Ok it is all bytes of the text so far; after
+-- the limit's error it is their first bytes up to the limit; if memory is refused, it is as it was; a pen that failed
+-- before stays as it is
 pub record Flushed (before after : Page) (answer : Result (Unit {0}) yaml_error_t) : Type 0 where
   pub answered : answer ≡ result_of_error after.error
   pub kept : after ≡ record before { output = after.output; error = after.error }

@@ -1,4 +1,4 @@
-//! Columns as the pen keeps them: `u32::MAX` stands for that and all above.
+//! Columns as the pen keeps them: `u32::MAX` means this column or a later one.
 ghost use Rattle.std.specs.Prelude.{◌≡◌, ◌≤◌, ℕ, length, min};
 ghost use Rattle.std.specs.Str.{chars};
 ghost use Rattle.yaml_base.specs.Cursor.{next_column};
@@ -17,7 +17,7 @@ pub(crate) fn next_column(character: char, column: u32) -> u32
     }
 }
 
-/// Returns how many characters a text has that fits the buffer: as many as bytes that begin one.
+/// Returns the number of characters of a text that fits the buffer: the number of bytes that begin one.
 pub(crate) fn character_count(text: &str) -> u32
     requires { length text.now ≤ buffer_size }
     ensures { result ≡ length (chars text.now) }

@@ -9,7 +9,7 @@ ghost use Rattle.yaml_pen.specs.Encoded.{ordered_bytes};
 use arrayvec::ArrayVec;
 use yaml_base::{yaml_break_t, yaml_encoding_t};
 
-/// The bytes of one character, four at most.
+/// The bytes of one character, at most four.
 pub(crate) type CharacterBytes = ArrayVec<u8, 4>;
 
 /// The order of the two bytes of a code unit.
@@ -19,7 +19,7 @@ pub(crate) enum ByteOrder {
     UpperFirst,
 }
 
-/// Returns the bytes of a character; an encoding of ANY is taken for UTF-8.
+/// Returns the bytes of a character; an encoding of ANY counts as UTF-8.
 #[inline(always)]
 pub(crate) fn encoded_character(encoding: yaml_encoding_t, character: char) -> CharacterBytes
     ensures { (e : Encoding) → seen_encoding encoding ≡ Some e → result.items ≡ character_bytes e character }
@@ -31,7 +31,7 @@ pub(crate) fn encoded_character(encoding: yaml_encoding_t, character: char) -> C
     }
 }
 
-/// Returns the bytes of a line break; a setting of ANY is taken for LF.
+/// Returns the bytes of a line break; a setting of ANY counts as LF.
 pub(crate) fn encoded_break(encoding: yaml_encoding_t, line_break: yaml_break_t) -> CharacterBytes
     ensures { (e : Encoding) → seen_encoding encoding ≡ Some e → result.items ≡ text_bytes e (break_text (unwrap_or (seen_break line_break) line_feed_break)) }
 {

@@ -1,4 +1,4 @@
-//! Bytes on their way out: a buffer, and the output that it is flushed to, within a limit.
+//! The way of bytes to the output: a buffer, and the output to which it is flushed, within a limit.
 ghost use Rattle.std.specs.Prelude.{◌≡◌, ◌≤◌, [], ◌∷◌, ◌+◌, length, drop, IfOk};
 ghost use Rattle.yaml_base.specs.Prefix.{IsPrefix};
 ghost use Rattle.yaml_pen.specs.Page.{buffer_size};
@@ -11,17 +11,17 @@ use std::marker::Model;
 use std::mem;
 use yaml_base::yaml_error_t;
 
-/// The bytes that the buffer holds.
+/// The number of bytes that the buffer holds.
 pub(crate) const BUFFER_SIZE: usize = 16_384;
 
 #[derive(Drop)]
 pub(crate) struct Outlet<A: Allocator> {
     buffer: Box<ArrayVec<u8, BUFFER_SIZE>, A>,
-    // What the caller hasn't taken.
+    // The bytes that the caller hasn't taken.
     output: Vec<u8, A>,
     taken: TakenBytes,
     taken_count: usize,
-    // Counted from the first byte on, taken or not.
+    // The length of the whole output after the last good flush, with the taken bytes.
     kept: usize,
     limit: usize,
     error: Option<yaml_error_t>,
@@ -108,7 +108,7 @@ impl<A: Allocator> Outlet<A> {
         }
     }
 
-    /// Returns what the caller hasn't taken of the output.
+    /// Returns the output that the caller hasn't taken.
     #[tactic(auto, unfolding(crate::specs::Outlet::whole_output))]
     pub(crate) fn output(&self) -> &[u8]
         ensures { result.now ≡ drop self.now.taken self.now.output }
@@ -116,7 +116,7 @@ impl<A: Allocator> Outlet<A> {
         self.output.as_slice()
     }
 
-    /// Returns what the caller hasn't taken, which is then taken.
+    /// Returns the output that the caller hasn't taken, which then counts as taken.
     #[tactic(auto, unfolding(crate::specs::Outlet::whole_output))]
     pub(crate) fn take_output(&mut self) -> Vec<u8, A>
     where
@@ -131,7 +131,7 @@ impl<A: Allocator> Outlet<A> {
         rest
     }
 
-    /// Counts what the caller hasn't taken as taken, and keeps its memory for what comes next.
+    /// Counts the rest of the output as taken, and keeps its memory for the next bytes.
     #[tactic(auto, unfolding(crate::specs::Outlet::whole_output))]
     pub(crate) fn consume_output(&mut self)
         ensures { self.new ≡ record self.old { taken = length self.old.output } }
@@ -147,7 +147,7 @@ impl<A: Allocator> Outlet<A> {
         self.error
     }
 
-    /// Appends bytes whole, or none of them where the flush that makes room for them fails.
+    /// Appends bytes whole, or none of them if the flush that makes room for them fails.
     #[inline(always)]
     pub(crate) fn append(&mut self, bytes: &[u8]) -> Result<(), yaml_error_t>
         requires { length bytes.now ≤ buffer_size }
@@ -189,7 +189,7 @@ impl<A: Allocator> Outlet<A> {
     }
 }
 
-// The limit counts what is taken, too.
+// Taken bytes count for the limit, too.
 fn flush_after_taken<A: Allocator>(
     buffer: &[u8],
     output: &mut Vec<u8, A>,

@@ -73,7 +73,7 @@ impl<A: Allocator> Pen<A> {
         self.outlet.set_limit(size);
     }
 
-    /// Sets the encoding and the line break of the text; neither may be ANY, and nothing may be written.
+    /// Sets the encoding and the line break of the text. Neither may be ANY, and nothing may be written yet.
     pub fn begin(&mut self, encoding: yaml_encoding_t, line_break: yaml_break_t)
         requires untouched { IsUntouched self.old }
         requires encoding { IsSome (seen_encoding encoding) }
@@ -96,8 +96,8 @@ impl<A: Allocator> Pen<A> {
         self.bom_due
     }
 
-    /// Writes the byte order mark, which UTF-16 begins with (RFC 2781, section 3.2); right after `begin`,
-    /// and in UTF-16 alone. Always returns `Ok`.
+    /// Writes the byte order mark, with which UTF-16 begins (RFC 2781, section 3.2). It is called right after `begin`,
+    /// and for UTF-16 alone. Always returns `Ok`.
     pub fn write_bom(&mut self) -> Result<(), yaml_error_t>
         requires { self.old.bom_due ≡ true }
         ensures ok { IsOk result }
@@ -109,8 +109,8 @@ impl<A: Allocator> Pen<A> {
         Ok(())
     }
 
-    /// Flushes all that is written. If it passes the limit, the output is filled up to the limit; if memory
-    /// is refused, the output stays as it was. Needs no memory if all is flushed.
+    /// Flushes all text written so far. If it passes the limit, the output is filled up to the limit. If memory is
+    /// refused, the output stays as it was. Needs no memory if all is flushed.
     pub fn flush(&mut self) -> Result<(), yaml_error_t>
         requires { self.old.bom_due ≡ false }
         ensures flushed { Flushed self.old self.new result }
@@ -119,7 +119,7 @@ impl<A: Allocator> Pen<A> {
         self.outlet.flush()
     }
 
-    /// Returns the flushed bytes not yet taken.
+    /// Returns the flushed bytes that aren't taken yet.
     pub fn output(&self) -> &[u8]
         ensures value { result.now ≡ output_left self.now }
         ensures untaken { self.now.taken ≡ 0 → result.now ≡ self.now.output }
@@ -128,8 +128,8 @@ impl<A: Allocator> Pen<A> {
         self.outlet.output()
     }
 
-    /// Returns the flushed bytes not yet taken. These and all bytes taken before are together the output.
-    /// Needs no memory, and may be called at any time, also after an error.
+    /// Takes and returns the flushed bytes that aren't taken yet. These and all bytes taken before are together the
+    /// output. Needs no memory, and may be called at any time, also after an error.
     pub fn take_output(&mut self) -> Vec<u8, A>
     where
         A: Copy,
@@ -140,9 +140,9 @@ impl<A: Allocator> Pen<A> {
         self.outlet.take_output()
     }
 
-    /// Counts the flushed bytes not yet taken as taken, as `take_output` does, where the caller handed them on
-    /// from `output`. Their memory is used for what is flushed next, so a caller that hands on each part of a
-    /// long text asks for no memory each time.
+    /// Counts the flushed bytes that aren't taken yet as taken, as `take_output` does, after the caller handed them on
+    /// from `output`. Later bytes use their memory, so a caller that hands on each part of a long text asks for no
+    /// memory each time.
     ///
     /// Needs no memory, and may be called at any time, also after an error.
     pub fn consume_output(&mut self)
@@ -159,35 +159,35 @@ impl<A: Allocator> Pen<A> {
         self.outlet.error()
     }
 
-    /// Sets whether white space stands before the cursor.
+    /// Sets whether white space precedes the cursor.
     pub fn set_whitespace(&mut self, whitespace: bool)
         ensures { self.new ≡ record self.old { cursor = record self.old.cursor { whitespace = whitespace } } }
     {
         self.whitespace = whitespace;
     }
 
-    /// Sets whether nothing but indentation, and indicators that may stand in it, stands before the cursor.
+    /// Sets whether only indentation, and indicators that may be part of it, precedes the cursor in its line.
     pub fn set_indention(&mut self, indention: bool)
         ensures { self.new ≡ record self.old { cursor = record self.old.cursor { indention = indention } } }
     {
         self.indention = indention;
     }
 
-    /// Returns whether white space stands before the cursor.
+    /// Returns whether white space precedes the cursor.
     pub fn whitespace(&self) -> bool
         ensures { result ≡ self.now.cursor.whitespace }
     {
         self.whitespace
     }
 
-    /// Returns whether nothing but indentation, and indicators that may stand in it, stands before the cursor.
+    /// Returns whether only indentation, and indicators that may be part of it, precedes the cursor in its line.
     pub fn indention(&self) -> bool
         ensures { result ≡ self.now.cursor.indention }
     {
         self.indention
     }
 
-    /// Returns the column of the next character, counted in characters; `i32::MAX` stands for that and all above.
+    /// Returns the column of the next character, counted in characters; `i32::MAX` means this column or a later one.
     pub fn column(&self) -> i32
         ensures { result ≡ pos (min self.now.cursor.column largest_i32) }
     {

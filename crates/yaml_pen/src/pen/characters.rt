@@ -24,7 +24,7 @@ impl<A: Allocator> Pen<A> {
         self.write_character(character)
     }
 
-    /// Writes a character of ASCII that is no break.
+    /// Writes an ASCII character that is no break.
     pub fn put(&mut self, character: u8) -> Result<(), yaml_error_t>
         requires ready { IsReady self.old }
         requires ascii { character < 128 }
@@ -34,7 +34,7 @@ impl<A: Allocator> Pen<A> {
         self.write_ascii(&[character])
     }
 
-    /// Writes characters none of which is a break.
+    /// Writes characters, none of which may be a break.
     pub fn write_run(&mut self, text: &str) -> Result<(), yaml_error_t>
         requires ready { IsReady self.old }
         requires no_break { list_any is_break (chars text.now) ≡ false }
@@ -49,7 +49,7 @@ impl<A: Allocator> Pen<A> {
         }
     }
 
-    /// Writes characters of ASCII none of which is a break, at most as many as the buffer holds.
+    /// Writes ASCII characters, none of which may be a break, and at most as many as the buffer holds.
     #[inline(always)]
     pub fn write_ascii(&mut self, text: &[u8]) -> Result<(), yaml_error_t>
         requires ready { IsReady self.old }
@@ -89,7 +89,7 @@ impl<A: Allocator> Pen<A> {
         }
     }
 
-    /// Writes nothing, and returns the error of a pen that failed.
+    /// Writes nothing, and returns the pen's error, if it failed.
     pub fn write_nothing(&self) -> Result<(), yaml_error_t>
         requires { IsReady self.now }
         ensures { Wrote render_nothing self.now self.now result }
@@ -100,7 +100,7 @@ impl<A: Allocator> Pen<A> {
         }
     }
 
-    // In UTF-8 each is its byte.
+    // In UTF-8, each character is its byte.
     #[inline]
     fn write_ascii_bytes(&mut self, text: &[u8]) -> Result<(), yaml_error_t>
         requires ready { IsReady self.old }

@@ -13,16 +13,16 @@ use crate::pen::Pen;
 use std::alloc::Allocator;
 use yaml_base::yaml_error_t;
 
-/// A piece of punctuation, or a word of a line of its own, with what it asks of the cursor and leaves behind.
+/// A piece of punctuation, or the first word of a line, with its use of the cursor's flags.
 #[derive(Clone, Copy)]
 pub struct Indicator<'a> {
     /// The text that is written. It holds no break.
     pub text: &'a str,
-    /// A space comes before it where no white space stands there.
+    /// A space comes before it, unless white space precedes the cursor.
     pub needs_space: bool,
     /// It counts as white space itself.
     pub leaves_space: bool,
-    /// It may stand in indentation, which goes on after it.
+    /// It may be part of indentation, which goes on after it.
     pub keeps_indention: bool,
 }
 
@@ -63,7 +63,7 @@ impl<'a> Indicator<'a> {
         }
     }
 
-    /// Makes the indicator of an entry in a block: a space before it, and it may stand in indentation.
+    /// Makes the indicator of an entry in a block: a space before it, and it may be part of indentation.
     pub fn indented(text: &'a str) -> Indicator<'a>
         ensures { seen_indicator_row result ≡ indented_indicator (chars text.now) }
     {
@@ -77,9 +77,8 @@ impl<'a> Indicator<'a> {
 }
 
 impl<A: Allocator> Pen<A> {
-    /// Writes an indicator, a space before it where one is needed and none stands there; then white space
-    /// stands before the cursor where `whitespace` says so, and indentation goes on only where `indention`
-    /// says so.
+    /// Writes an indicator, and a space before it if one is needed and no white space precedes. `whitespace` says
+    /// whether white space then precedes the cursor; indentation goes on only if `indention` says so.
     pub fn write_indicator(
         &mut self,
         text: &str,
@@ -99,8 +98,8 @@ impl<A: Allocator> Pen<A> {
         })
     }
 
-    /// Writes an indicator: a space where it needs one and none stands there, and its text. Then white space
-    /// stands before the cursor, and indentation goes on, as the indicator says.
+    /// Writes an indicator: a space if it needs one and no white space precedes, and its text. The indicator says
+    /// whether white space then precedes the cursor, and whether indentation goes on.
     #[inline(always)]
     pub fn put_indicator(&mut self, indicator: &Indicator) -> Result<(), yaml_error_t>
         requires ready { IsReady self.old }
@@ -118,7 +117,7 @@ impl<A: Allocator> Pen<A> {
         Ok(())
     }
 
-    /// Writes a space, where none stands there.
+    /// Writes a space, unless white space precedes the cursor.
     pub fn separate(&mut self) -> Result<(), yaml_error_t>
         requires ready { IsReady self.old }
         ensures written { Wrote (λ cursor. render_text (space_if true cursor) cursor) self.old self.new result }
@@ -126,7 +125,7 @@ impl<A: Allocator> Pen<A> {
         self.separate_if(true)
     }
 
-    /// Writes a space, where one is needed and none stands there.
+    /// Writes a space, if one is needed and no white space precedes the cursor.
     pub fn separate_if(&mut self, needed: bool) -> Result<(), yaml_error_t>
         requires ready { IsReady self.old }
         ensures written { Wrote (λ cursor. render_text (space_if needed cursor) cursor) self.old self.new result }

@@ -11,16 +11,17 @@ use crate::pen::{Pen, has_bom};
 use std::alloc::Allocator;
 use yaml_base::{yaml_break_t, yaml_error_t};
 
-/// The most spaces that are written in one call.
+/// The maximum number of spaces that are written in one call.
 const MOST_SPACES: u32 = 64;
-/// The most spaces that are written in one call with the break before them.
+/// The maximum number of spaces that are written in one call with the break before them.
 const MOST_SPACES_AFTER_BREAK: u32 = 31;
-/// LF, and as many spaces.
+/// LF, and that many spaces.
 static LINE_START: [u8; 32] = *b"\n                               ";
 
 impl<A: Allocator> Pen<A> {
-    /// Begins a new line at a column, counted in characters: breaks the line unless the cursor stands
-    /// before or at that column, free to go on, and writes spaces up to it.
+    /// Begins a new line at a column, counted in characters. Breaks the line if more than indentation precedes the
+    /// cursor in it, if the cursor is past that column, or if it is at that column and no white space precedes it; then
+    /// writes spaces up to the column.
     #[inline(always)]
     pub fn write_indent(&mut self, indent: i32) -> Result<(), yaml_error_t>
         requires ready { IsReady self.old }
@@ -38,7 +39,7 @@ impl<A: Allocator> Pen<A> {
         Ok(())
     }
 
-    // Whether a break is needed here, and is LF, one byte as the spaces are. A setting of ANY is taken for LF.
+    // Whether a break is needed here and is LF, one byte as the spaces are. A setting of ANY counts as LF.
     fn starts_at_once(&self, at: u32) -> bool
         requires { at < 2147483648 }
         ensures breaks { result ≡ true → breaks_line at self.now.cursor ≡ true }
@@ -55,7 +56,7 @@ impl<A: Allocator> Pen<A> {
             }
     }
 
-    // Most lines begin at few columns. A start whose length is known is copied without a call.
+    // Most lines begin at few columns. A start of known length is copied without a call.
     fn write_line_start(&mut self, at: u32) -> Result<(), yaml_error_t>
         requires ready { IsReady self.old }
         requires breaks { breaks_line at self.old.cursor ≡ true }

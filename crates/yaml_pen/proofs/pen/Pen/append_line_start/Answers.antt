@@ -6,7 +6,7 @@ use Rattle.yaml_pen.proofs.Writing.{AddsEvent-appended, IsPen-added, Wrote-added
 use Rattle.yaml_pen.specs.declared.pen.new_lines.TheConstants.{LINE_START}
 use Rattle.yaml_pen.proofs.pen.Pen.append_line_start.Goals as goal
 
--- so many bytes of the table are LF and spaces
+-- that many bytes of the table are LF and spaces
 line_start : (at : ℕ) → at ≤ 31 → take (at + 1) LINE_START ≡ line_feed ∷ replicate at space
 line_start at few = ap (λ n. take n LINE_START) (add-one at) ∙ ap (λ (l : List ℕ). line_feed ∷ l) (take-replicate at 31 space few)
 
