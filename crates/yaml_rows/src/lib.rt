@@ -1,4 +1,4 @@
-//! Tests of types, pens, marks, scalars, emitters, dumps and scripts. There is nothing else here.
+//! Tests of types, pens, marks, scalars, emitters, dumps and scripts, and nothing else.
 #![tactic(auto)]
 
 #[cfg(test)]

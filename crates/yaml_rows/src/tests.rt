@@ -1,8 +1,8 @@
 //! Rows of types, marks, pens and scalars; emitters call by call, documents dumped, and errors in a caller; scripts that are
 //! read, and whole runs.
 //!
-//! What has parts to be let go, as events, documents, pens and emitters have, is handed to `drop`: to let it go where a block
-//! ends is dearer to prove.
+//! Values with parts to free, as events, documents, pens and emitters have, are handed to `drop`: to free them at the end of a
+//! block is dearer to prove.
 ghost use Rattle.yaml_pen.specs.Page.{IsReady};
 
 mod dumps;
@@ -74,7 +74,7 @@ fn repeated(rt: &impl Abort, alloc: Global, text: &str, count: usize) -> String 
     text.repeat(alloc, count).expect(rt, "no memory")
 }
 
-/// Settings, and rows that come after them; with each of these settings, where `;` stands between some.
+/// Settings, and rows that come after them, with each of these settings; `;` separates several.
 type Rows<'a> = &'a [(&'a str, &'a str)];
 
 /// The meanings of the signs in a row.
@@ -109,7 +109,7 @@ fn same(rt: &impl Abort, got: &[u8], wanted: &[u8]) {
     equal(rt, &got, &wanted);
 }
 
-/// Writes an indicator; an error where it holds a break, so that no caller has to show that it holds none.
+/// Writes an indicator; an error if it holds a break, so that no caller has to show that it holds none.
 fn write_indicator(pen: &mut Pen<Global>, indicator: &Indicator) -> Result<(), yaml_error_t>
     requires { IsReady pen.old }
     ensures { IsReady pen.new }
@@ -125,7 +125,7 @@ fn write_indicator(pen: &mut Pen<Global>, indicator: &Indicator) -> Result<(), y
     )
 }
 
-/// Writes an indicator with a space before it, where one is needed.
+/// Writes an indicator with a space before it, if one is needed.
 fn write_spaced(pen: &mut Pen<Global>, text: &str) -> Result<(), yaml_error_t>
     requires { IsReady pen.old }
     ensures { IsReady pen.new }

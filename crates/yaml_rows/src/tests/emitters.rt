@@ -25,7 +25,7 @@ use yaml_test_allocator::Refusing;
 
 pub(super) type Answer = Result<(), yaml_error_t>;
 
-/// An output with room, and the width that is taken where none is set.
+/// An output with room, and the width that counts if none is set.
 pub(super) const UNSET: Settings = Settings {
     encoding: YAML_ANY_ENCODING,
     canonical: false,
@@ -41,7 +41,7 @@ pub(super) const UNSET: Settings = Settings {
     limit: usize::MAX,
 };
 
-// What is on or off.
+// Settings that are on or off.
 fn set_flags<A: Allocator>(emitter: &mut yaml_emitter_t<A>, settings: &Settings)
     requires { emitter.old.started ≡ false }
     ensures { emitter.new.started ≡ false }
@@ -72,7 +72,7 @@ fn set_lines<A: Allocator>(emitter: &mut yaml_emitter_t<A>, settings: &Settings)
 }
 
 /// Makes an emitter before its stream, each setting made by a call of its own.
-pub(super) fn begun<A: Allocator + Copy>(
+pub(super) fn new_emitter<A: Allocator + Copy>(
     alloc: A,
     settings: &Settings,
 ) -> Result<yaml_emitter_t<A>, yaml_error_t> {
@@ -90,7 +90,7 @@ pub(super) fn made<A: Allocator + Copy>(
     alloc: A,
     settings: &Settings,
 ) -> yaml_emitter_t<A> {
-    begun(alloc, settings).expect(rt, "no memory")
+    new_emitter(alloc, settings).expect(rt, "no memory")
 }
 
 /// Emits an event: an output is set.
@@ -103,7 +103,7 @@ pub(super) fn give<A: Allocator + Copy>(
     yaml_emitter_emit(emitter, next)
 }
 
-/// Flushes, where the encoding is known.
+/// Flushes, if the encoding is known.
 pub(super) fn flush_if_known<A: Allocator + Copy>(
     rt: &impl Abort,
     emitter: &mut yaml_emitter_t<A>,
@@ -161,7 +161,7 @@ pub(super) fn check_answer(
     equal(rt, &answer, &wanted);
 }
 
-/// Checks, where a growth was refused, that what was flushed begins the whole, and each call answers the error.
+/// Checks, after an allocation failed, that the flushed bytes are a prefix of the whole, and that each call returns the error.
 pub(super) fn check_out_of_memory<A: Allocator + Copy>(
     rt: &impl Abort,
     emitter: &mut yaml_emitter_t<A>,

@@ -1,4 +1,4 @@
-//! Names, versions, directives, and where a tag is cut.
+//! Names, versions, directives, and the places at which tags are divided.
 mod spelled;
 
 use super::{directives, equal, equal_at};
@@ -50,7 +50,7 @@ fn check_all<A: Allocator>(
 
 type Answer = Result<(), yaml_error_t>;
 
-/// A major and a minor version, and what is said of them.
+/// A major and a minor version, and the result of their check.
 type Version = (i32, i32, Answer);
 
 const OTHER: Answer = Err(yaml_error_t::IncompatibleVersion);
@@ -75,7 +75,7 @@ fn versions_are_1_1_and_1_2(rt: HostRuntime) {
     }
 }
 
-/// A name, and what is said of it as an anchor, and as an alias.
+/// A name, and the result of its check as an anchor, and as an alias.
 type Name<'a> = (&'a str, Answer, Answer);
 
 const ANCHOR: Answer = Err(yaml_error_t::AnchorAlphabet);
@@ -103,7 +103,7 @@ fn anchors_and_aliases_are_names(rt: HostRuntime) {
     }
 }
 
-/// A directive's line, and what is said of its handle and its prefix.
+/// A directive's line, and the result of the check of its handle and its prefix.
 const DIRECTIVES: &[(&str, Answer)] = &[
     (r#"+DOC 1 - "!" "x""#, Ok(())),
     (r#"+DOC 1 - "!!" "x""#, Ok(())),
@@ -135,7 +135,7 @@ fn directives_are_refused_in_order(rt: HostRuntime) {
     }
 }
 
-/// A directive's line, and whether it is a default; what is said of it, and how many are then in force.
+/// A directive's line, and whether it is a default; the result of adding it, and how many are then in force.
 type Given<'a> = (&'a str, bool, Answer, usize);
 
 // Directives are added, and so many are in force after each.
@@ -226,7 +226,7 @@ const BY_OWN: &[Cut] = &[
 const MANY: &str =
     r#"+DOC 1 - "!0!" "n:0" "!1!" "v:a" "!2!" "v:ab" "!3!" "n:3" "!4!" "n:4" "!5!" "w:ab" "!6!" "n:6" "!7!" "n:7" "!8!" "t:a" "!9!" "t:ab:" "!10!" "u:ab:" "!11!" "u:a" "!12!" "t:a" "!13!" "v:abc" "!14!" "w:a" "!15!" "x:ab" "!16!" "x:\u{E9}""#;
 
-/// By the first of them, by one of the others, and by a default behind all.
+/// By the first of them, by one of the others, and by a default after all.
 const BY_MANY: &[Cut] = &[
     ("n:00", Some(0), 3),
     ("n:77", Some(7), 3),
@@ -280,7 +280,7 @@ fn a_handle_is_given_once_among_many(rt: HostRuntime) {
 
 type Heap = Refusing<Global>;
 
-// Adds a directive. Where a growth is refused, the answer is `Memory` and the list is as before; the directive is then added again.
+// Adds a directive. If an allocation fails, the result is `Memory` and the list is as before; the directive is then added again.
 fn check_added<A: Allocator + Copy>(
     rt: &impl Abort,
     heap: &Heap,

@@ -40,7 +40,7 @@ fn begin<A: Allocator>(pen: &mut Pen<A>, encoding: yaml_encoding_t) -> Result<()
     }
 }
 
-/// Makes a pen that is ready to write, where there is memory for it.
+/// Makes a pen that is ready to write, if there is memory for it.
 fn made<A: Allocator + Copy>(
     rt: &impl Abort,
     alloc: A,
@@ -149,7 +149,7 @@ fn end_line(pen: &mut Pen<Global>) -> Result<(Cursor, i32), yaml_error_t>
     Ok((behind_letter, pen.column()))
 }
 
-/// An encoding, and what is written in it.
+/// An encoding, and the bytes written in it.
 type Written<'a> = (yaml_encoding_t, &'a [u8]);
 
 fn check_calls(rt: &impl Abort, alloc: Global, row: &Written) {
@@ -241,7 +241,7 @@ fn check_cut(rt: &impl Abort, alloc: Global, pen: &mut Pen<Global>, cut: &[u8])
     check_stopped(rt, alloc, pen, yaml_error_t::WriteError);
 }
 
-// The text is cut where the limit leaves less, and else whole.
+// The text is cut if the limit leaves less room, and otherwise whole.
 fn check_limit(rt: &impl Abort, alloc: Global, row: &Written, limit: usize) {
     let mut pen = made(rt, alloc, limit, row.0);
     let answers = (pen.write_char('\u{1F600}'), pen.put_break());
@@ -286,7 +286,7 @@ fn check_bytes(rt: &impl Abort, output: &[u8], start: usize, count: usize, cycle
     }
 }
 
-// Where the cycles begin: after the mark and so many letters.
+// The cycles begin after the mark and so many letters.
 fn start_of(encoding: yaml_encoding_t, ahead: usize) -> usize {
     match encoding {
         YAML_UTF8_ENCODING => ahead,
@@ -334,7 +334,7 @@ fn write_parts(pen: &mut Pen<Global>, alloc: Global, text: Text) -> Result<(i32,
     Ok((column, pen.column()))
 }
 
-// Behind so many letters a text ends in these columns.
+// After so many letters a text ends in these columns.
 fn check_columns(rt: &impl Abort, alloc: Global, pen: &mut Pen<Global>, text: Text, ahead: u8)
     requires { IsReady pen.old }
     ensures { IsReady pen.new }

@@ -1,4 +1,4 @@
-//! Scripts, with what comes of each: by the calls of an emitter, one by one, and by a run of the whole. The expected values
+//! Scripts with their results: by the calls of an emitter, one by one, and by a run of the whole. The expected values
 //! were worked out by hand. All but the scripts of a million collections is made again with each growth refused in turn.
 mod bad_lines;
 mod blanks;
@@ -52,7 +52,7 @@ impl Flushes {
     }
 }
 
-/// A script, and what comes of it.
+/// A script, and its results.
 #[derive(Clone, Copy)]
 struct Row<'a> {
     script: &'a str,
@@ -79,14 +79,14 @@ impl<'a> Row<'a> {
     }
 }
 
-/// Returns the line that tells how a run ended.
+/// Returns the line that reports the end of a run.
 pub(super) fn line_of(rt: &impl Abort, alloc: Global, answer: &run_answer_t) -> Vec<u8> {
     let mut line: Vec<u8> = Vec::new(alloc);
     equal(rt, &write_line(answer, &mut line).is_ok(), &true);
     line
 }
 
-/// The status of a run of a script, what it writes, and its line.
+/// The status of a run of a script, the text that it writes, and its line.
 type Report<'a> = (u8, &'a [u8], &'a str);
 
 fn check_report(rt: &impl Abort, alloc: Global, script: &[u8], wanted: Report) {
@@ -119,7 +119,7 @@ fn check_row(rt: &impl Abort, alloc: Global, row: &Row) {
 const FIRST: &str =
     "canonical on\nwidth -1\n+STR any\n+DOC 1 -\n=VAL any 1 1 - - \"a\"\n-DOC 1\n-STR\n";
 
-/// Scripts, each with the call that is refused, what is written, and what is returned.
+/// Scripts, each with the call that is refused, the text that is written, and the error that is returned.
 type Refusals<'a> = &'a [(&'a str, run_answer_t, &'a [u8], &'a str)];
 
 // A refusal, and its line.
@@ -142,14 +142,14 @@ const TOLD: Refusals = &[
         b"",
         "yamlemit: line 2: expected STREAM-START\n",
     ),
-    // Nothing waits, and the last flush writes what the limit leaves.
+    // Nothing waits, and the last flush writes as much as the limit allows.
     (
         "limit 2\n+STR any\n# a comment\n+DOC 1 -\n\n=VAL any 1 1 - - \"abc\"\n\n",
         run_answer_t::Refused(6, yaml_error_t::WriteError),
         b"ab",
         "yamlemit: line 6: write error\n",
     ),
-    // What was given after a refusal changes nothing.
+    // An event that is given after a refusal changes nothing.
     (
         "+STR any\n+DOC 1 -\n=VAL any 1 1 - - \"a\"\n-DOC 1\n-DOC 1\n+DOC 1 -\n=VAL any 1 1 - - \"b\"\n-DOC 1\n-STR",
         run_answer_t::Refused(5, yaml_error_t::ExpectedDocumentStart),

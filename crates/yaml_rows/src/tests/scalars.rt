@@ -23,7 +23,7 @@ use yaml_scalar::{
 };
 
 /// Makes a pen at the start of a text in UTF-8 whose lines end so, in LF if nothing is set, with a limit on the output's bytes.
-fn begun_within(
+fn new_pen_within(
     rt: &impl Abort,
     alloc: Global,
     limit: usize,
@@ -42,10 +42,10 @@ fn begun_within(
 }
 
 /// Makes a pen at the start of a text in UTF-8 whose lines end in LF.
-pub(super) fn begun(rt: &impl Abort, alloc: Global) -> Pen<Global>
+pub(super) fn new_pen(rt: &impl Abort, alloc: Global) -> Pen<Global>
     ensures { IsReady result }
 {
-    begun_within(rt, alloc, usize::MAX, YAML_LN_BREAK)
+    new_pen_within(rt, alloc, usize::MAX, YAML_LN_BREAK)
 }
 
 /// The settings by which scalars are written.
@@ -66,7 +66,7 @@ fn is_allowed(value: &str) -> bool
     analyze_scalar(value, true, false).block_allowed
 }
 
-// Writes in a style that stands on a line: between double quotes where neither of the others is asked for.
+// Writes in a style for one line: between double quotes if neither of the others is asked for.
 fn write_in_line(
     pen: &mut Pen<Global>,
     layout: &Layout,
@@ -90,7 +90,7 @@ fn write_in_line(
     }
 }
 
-/// Writes in a style. Answers the open-ended state; -1 where no setting indents so.
+/// Writes in a style. Returns the open-ended state; -1 if no setting indents so.
 fn write_in(
     pen: &mut Pen<Global>,
     layout: &Layout,

@@ -1,4 +1,4 @@
-//! Scripts read by `yaml_tool`, and what each end of a run says.
+//! Scripts read by `yaml_tool`, and the report of each end of a run.
 use crate::tests::runs::line_of;
 use crate::tests::{equal, same};
 use std::alloc::Global;

@@ -11,7 +11,7 @@ fn the_default_event_is_the_end_of_a_stream(rt: HostRuntime) {
     same_values(&rt, Default::default(), end);
 }
 
-/// An error, its kind, what is wrong, and its words.
+/// An error, its kind, its problem, and its message.
 type Refusal<'a> = (yaml_error_t, yaml_error_type_t, &'a str, &'a str);
 
 const NO_NODE: &str = "expected SCALAR, SEQUENCE-START, MAPPING-START, or ALIAS";

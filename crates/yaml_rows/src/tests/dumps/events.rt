@@ -102,7 +102,7 @@ fn tags_styles_and_directives_are_copied(rt: HostRuntime) {
     check_events(&rt, rt.alloc(), tagged, TAGGED_EVENTS);
 }
 
-/// Places, from 0 on, each with its event's line: the text behind 99,999 starts, the last of as many ends, and the document's end.
+/// Places, from 0 on, each with its event's line: the text after 99,999 starts, the last of as many ends, and the document's end.
 const DEEP: &[(usize, &str)] = &[
     (100_000, r#"=VAL any 1 1 - "tag:yaml.org,2002:str" "a""#),
     (199_999, "-SEQ"),

@@ -13,7 +13,7 @@ use std::process::Abort;
 use yaml_base::yaml_error_t;
 use yaml_emitter::Settings;
 
-/// Returns sequences of so many of these numbers each, and a node behind them, so often.
+/// Returns so many times sequences of so many of these numbers each, with a node after them.
 pub(super) fn sequences<'a>(
     rt: &impl Abort,
     alloc: Global,
@@ -32,7 +32,7 @@ pub(super) fn sequences<'a>(
     given
 }
 
-/// Adds a line of an item, which is an anchor or an alias and what follows it.
+/// Adds a line of an item, which is an anchor or an alias and the text after it.
 fn add_item(
     rt: &impl Abort,
     text: &mut String,

@@ -1,4 +1,4 @@
-//! Calls on one emitter, and what is then so, as tables write them; also with each growth refused in turn.
+//! Calls on one emitter, and its state afterwards, as tables write them; also with each growth refused in turn.
 use super::{Given, close, document, dump};
 use crate::tests::emitters::steps::{Taken, check_steps};
 use crate::tests::emitters::{Answer, check_answer, give};
@@ -13,7 +13,7 @@ use yaml_dump::yaml_emitter_open;
 use yaml_emitter::{Settings, yaml_emitter_t};
 use yaml_test_allocator::Refusing;
 
-/// A call with its answer, or what stands after it.
+/// A call with its result, or a fact about the emitter after it.
 #[derive(Clone, Copy)]
 pub(super) enum Step<'a> {
     /// The stream is opened.
@@ -53,7 +53,7 @@ fn granted<A: Allocator + Copy>(
     document
 }
 
-/// Dumps a document. Where a growth was refused and no error is kept, the emitter is as before, and takes an equal document.
+/// Dumps a document. If a growth was refused and no error is kept, the emitter is as before, and takes an equal document.
 fn dump_again<A: Allocator + Copy>(
     rt: &impl Abort,
     heap: &Refusing<Global>,
@@ -70,7 +70,7 @@ fn dump_again<A: Allocator + Copy>(
     dump(rt, alloc, emitter, granted(rt, heap, alloc, given))
 }
 
-// Makes the call of a step. Returns how it is answered, and how it is to be; nothing where the step is no call.
+// Makes the call of a step. Returns its result and the expected one; nothing if the step is no call.
 fn answers<A: Allocator + Copy>(
     rt: &impl Abort,
     heap: &Refusing<Global>,
@@ -95,7 +95,7 @@ fn answers<A: Allocator + Copy>(
     }
 }
 
-// What stands is so, and no event waits.
+// The fact holds, and no event waits.
 fn check_standing<A: Allocator>(rt: &impl Abort, emitter: &yaml_emitter_t<A>, step: &Step) {
     match step {
         Step::Opened(is_opened) => equal(rt, &emitter.is_opened(), is_opened),

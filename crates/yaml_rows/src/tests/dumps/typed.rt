@@ -24,7 +24,7 @@ const MAP: &str = "tag:yaml.org,2002:map";
 /// Nodes, and the text of a typed dump of them.
 type Row<'a> = (&'a [Given<'a>], &'a str);
 
-/// Texts stand in quotes where a reader may take them for something else.
+/// Texts are quoted if a reader may take them for another type.
 const TEXTS: &[Row] = &[
     (&[Text("a")], "a\n"),
     (&[Text("no")], "'no'\n"),
@@ -35,7 +35,7 @@ const TEXTS: &[Row] = &[
     (&[Quoted(STR, "a")], "\"a\"\n"),
 ];
 
-/// Words and numbers stand plain where that is their plain tag; else the tag is written.
+/// Words and numbers are plain if that gives them their tag; otherwise the tag is written.
 const OTHERS: &[Row] = &[
     (&[Tagged(NULL, "~")], "~\n"),
     (&[Tagged(NULL, "null")], "null\n"),
@@ -78,7 +78,7 @@ const PAIRS: &[yaml_node_pair_t] = &[
     yaml_node_pair_t { key: 4, value: 5 },
 ];
 
-/// Each node keeps its type in collections, too, as a key, and where it is shared.
+/// Each node keeps its type in collections, too, as a key, and if it is shared.
 const NESTED: &[Row] = &[
     (
         &[

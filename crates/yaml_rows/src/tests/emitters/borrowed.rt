@@ -1,4 +1,4 @@
-//! Scalars whose texts are borrowed stand as their events do; one that needn't wait takes no memory.
+//! Scalars with borrowed texts are written as their events are; one that needn't wait takes no memory.
 use super::{Answer, UNSET, check_failed, give, made};
 use crate::tests::{equal, equal_at, event_of, same};
 use std::alloc::{Allocator, Global};
@@ -12,7 +12,7 @@ use yaml_test_allocator::Refusing;
 /// A line of a script, and how many events wait after it.
 type Line<'a> = (&'a str, usize);
 
-/// Settings, lines, the last line with its answer, and what is written.
+/// Settings, lines, the last line with its result, and the text that is written.
 type Row<'a> = (&'a Settings, &'a [Line<'a>], (&'a str, Answer), &'a str);
 
 /// Keys and values of each kind: the first key and value of the mapping wait, and the first item of the sequence.
@@ -151,13 +151,13 @@ const REFUSED: &[Row] = &[
 /// The way in which scalars are given: by their events, or borrowed with the growth of this number refused, none with 0.
 type Way = Option<usize>;
 
-/// The start of a document takes memory, so no growth is refused where a scalar makes the first one ready.
+/// The start of a document takes memory, so no growth is refused if a scalar makes the first one ready.
 const TABLES: &[(&[Row], &[Way])] = &[
     (WRITTEN, &[None, Some(0), Some(1)]),
     (REFUSED, &[None, Some(0)]),
 ];
 
-/// Emits a scalar whose texts are borrowed: an output is set.
+/// Emits a scalar with borrowed texts: an output is set.
 fn give_borrowed<A: Allocator + Copy>(
     rt: &impl Abort,
     emitter: &mut yaml_emitter_t<A>,
@@ -167,7 +167,7 @@ fn give_borrowed<A: Allocator + Copy>(
     yaml_emitter_emit_scalar(emitter, content).into_result()
 }
 
-// A scalar that is queued takes memory: where it isn't granted any, nothing changes, and it is taken when it comes again. One
+// A scalar that is queued takes memory: if it gets none, nothing changes, and it is taken when it comes again. One
 // that is written at once takes none.
 fn give_refused<A: Allocator + Copy>(
     rt: &impl Abort,
@@ -190,7 +190,7 @@ fn give_refused<A: Allocator + Copy>(
     again
 }
 
-// The scalar that an event is.
+// The scalar of an event.
 fn content_of<A: Allocator>(event: &yaml_event_t<A>) -> Option<ScalarContent<'_>> {
     match event {
         YAML_SCALAR_EVENT {
@@ -212,7 +212,7 @@ fn content_of<A: Allocator>(event: &yaml_event_t<A>) -> Option<ScalarContent<'_>
     }
 }
 
-// The event of a line, or the scalar that it is.
+// The event of a line, or its scalar.
 fn give_line<A: Allocator + Copy>(
     rt: &impl Abort,
     heap: &Refusing<Global>,

@@ -16,7 +16,7 @@ const ENDLESS: &Settings = &Settings {
 /// The maximum nesting depth.
 pub(crate) const MOST: usize = 1_000_000;
 
-/// Returns what is flushed of the text of a million block sequences: 122 buffers. The text has 1,999,997 bytes, a `-` for each
+/// Returns the flushed part of the text of a million block sequences: 122 buffers. The text has 1,999,997 bytes, a `-` for each
 /// sequence but the root, and a space between two.
 pub(crate) fn dashes(rt: &impl Abort, alloc: Global) -> String {
     repeated(rt, alloc, "- ", 122 * 8_192)

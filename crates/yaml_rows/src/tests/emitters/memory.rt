@@ -1,5 +1,5 @@
 //! Room that is left by an emitter that is deleted.
-use super::{UNSET, begun, give, made};
+use super::{UNSET, give, made, new_emitter};
 use crate::tests::{equal, event_of};
 use linked_list_allocator::LocalHeap;
 use std::alloc::Allocator;
@@ -15,7 +15,11 @@ fn check_full<A: Allocator + Copy>(rt: &impl Abort, heap: A, emitter: &mut yaml_
         let answer = give(rt, emitter, event_of(rt, heap, line));
         equal(rt, &answer, &Ok(()));
     }
-    equal(rt, &begun(heap, &UNSET).err(), &Some(yaml_error_t::Memory));
+    equal(
+        rt,
+        &new_emitter(heap, &UNSET).err(),
+        &Some(yaml_error_t::Memory),
+    );
 }
 
 fn fill_and_delete<A: Allocator + Copy>(rt: &impl Abort, heap: A) {

@@ -1,5 +1,7 @@
-//! Calls on one emitter, and what is then so, as tables write them; also with each growth refused in turn.
-use super::{Answer, begun, check_answer, check_failed, check_out_of_memory, flush_if_known, give};
+//! Calls on one emitter, and its state afterwards, as tables write them; also with each growth refused in turn.
+use super::{
+    Answer, check_answer, check_failed, check_out_of_memory, flush_if_known, give, new_emitter,
+};
 use crate::tests::{equal, event_of, same};
 use std::alloc::{Allocator, Global};
 use std::ops::Range;
@@ -10,9 +12,9 @@ use yaml_emitter::{
 };
 use yaml_test_allocator::Refusing;
 
-/// A call with its answer, or what stands after it. Those of documents that are dumped are others.
+/// A call with its result, or a fact about the emitter after it. Dumps have steps of their own.
 pub(crate) trait Taken {
-    /// Makes the call, or looks at what stands; a growth may be refused.
+    /// Makes the call, or checks the fact; a growth may be refused.
     fn take<A: Allocator + Copy>(
         &self,
         rt: &impl Abort,
@@ -21,11 +23,11 @@ pub(crate) trait Taken {
         emitter: &mut yaml_emitter_t<A>,
     );
 
-    /// Returns the output, where it is looked at.
+    /// Returns the output, if the step looks at it.
     fn output(&self) -> Option<&[u8]>;
 }
 
-/// Calls with their answers, or what stands after them.
+/// Calls with their results, or facts about the emitter after them.
 #[derive(Clone, Copy)]
 pub(super) enum Step<'a> {
     /// The event of this script's line is emitted, and not refused.
@@ -34,7 +36,7 @@ pub(super) enum Step<'a> {
     Repeat(&'a str, usize, usize),
     /// This event is refused so.
     Refused(&'a str, yaml_error_t),
-    /// A flush, where the encoding is known.
+    /// A flush, if the encoding is known.
     Flush(Answer),
     /// The output, which is then taken.
     Take(&'a [u8]),
@@ -120,7 +122,7 @@ fn emit_until_refused<A: Allocator + Copy>(
     }
 }
 
-// What stands is so.
+// The fact holds.
 fn check_standing<A: Allocator>(rt: &impl Abort, emitter: &yaml_emitter_t<A>, step: &Step) {
     match step {
         Step::Output(bytes) => same(rt, emitter.output(), bytes),
@@ -199,7 +201,7 @@ fn make_and_take<A: Allocator + Copy, S: Taken>(
     settings: &Settings,
     steps: &[S],
 ) {
-    match begun(alloc, settings) {
+    match new_emitter(alloc, settings) {
         Ok(mut emitter) => {
             take_steps(rt, heap, alloc, &mut emitter, steps);
             drop(emitter);

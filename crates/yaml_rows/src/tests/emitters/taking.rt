@@ -6,7 +6,7 @@ use super::steps::{Step, check_steps};
 use yaml_base::{YAML_UTF16LE_ENCODING, yaml_error_t};
 use yaml_emitter::Settings;
 
-// In the middle of a document, and where events wait.
+// In the middle of a document, and while events wait.
 const PARTS: &[Step] = &[
     Take(b""),
     Emit("+STR any"),
@@ -73,7 +73,7 @@ const TO_THE_LIMIT: &[Step] = &[
     Take(b""),
 ];
 
-// After each part is consumed, the output has only what is new, and so have the parts that are taken.
+// After each part is consumed, the output has only new bytes, and so have the parts that are taken.
 const CONSUMED: &[Step] = &[
     Consume(b""),
     Emit("+STR any"),

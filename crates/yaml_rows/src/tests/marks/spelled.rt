@@ -3,7 +3,7 @@ ghost use Rattle.yaml_pen.specs.Page.{IsReady};
 
 use super::in_force;
 use crate::tests::pens::check_flushed;
-use crate::tests::scalars::begun;
+use crate::tests::scalars::new_pen;
 use crate::tests::{equal, equal_at, write_indicator, write_spaced};
 use std::alloc::{Allocator, Global};
 use std::process::Abort;
@@ -25,7 +25,7 @@ fn write_handle(pen: &mut Pen<Global>, handle: &str) -> Result<(), yaml_error_t>
     write_tag_handle(pen, handle)
 }
 
-// A tag by its directive's handle and what follows the prefix.
+// A tag as its directive's handle and the text after the prefix.
 fn write_short<A: Allocator>(
     pen: &mut Pen<Global>,
     directive: &yaml_tag_directive_t<A>,
@@ -47,7 +47,7 @@ fn write_whole(pen: &mut Pen<Global>, tag: &str) -> Result<(), yaml_error_t>
     write_indicator(pen, &Indicator::tight(">"))
 }
 
-// `&a`, which stands before each tag.
+// `&a`, which precedes each tag.
 #[tactic(auto, using(yaml_base::proofs::Literals::literal_unbroken))]
 fn write_property(pen: &mut Pen<Global>) -> Result<(), yaml_error_t>
     requires { IsReady pen.old }
@@ -77,14 +77,14 @@ fn write_tag(
     }
 }
 
-/// A tag, and what is written.
+/// A tag, and the text that is written.
 type Tag<'a> = (&'a str, &'a str);
 
-// Where a document starts so.
+// The document starts so.
 fn check_tags(rt: &impl Abort, alloc: Global, start: &str, rows: &[Tag]) {
     let directives = in_force(rt, alloc, start);
     for row in rows {
-        let mut pen = begun(rt, alloc);
+        let mut pen = new_pen(rt, alloc);
         let answer = write_tag(&mut pen, row.0, &directives);
         equal_at(rt, row.0, &answer, &Ok(()));
         check_flushed(rt, &mut pen, row.1.as_bytes());
@@ -123,7 +123,7 @@ const BY_REPLACED: &[Tag] = &[
     ("tag:yaml.org,2002:str", "&a !!str"),
 ];
 
-/// A document's start, and tags as they are spelled where no handle of its own is for them, by its own handles, and by one that
+/// A document's start, and tags as they are spelled if no handle of its own is for them, by its own handles, and by one that
 /// replaces a default.
 const TAGS: &[(&str, &[Tag])] = &[
     ("+DOC 1 -", SPELLED),
@@ -138,7 +138,7 @@ fn tags_are_written_by_their_spelling_and_by_handles(rt: HostRuntime) {
     }
 }
 
-/// The characters that stand for themselves.
+/// The characters that are written unescaped.
 const KEPT: &str =
     "0123456789ABCDEFGHIJKLMNOPQRSTUVWXYZabcdefghijklmnopqrstuvwxyz_-;/?:@&=+$,.~*'()[]";
 
@@ -159,7 +159,7 @@ fn check_character(rt: &impl Abort, alloc: Global, character: char) {
     let escaped = escaped(rt, alloc, text);
     let is_kept = KEPT.contains(character);
     let wanted = if is_kept { text } else { escaped.as_str() };
-    let mut pen = begun(rt, alloc);
+    let mut pen = new_pen(rt, alloc);
     let answer = write_tag_content(&mut pen, text, false);
     equal_at(rt, text, &answer, &Ok(()));
     check_flushed(rt, &mut pen, wanted.as_bytes());
@@ -188,7 +188,7 @@ fn write_directive(pen: &mut Pen<Global>) -> Result<(), yaml_error_t>
 
 #[test]
 fn a_directive_line_is_separated(rt: HostRuntime) {
-    let mut pen = begun(&rt, rt.alloc());
+    let mut pen = new_pen(&rt, rt.alloc());
     let answer = write_directive(&mut pen);
     equal(&rt, &(pen.whitespace(), pen.indention()), &(false, false));
     equal(&rt, &answer, &Ok(()));
@@ -196,7 +196,7 @@ fn a_directive_line_is_separated(rt: HostRuntime) {
     drop(pen);
 }
 
-// A text as a prefix, and then as what stands after a handle.
+// A text as a prefix, and then as the text after a handle.
 fn write_ends(pen: &mut Pen<Global>, text: &str, portable: bool) -> Result<(), yaml_error_t>
     requires { IsReady pen.old }
     ensures { IsReady pen.new }
@@ -205,7 +205,7 @@ fn write_ends(pen: &mut Pen<Global>, text: &str, portable: bool) -> Result<(), y
     write_tag_suffix(pen, text, portable)
 }
 
-/// A text, whether it is to be portable, and what is written.
+/// A text, whether it is to be portable, and the text that is written.
 type Ends<'a> = (&'a str, bool, &'a str);
 
 const ENDS: &[Ends] = &[
@@ -220,7 +220,7 @@ const ENDS: &[Ends] = &[
 #[test]
 fn prefixes_and_suffixes_are_portable_where_asked(rt: HostRuntime) {
     for row in ENDS {
-        let mut pen = begun(&rt, rt.alloc());
+        let mut pen = new_pen(&rt, rt.alloc());
         let answer = write_ends(&mut pen, row.0, row.1);
         equal_at(&rt, row.0, &answer, &Ok(()));
         check_flushed(&rt, &mut pen, row.2.as_bytes());

@@ -1,4 +1,4 @@
-//! Output that is consumed where it lies.
+//! Output that is consumed in place.
 ghost use Rattle.std.specs.Prelude.{◌≡◌, ◌<◌, false};
 ghost use Rattle.yaml_base.specs.Characters.{is_break};
 ghost use Rattle.yaml_pen.specs.Page.{IsReady};

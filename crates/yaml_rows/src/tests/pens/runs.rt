@@ -5,7 +5,7 @@ use std::alloc::Global;
 use std::process::Abort;
 use yaml_base::{YAML_UTF8_ENCODING, yaml_error_t};
 
-// A run, which is refused where it passes the limit, and a flush, which then is.
+// A run, which is refused if it passes the limit, and a flush, which then is.
 fn check_run(rt: &impl Abort, alloc: Global, limit: usize) {
     let mut pen = made(rt, alloc, limit, YAML_UTF8_ENCODING);
     let answer = write_long_run(&mut pen, alloc, 5_000);

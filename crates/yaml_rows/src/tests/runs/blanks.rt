@@ -1,7 +1,7 @@
 //! Texts with tabs, and with spaces at the ends of their lines, for which literal is asked.
 use crate::tests::Rows;
 
-/// Blanks are literal where no nonempty line is of blanks alone; where they are quoted, and where nothing is set, no such text is.
+/// Blanks are literal if no nonempty line is of blanks alone; with quoted blanks, and with nothing set, no such text is literal.
 pub(super) const ROOTS: Rows = &[
     (
         "blanks literal",

@@ -2,7 +2,7 @@
 //! flushed; and all again with each growth refused in turn.
 use super::Row;
 use super::held::{Kind, held, kind_of};
-use crate::tests::emitters::{Answer, begun, check_failed, flush_if_known, give};
+use crate::tests::emitters::{Answer, check_failed, flush_if_known, give, new_emitter};
 use crate::tests::{equal, equal_at};
 use std::alloc::{Allocator, Global};
 use std::process::Abort;
@@ -35,7 +35,7 @@ fn flush_answer(row: &Row, line: u64) -> Answer {
     }
 }
 
-/// Returns what was flushed by so many flushes.
+/// Returns the bytes that so many flushes flushed.
 fn flushed<'a>(row: &Row<'a>, flushes: usize) -> &'a [u8] {
     let Some(last) = flushes.checked_sub(1) else {
         return b"";
@@ -76,7 +76,7 @@ fn check_answer(rt: &impl Abort, walk: &Walk, got: Answer, row: Answer, waiting:
     equal_at(rt, walk.name, &(got, waiting), &(wanted, events));
 }
 
-// Where a growth was refused, what is flushed begins the row's output.
+// After a refused growth the flushed bytes are a prefix of the row's output.
 fn check_output(rt: &impl Abort, walk: &Walk, output: &[u8]) {
     if walk.heap.left() == 0 {
         equal(rt, &walk.row.output.starts_with(output), &true);
@@ -108,7 +108,7 @@ fn add(rt: &impl Abort, walk: &mut Walk, kind: Kind) -> bool {
     held(walk.given.as_slice()) > waiting
 }
 
-// An event that is only kept asks for no growth. Answers what the event is.
+// An event that is only queued needs no growth. Returns the event's kind.
 fn check_emit<A: Allocator + Copy>(
     rt: &impl Abort,
     walk: &mut Walk,
@@ -127,7 +127,7 @@ fn check_emit<A: Allocator + Copy>(
     kind
 }
 
-// What was flushed by an event of this line, and a flush after it where the row has one.
+// The bytes flushed by an event of this line, and by a flush after it if the row has one.
 fn check_flushes<A: Allocator + Copy>(
     rt: &impl Abort,
     walk: &mut Walk,
@@ -181,7 +181,7 @@ fn check_script<A: Allocator + Copy>(
     alloc: A,
     script: Script<A>,
 ) {
-    match begun(alloc, &script.settings) {
+    match new_emitter(alloc, &script.settings) {
         Ok(mut emitter) => {
             check_events(rt, walk, &mut emitter, script.events);
             drop(emitter);

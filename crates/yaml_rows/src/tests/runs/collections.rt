@@ -148,7 +148,7 @@ pub(super) const ROOTS: Rows = &[
     ),
 ];
 
-/// Settings, and the style of a mapping; its key: a character, so many times; what is written before it and after it.
+/// Settings, and the style of a mapping; its key: a character, so many times; the text that is written before it and after it.
 type Key<'a> = (&'a str, &'a str, &'a str, usize, &'a str, &'a str);
 
 // A simple key has at most 128 bytes; U+00E9 has two.

@@ -9,11 +9,11 @@ struct Line<'a> {
     line: &'a str,
     /// The place of its first byte.
     start: usize,
-    /// The output where the script ends before the line.
+    /// The output if the script ends before the line.
     before: &'a [u8],
-    /// The output where the script ends with the line.
+    /// The output if the script ends with the line.
     written: &'a [u8],
-    /// The report of a bad line where the script ends within the line.
+    /// The report of a bad line if the script ends within the line.
     report: &'a str,
 }
 

@@ -18,7 +18,7 @@ fn check_once(rt: &impl Abort, alloc: Global, row: &Row) {
     equal(rt, &(answer, output.as_slice()), &(row.answer, row.output));
 }
 
-// Behind the collection that is one too many two may wait. The next one, in this line, makes it ready.
+// After the collection that is one too many two events may wait. The next one, in this line, makes it ready.
 #[test]
 fn a_million_collections_may_be_open(rt: HostRuntime) {
     let alloc = rt.alloc();

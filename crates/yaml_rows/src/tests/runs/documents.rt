@@ -4,7 +4,7 @@ use crate::tests::{Rows, joined};
 use std::alloc::Global;
 use std::process::Abort;
 
-/// Whole streams: marks stand where they are needed.
+/// Whole streams: marks are written if they are needed.
 pub(super) const STREAMS: Rows = &[
     (
         "",
@@ -59,7 +59,7 @@ const LETTER: &str = "+DOC 1 -\n=VAL any 1 1 - - \"a\"\n-DOC 1\n";
 /// A document of one character that UTF-16 writes in two units.
 const FACE: &str = "+DOC 1 -\n=VAL any 1 1 - - \"\u{1F600}\"\n-DOC 1\n";
 
-/// Settings, an encoding, documents, and what is written.
+/// Settings, an encoding, documents, and the bytes that are written.
 type Encoded<'a> = (&'a str, &'a str, &'a str, &'a [u8]);
 
 // The encoding is set before the stream, or asked for by its start.

@@ -1,21 +1,21 @@
-//! Short values as roots in each style, which is another one where the value doesn't allow the one that is asked for.
+//! Short values as roots in each style; another style replaces one that the value doesn't allow.
 use super::short_values::{PLAIN, ROWS};
 use super::written::check_script;
 use crate::tests::{equal, joined};
 use std::alloc::Global;
 use std::process::Abort;
 
-/// Returns a text up to the first `;`, and what follows it.
+/// Returns a text up to the first `;`, and the text after it.
 fn cut<'a>(rt: &impl Abort, row: &'a str) -> (&'a str, &'a str) {
     row.split_once(';').expect(rt, "a text")
 }
 
-/// Returns the text of a style, or where there is none, as it isn't allowed, that between double quotes.
+/// Returns the text of a style, or the double-quoted text if the style isn't allowed.
 fn allowed<'a>(text: &'a str, double: &'a str) -> &'a str {
     if text.is_empty() { double } else { text }
 }
 
-/// Returns the line break that the document's end adds where the text has none.
+/// Returns the line break that the document's end adds if the text has none.
 fn last_break(text: &str) -> &str {
     if text.ends_with('↵') || text.ends_with('¶') {
         ""
@@ -33,7 +33,7 @@ const NARROW: &str = "unicode on\nwidth 5";
 
 const ENDLESS: &str = "unicode on\nwidth -1";
 
-// A value has this text in a style. In a script a line feed is escaped; all else stands for itself.
+// A value has this text in a style. In a script a line feed is escaped; all other characters mean themselves.
 fn check_style(rt: &impl Abort, alloc: Global, value: &str, style: &str, text: &str) {
     let value = value.replace(alloc, '↵', "\\n").expect(rt, "no memory");
     let parts = [
@@ -52,14 +52,14 @@ fn check_style(rt: &impl Abort, alloc: Global, value: &str, style: &str, text: &
     check_script(rt, alloc, ENDLESS, row.as_str());
 }
 
-/// Returns a text up to the first `;`, that up to the second, and what follows it.
+/// Returns a text up to the first `;`, that up to the second, and the text after it.
 fn cut_twice<'a>(rt: &impl Abort, row: &'a str) -> (&'a str, &'a str, &'a str) {
     let (first, rest) = cut(rt, row);
     let (second, rest) = cut(rt, rest);
     (first, second, rest)
 }
 
-// What can't be plain is between single quotes.
+// A value that can't be plain is between single quotes.
 fn check_value(rt: &impl Abort, alloc: Global, row: &str) {
     let (value, single, texts) = cut_twice(rt, row);
     let (double, literal, folded) = cut_twice(rt, texts);

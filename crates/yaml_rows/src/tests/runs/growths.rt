@@ -6,7 +6,7 @@ use yaml_base::yaml_error_t;
 use yaml_test_allocator::Refusing;
 use yaml_tool::{run, run_answer_t};
 
-// A run in which a growth was refused, where this is what a whole run tells and writes.
+// A run in which a growth was refused; a whole run has this report and this output.
 fn check_refused(
     rt: &impl Abort,
     reported: run_answer_t,

@@ -33,7 +33,7 @@ pub(super) fn kind_of<A: Allocator>(event: &yaml_event_t<A>) -> Kind {
     }
 }
 
-/// Returns how many of the events given so far wait: those from the first one on that waits for what follows it. The head of
+/// Returns how many of the events given so far wait: those from the first one on that waits for later ones. The head of
 /// more events than three is ready, so only the last three are looked at.
 pub(super) fn held(given: &[Kind]) -> usize {
     for ready in given.len().saturating_sub(3)..given.len() {

@@ -171,7 +171,7 @@ const BEFORE: &str = r#"+STR any
 =VAL any 0 0 - "tag:e.com,2000:t" "x"
 =VAL any 1 1 - - ""#;
 
-/// Those up to the document's end, and what is written before the value.
+/// Those up to the document's end, and the text before the value.
 const BETWEEN: &str = r#""
 -SEQ
 -SEQ

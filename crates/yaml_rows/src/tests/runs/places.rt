@@ -1,4 +1,4 @@
-//! Each kind of event at each place: where it stands, and how it is refused where it doesn't.
+//! Each kind of event at each place: whether it is allowed there, and how it is refused if it isn't.
 use super::calls::check_calls;
 use super::growths::answered;
 use super::{Flushes, Row};
@@ -26,7 +26,7 @@ const KINDS: &[&str] = &[
 /// order, that may come there, and a `-` for each that may not; the error of those.
 type Place<'a> = (&'a str, &'a [usize], &'a str, yaml_error_t);
 
-// One that may not stand there is refused by the last event's call.
+// An event that isn't allowed there is refused by the last event's call.
 fn expected(script: &str, stands: bool, error: yaml_error_t) -> run_answer_t {
     if stands {
         return run_answer_t::Done;

@@ -1,4 +1,4 @@
-//! Scripts that end before their stream does: what is ready is written, and what waits is not.
+//! Scripts that end before their stream does: events that are ready are written, and those that wait are not.
 use super::calls::check_calls;
 use super::{Flushes, Row};
 use crate::tests::Rows;
@@ -7,7 +7,7 @@ use yaml_tool::run_answer_t;
 
 /// Each beginning of these is checked.
 pub(super) const SCRIPTS: Rows = &[
-    // A block waits for what follows its start.
+    // A block waits for the events after its start.
     (
         "",
         r#"
@@ -84,7 +84,7 @@ const FLUSHED: &[Flushed] = &[
         b"&a [[x]]\n",
         &[2, 9],
     ),
-    // A document that ends within a sequence: what was written before is flushed, and nothing else.
+    // A document that ends within a sequence: the text before the wrong event is flushed, and nothing else.
     (
         r#"+STR any
 +DOC 1 -
@@ -97,7 +97,7 @@ const FLUSHED: &[Flushed] = &[
         b"[a, b",
         &[],
     ),
-    // Three bytes where the limit is two.
+    // Three bytes with a limit of two.
     (
         r#"limit 2
 +STR any

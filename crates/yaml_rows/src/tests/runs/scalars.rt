@@ -121,7 +121,7 @@ pub(super) const ROOTS: Rows = &[
     ),
 ];
 
-/// Whole streams: three dots end one where a text keeps its last breaks.
+/// Whole streams: three dots end one whose text keeps its last breaks.
 pub(super) const STREAMS: Rows = &[(
     "",
     r#"

@@ -4,7 +4,7 @@ use crate::tests::{Rows, equal_at, joined};
 use std::alloc::Global;
 use std::process::Abort;
 
-/// Sequences are indented, or undented, as they are where nothing is set; by two columns and by four.
+/// Sequences are indented, or undented, as they are if nothing is set; by two columns and by four.
 const SETTINGS: &[&str] = &[
     "sequences indented",
     "sequences undented;",
@@ -154,7 +154,7 @@ fn sequences_are_indented_where_asked(rt: HostRuntime) {
     }
 }
 
-/// Texts in an indented sequence stand further in, unless it is canonical.
+/// Texts in an indented sequence are further in, unless it is canonical.
 pub(super) const ROOTS: Rows = &[
     (
         "width 5\nsequences indented",

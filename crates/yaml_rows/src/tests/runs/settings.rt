@@ -62,8 +62,8 @@ pub(super) const INDENTS: Rows = &[
     ),
 ];
 
-/// Thirty words of two letters. A space is folded where the column stands past the width: after 2 columns or more of the 3 that a
-/// word takes. A width up to twice the indent, and where none is set, is 80; an indent that is replaced counts as the one that
+/// Thirty words of two letters. A space is folded if the column is past the width: after 2 columns or more of the 3 that a
+/// word takes. A width up to twice the indent, or none, counts as 80; an indent that is replaced counts as the one that
 /// replaces it.
 pub(super) const WIDTHS: Rows = &[
     (

@@ -1,10 +1,10 @@
 //! Values of at most four characters out of space, LF, `a` and U+2028, in each style.
 //!
 //! A row holds a value, and its single-quoted, double-quoted, literal and folded text as a root with an indent of 2, quotes and
-//! header and all; nothing where the style can't hold it. `;` is between them. A row is a line, in which `↵` is LF and `¶` U+2028.
+//! header and all; nothing if the style can't hold it. `;` separates them. A row is a line, in which `↵` is LF and `¶` U+2028.
 //!
 //! Twelve by hand: between single quotes a run of breaks that begins with LF has it twice, and two spaces follow the run; a space
-//! beside a break lets no single quotes stand; between double quotes a break is `\n` or `\L`, and all else stands for itself.
+//! next to a break allows no single quotes; between double quotes a break is `\n` or `\L`, and all else is itself.
 //! The single quotes in Rust's escapes, with `L` for U+2028:
 //!   nothing    `''` and `""`
 //!   ` `        `' '` and `" "`
@@ -19,9 +19,9 @@
 //!   `a\na`     `'a\n\n  a'` and `"a\na"`
 //!   `a a`      `'a a'` and `"a a"`: its column is 2 or 3, and the width 5
 //!
-//! Twelve by hand as blocks: no value has a last space or a space before a break; the header has `2` where the value begins with a
-//! space or a break, and `-` where it ends in no break, nothing where it ends in one break after another character, else `+`; each
-//! line stands after two spaces; folded, a LF that begins a run between two lines is there twice, unless one of them begins
+//! Twelve by hand as blocks: no value has a last space or a space before a break; the header has `2` if the value begins with a
+//! space or a break, and `-` if it ends in no break, nothing if it ends in one break after another character, else `+`; each
+//! line begins with two spaces; folded, a LF that begins a run between two lines is there twice, unless one of them begins
 //! with a space. In Rust's escapes, with `L` for U+2028:
 //!   nothing    neither
 //!   ` `        neither: a last space

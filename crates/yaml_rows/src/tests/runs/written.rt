@@ -1,6 +1,6 @@
-//! Scripts with what they write, as texts of rows.
+//! Scripts with the text that they write, as texts of rows.
 //!
-//! A row is some lines of a script; an empty line stands between two rows. Behind ` |` a line has what becomes ready up to it, or
+//! A row is some lines of a script; an empty line separates two rows. After ` |` a line has the text that becomes ready up to it, or
 //! up to the flush after it. `↵` is LF, `␍` CR, `¶` U+2028, `␉` a tab, and `␠` a space at the end of a line.
 use super::{
     Flushes, Row, blanks, canonical, check_row, collections, documents, portable, prefixes,
@@ -10,7 +10,7 @@ use crate::tests::{Rows, joined, meant};
 use std::alloc::Global;
 use std::process::Abort;
 
-/// A script up to a line, and what is ready then.
+/// A script up to a line, and the text that is ready then.
 #[derive(Drop)]
 struct Beginning {
     script: String,
@@ -20,7 +20,7 @@ struct Beginning {
     flushes: Flushes,
 }
 
-fn begun(rt: &impl Abort, alloc: Global, settings: &str, flushes: Flushes) -> Beginning {
+fn new_beginning(rt: &impl Abort, alloc: Global, settings: &str, flushes: Flushes) -> Beginning {
     Beginning {
         script: joined(rt, alloc, &[settings]),
         output: String::new(alloc),
@@ -38,7 +38,7 @@ fn is_flushed(flushes: Flushes, line: &str) -> bool {
     matches!(flushes, Flushes::Each) || line.starts_with("-DOC") || line.starts_with("-STR")
 }
 
-// A line of a script, and what is then ready.
+// A line of a script, and the text that is then ready.
 fn add_line(rt: &impl Abort, beginning: &mut Beginning, line: &str, ready: &str) {
     if !beginning.script.is_empty() {
         push(rt, &mut beginning.script, "\n");
@@ -71,7 +71,7 @@ fn check(rt: &impl Abort, alloc: Global, beginning: &Beginning) {
 
 /// Checks a row, after these settings.
 pub(super) fn check_script(rt: &impl Abort, alloc: Global, settings: &str, row: &str) {
-    let mut whole = begun(rt, alloc, settings, Flushes::Last);
+    let mut whole = new_beginning(rt, alloc, settings, Flushes::Last);
     for line in row.lines() {
         add(rt, alloc, &mut whole, line);
     }
@@ -141,7 +141,7 @@ fn each_stream_is_written(rt: HostRuntime) {
 
 // Each beginning of a row is flushed as a whole.
 fn check_beginnings(rt: &impl Abort, alloc: Global, settings: &str, row: &str, flushes: Flushes) {
-    let mut beginning = begun(rt, alloc, settings, flushes);
+    let mut beginning = new_beginning(rt, alloc, settings, flushes);
     for line in row.lines() {
         add(rt, alloc, &mut beginning, line);
         check(rt, alloc, &beginning);

@@ -1,7 +1,7 @@
 //! Scalars after an indicator and after one another, with each line break.
 ghost use Rattle.yaml_pen.specs.Page.{IsReady};
 
-use super::{Layout, begun, begun_within, write_in};
+use super::{Layout, new_pen, new_pen_within, write_in};
 use crate::tests::pens::{check_flushed, cursor};
 use crate::tests::{equal, equal_at, write_indicator};
 use std::alloc::Global;
@@ -37,10 +37,10 @@ fn write_before(pen: &mut Pen<Global>, before: &Before) -> Result<(), yaml_error
     }
 }
 
-/// A scalar's style and value, and the column after it, where it is looked at; both flags of the cursor are then off.
+/// A scalar's style and value, and the column after it, if it is looked at; both flags of the cursor are then off.
 type Scalar<'a> = (yaml_scalar_style_t, &'a str, Option<i32>);
 
-/// Line breaks, and a layout; what stands before some scalars, these, and what is written.
+/// Line breaks, and a layout; the text before some scalars, these, and the text that is written.
 type Item<'a> = (yaml_break_t, &'a Layout, Before, &'a [Scalar<'a>], &'a str);
 
 fn write_scalars(rt: &impl Abort, pen: &mut Pen<Global>, layout: &Layout, scalars: &[Scalar])
@@ -57,7 +57,7 @@ fn write_scalars(rt: &impl Abort, pen: &mut Pen<Global>, layout: &Layout, scalar
 }
 
 fn check_item(rt: &impl Abort, alloc: Global, row: &Item) {
-    let mut pen = begun_within(rt, alloc, usize::MAX, row.0);
+    let mut pen = new_pen_within(rt, alloc, usize::MAX, row.0);
     let answer = write_before(&mut pen, &row.2);
     equal(rt, &answer, &Ok(()));
     write_scalars(rt, &mut pen, row.1, row.3);
@@ -80,7 +80,7 @@ const INDENTED: Layout = Layout {
 };
 
 const ITEMS: &[Item] = &[
-    // Block scalars stand at their indentation, and follow an indicator.
+    // Block scalars begin at their indentation, and follow an indicator.
     (
         YAML_LN_BREAK,
         &Layout {
@@ -102,7 +102,7 @@ const ITEMS: &[Item] = &[
         &[(YAML_LITERAL_SCALAR_STYLE, " a", None)],
         "- |2-\n   a",
     ),
-    // A space stands first where one is needed: before a text, and in flow also before one of nothing.
+    // A space comes first if one is needed: before a text, and in flow also before an empty one.
     (
         YAML_LN_BREAK,
         &INDENTED,
@@ -193,7 +193,7 @@ fn items_stand_after_their_indicator_at_their_indentation(rt: HostRuntime) {
 /// A value, at an indent, its header, and the open-ended state.
 type Header<'a> = (&'a str, i32, &'a str, i32);
 
-// The open-ended state; -1 where no setting indents so.
+// The open-ended state; -1 if no setting indents so.
 fn write_header(pen: &mut Pen<Global>, row: &Header) -> Result<i32, yaml_error_t>
     requires { IsReady pen.old }
     ensures { IsReady pen.new }
@@ -216,7 +216,7 @@ const HEADERS: &[Header] = &[
 #[test]
 fn hints_stand_alone(rt: HostRuntime) {
     for row in HEADERS {
-        let mut pen = begun(&rt, rt.alloc());
+        let mut pen = new_pen(&rt, rt.alloc());
         equal_at(&rt, row.0, &write_header(&mut pen, row), &Ok(row.3));
         check_flushed(&rt, &mut pen, row.2.as_bytes());
         drop(pen);

@@ -1,7 +1,7 @@
 //! Limits that cut a text, after which each writer is refused.
 ghost use Rattle.yaml_pen.specs.Page.{IsReady};
 
-use super::{Layout, begun_within, write_in};
+use super::{Layout, new_pen_within, write_in};
 use crate::tests::pens::check_flushed;
 use crate::tests::{equal, equal_at, same};
 use std::alloc::Global;
@@ -57,12 +57,12 @@ fn check_stopped(rt: &impl Abort, pen: &mut Pen<Global>, cut: &[u8])
     same(rt, pen.output(), cut);
 }
 
-/// A style, a value, and what is written.
+/// A style, a value, and the text that is written.
 type Text<'a> = (yaml_scalar_style_t, &'a str, &'a str);
 
 // With room for all the text is whole.
 fn check_limit(rt: &impl Abort, alloc: Global, limit: usize, row: &Text) {
-    let mut pen = begun_within(rt, alloc, limit, YAML_LN_BREAK);
+    let mut pen = new_pen_within(rt, alloc, limit, YAML_LN_BREAK);
     equal(rt, &write_in(&mut pen, NARROW, row.0, row.1), &Ok(0));
     match row.2.as_bytes().get(..limit) {
         Some(cut) if limit < row.2.len() => check_stopped(rt, &mut pen, cut),

@@ -1,5 +1,5 @@
 //! Roots whose style is chosen after their analysis, without tag and with both flags on.
-use super::{Layout, begun, write_in};
+use super::{Layout, new_pen, write_in};
 use crate::tests::pens::check_flushed;
 use crate::tests::{equal, equal_at, event_of, meant};
 use std::alloc::Global;
@@ -7,7 +7,7 @@ use std::process::Abort;
 use yaml_base::{YAML_SCALAR_EVENT, yaml_error_t, yaml_scalar_style_t};
 use yaml_scalar::{analyze_scalar, select_scalar_style};
 
-/// Returns the style that is chosen for a root where one is asked for.
+/// Returns the style that is chosen for a root for which one is asked.
 fn chosen(
     value: &str,
     asked: yaml_scalar_style_t,
@@ -31,7 +31,7 @@ fn check_value(
 ) {
     match chosen(value, asked, layout.unicode) {
         Ok(style) => {
-            let mut pen = begun(rt, alloc);
+            let mut pen = new_pen(rt, alloc);
             let answer = write_in(&mut pen, layout, style, value);
             let state = if text.contains('+') { 2 } else { 0 };
             equal_at(rt, value, &answer, &Ok(state));
@@ -57,8 +57,8 @@ fn check_root(rt: &impl Abort, alloc: Global, layout: &Layout, row: &str) {
 
 const NO_WIDTH: i32 = i32::MAX;
 
-/// Whether a line may be folded, whether unicode is on, and the width; scalars with the style that is asked for, each with what is
-/// written. The signs are those of the scripts' rows.
+/// Whether a line may be folded, whether unicode is on, and the width; scalars with the style that is asked for, each with the
+/// text that is written. The signs are those of the scripts' rows.
 type Roots<'a> = (bool, bool, i32, &'a str);
 
 const ROOTS: &[Roots] = &[

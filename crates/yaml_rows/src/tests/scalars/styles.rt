@@ -7,7 +7,7 @@ use yaml_base::{
 };
 use yaml_scalar::{analyze_scalar, select_scalar_style};
 
-/// A value, whether unicode and the line breaks of YAML 1.2 are on; whether it has several lines; what may hold it:
+/// A value, whether unicode and the line breaks of YAML 1.2 are on; whether it has several lines; the styles that it allows:
 /// plain in flow, plain in block, single quotes, a block.
 type Analysis<'a> = (&'a str, bool, bool, bool, bool, bool, bool, bool);
 
@@ -60,10 +60,10 @@ const FOLDED: yaml_scalar_style_t = YAML_FOLDED_SCALAR_STYLE;
 /// A style, and whether the bare tag `!` goes before it; or an error.
 type Choice = Result<(yaml_scalar_style_t, bool), yaml_error_t>;
 
-/// A value, the style asked for, its two flags; whether it stands in flow, is a simple key, and is canonical.
+/// A value, the style asked for, its two flags; whether it is in flow, is a simple key, and is canonical.
 type Asked<'a> = (&'a str, yaml_scalar_style_t, (bool, bool), bool, bool, bool);
 
-// `tagged` where the value has a tag.
+// `tagged` if the value has a tag.
 fn choice(asked: &Asked, tagged: bool) -> Choice {
     let (value, style, (plain, quoted), flow, key, canonical) = *asked;
     let data = analyze_scalar(value, false, false);
@@ -73,7 +73,7 @@ fn choice(asked: &Asked, tagged: bool) -> Choice {
     )
 }
 
-/// A row: what is asked for, whether the value has a tag, and the choice.
+/// A row: the style asked for, whether the value has a tag, and the choice.
 type Choosing<'a> = (Asked<'a>, bool, Choice);
 
 const CHOICES: &[Choosing] = &[

@@ -1,4 +1,4 @@
-//! Documents made of nodes: what they give back, and which numbers are refused.
+//! Documents made of nodes: their getters, and the numbers that are refused.
 use crate::tests::dumps::Given::{Mapping, Sequence};
 use crate::tests::dumps::{Given, VERSION, marked_document, nodes};
 use crate::tests::equal;
