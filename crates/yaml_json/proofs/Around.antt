@@ -7,7 +7,7 @@ use Rattle.yaml_json.specs.{Places.HasInText, declared.cuts.Cut.Cut}
 abbrev pub joined : List (List ℕ) → List ℕ
 joined texts = flat_map (λ (text : List ℕ). text) texts
 
--- what is left begins a text, and these come before
+-- The rest begins a text, and these precede it.
 pub record TextsBefore (text rest : List ℕ) : Type 0 where
   pub before : List (List ℕ)
   pub cut : before ++ texts_in rest ≡ texts_in text
@@ -26,7 +26,7 @@ none_before text =
       is_left = ap (λ (n : ℕ). drop n text) none;
     }
 
--- the texts of what is left, where it ends and another follows
+-- The texts of the rest, if it ends here and another follows.
 pub cut_here : (rest : List ℕ) (end : ℕ) → CutsAt rest end → texts_in rest ≡ take end rest ∷ texts_in (drop end rest)
 cut_here rest end cuts =
     ap texts_in (sym (append-nil rest)) ∙ cuts.cut [] ∙ ap (λ (t : List ℕ). take end rest ∷ texts_in t) (append-nil (drop end rest))

@@ -1,4 +1,4 @@
--- Where a text may be cut, at a byte of ASCII.
+-- A text may be cut at a byte of ASCII.
 use Rattle.std.proofs.Common.{◌≡◌, ℕ, ◌<◌, List, [], ◌∷◌, drop, get_or, length, inl, inr, sym, ap, ◌∙◌, arith}
 use Rattle.std.proofs.{lemmas.Bool.cases_lt, lemmas.Str.IsCharBoundary-after_ascii}
 use Rattle.std.proofs.lemmas.List.{drop_all, drop_more}

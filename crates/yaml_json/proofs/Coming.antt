@@ -138,7 +138,7 @@ module _ (depth : ℕ) (in_flow unique : Bool) (was : WriterState) (start : Opti
   complete_stopped first held place ahead before holds later error after stops =
       if_some first (λ text come. stops text was start come.left come.front come.follows come.whole come.sending)
 
-  -- nothing is taken of what comes next
+  -- Nothing is taken of the next text.
   pub comes_stopped : (first : Option (List ℕ)) (held : List ℕ) (place : Place) (ahead : Option (List ℕ)) (now : WriterState)
       (holds : Option (List ℕ)) (error : StreamError) → ((next : List ℕ) (left : List Token) → StopsPartAt depth unique next [] left error)
       → ((front part : List ℕ) → HasPlaceWithin depth front part error)

@@ -1,4 +1,4 @@
--- What a string holds, byte by byte and escape by escape.
+-- The content of a string (RFC 8259, section 7), run by run and escape by escape.
 use Rattle.std.proofs.Common.{◌≡◌, ℕ, zero, suc, ◌+◌, ◌-◌, ◌*◌, ◌<◌, ◌≤◌, Bool, true, false, not, inl, inr, cond, ◌||◌, ◌&&◌, ◌==◌, nat_lt, List, [], ◌∷◌, ◌++◌, take, drop, get_or}
 use Rattle.std.proofs.Common.{length, Option, Some, None, option_and_then, refl, subst, sym, ap, ◌∙◌, arith}
 use Rattle.std.proofs.lemmas.Bool.{true≢false, ne_eqb, or_parts}
@@ -20,7 +20,7 @@ none_in_nothing (after_high high) = refl
 pub none_at_end : (within : Within) (text : List ℕ) (from : ℕ) → length text ≤ from → content within (drop from text) ≡ None
 none_at_end within text from past = ap (content within) (drop_all from text past) ∙ none_in_nothing within
 
--- What is left of a text begins with the byte at its place.
+-- The rest of a text begins with the byte at its place.
 content_at : (within : Within) (text : List ℕ) (from : ℕ) → from < length text
     → content within (drop from text) ≡ content within (get_or text from 0 ∷ drop (from + 1) text)
 content_at within text from before_end = ap (content within) (drop_more text from 0 before_end)

@@ -1,4 +1,4 @@
--- Where a text of several ends.
+-- The end of a text of several.
 use Rattle.yaml_json.proofs.Common.{suc, zero, ℕ, ◌+◌, ◌<◌, ◌≤◌, Option, None, Some, drop, length, slice_index_or as get_or, take, List, [], ◌++◌, ◌∷◌}
 use Rattle.yaml_json.proofs.Common.{refl, ◌≡◌, length-append, length-drop, take-append-drop, length-take-le, take_all, append-nil, append_assoc, inl, inr, ap}
 use Rattle.yaml_json.proofs.Common.{subst, sym, ◌∙◌, arith, HasScanned, CutsAt, after_byte, texts_in, CutsFirstText}

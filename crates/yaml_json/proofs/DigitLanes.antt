@@ -33,7 +33,7 @@ no_digits_masked v long fits =
     ap (λ l. mask_l l % 2 ^ 64) (ap (map (top 7)) all ∙ map-map (top 7) (λ x. below 9 (bit_xor x 48)) v ∙ each_lane v fits)
     ∙ mask_l-mod (map is_no_digit v) 64 (omega (arith, length-map v is_no_digit))
 
--- where one of the first bytes is none, they hold the run of digits
+-- If one of the first bytes is no digit, the run of digits is within them.
 one_digit : (d : Bool) (m n k : ℕ) → 0 < cond (not d) 1 0 + 2 * m → (0 < m → n ≡ k) → cond (not (not d)) (1 + n) 0 ≡ cond d (1 + k) 0
 one_digit true m n k some same = ap (λ x. 1 + x) (same (omega (arith, some)))
 one_digit false m n k some same = refl

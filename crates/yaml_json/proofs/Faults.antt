@@ -24,7 +24,7 @@ use Rattle.yaml_json.proofs.Reaching.{is_placed, no_key_place}
 use Rattle.yaml_json.proofs.Spelling.{AllGood, AreSpelled, are_spelled, due_at, goes_on_at, good_back, good_front, json_ends, json_good, last_same}
 use Rattle.yaml_json.proofs.Spelling.{nothing_left, spelled, spelled_colon}
 
--- ---- where a lexeme begins
+-- ---- the beginning of a lexeme
 
 pub is_start : (text : List ℕ) (at : ℕ) → at ≤ length text → LeadsFrom between text (drop at text) → IsTrimmed (drop at text) → IsLexemeStart text at
 is_start text at within leads trimmed =
@@ -84,7 +84,7 @@ pub some_append : (front : List Token) (x : Token) (u : List Token) (json : Json
     → IsPrefix (front ++ x ∷ []) (json_tokens json)
 some_append front x u json is = record { rest = u; parts = append_assoc front (x ∷ []) u ∙ is }
 
--- ---- the reader where the writing stops
+-- ---- the reader when the writing stops
 
 -- of a text these tokens were read, and these are left, from this offset on
 pub record StandsHere (text : List ℕ) (taken left : List Token) (at : ℕ) : Type 0 where
@@ -148,7 +148,7 @@ module _ (allowed : Json → Type 0) (text : List ℕ) (taken left : List Token)
         ),
       )
 
-  -- the first token that is left can't stand there
+  -- The first token that is left isn't possible there.
   pub none_here : (ls : List Lexeme) → lex between rest ≡ ls → NoStringNext left
       → ((json : Json) → allowed json → taken ++ left ≡ json_tokens json → ⊥)
       → ((x : Token) (u : List Token) → left ≡ x ∷ u → (json : Json) → allowed json → IsPrefix (taken ++ x ∷ []) (json_tokens json) → ⊥)
@@ -206,7 +206,7 @@ module _ (text : List ℕ) (taken left : List Token) (last at : ℕ) (here : Sta
   nothing_there : length text ≤ last → lex between after_last ≡ []
   nothing_there all = ap (lex between) (drop_all last text all) ∙ lex-none between
 
-  -- what begins with a good lexeme was passed
+  -- Lexemes of which the first is good were passed.
   passes_good : (t : Token) (others : List Lexeme) → (t ≡ bad → ⊥) → lex between after_last ≡ token t ∷ others → PassesLexeme after_last (drop at text)
   passes_good t others good is =
       past.1 (less_than last (length text) (λ all. none_is t others (sym (nothing_there all) ∙ is)))

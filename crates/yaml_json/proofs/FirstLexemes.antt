@@ -1,4 +1,4 @@
--- Lexemes that are left, and their tokens: that there are some, and what the first of them is.
+-- Lexemes that are left, and their tokens: there are some, and the first of them is found.
 use Rattle.std.proofs.Common.{◌≡◌, ℕ, Bool, true, false, cond, ◌==◌, List, [], ◌∷◌, refl, sym, subst, ap, ◌∙◌}
 use Rattle.std.proofs.lemmas.Bool.{true≢false, false_from_ne_true}
 use Rattle.json.specs.Ascii as ascii
@@ -11,7 +11,7 @@ use Rattle.yaml_json.specs.{Ahead.IsTrimmed, Walk.NoStringNext}
 use Rattle.yaml_json.proofs.LexSteps.{each_operator}
 use Rattle.yaml_json.proofs.PunctuateSteps.{as_placed, put-end_array, put-end_object, put-string, put-word}
 
--- ---- what is left has a lexeme
+-- ---- the rest has a lexeme
 
 abbrev pub HasFirst : List Lexeme → Type 0
 HasFirst lexemes = (first : Lexeme) × ((others : List Lexeme) × (lexemes ≡ first ∷ others))
@@ -120,15 +120,15 @@ some_token after_value colon ls apart e = cc
 some_token after_comma colon ls apart e = cc
 some_token after_key colon ls apart e = absurd (apart refl)
 
--- so what is left has a token
+-- So the rest has a token.
 pub some_ahead : (p : Place) (t : List ℕ) → (p ≡ after_key → ⊥) → IsTrimmed t → (t ≡ [] → ⊥) → punctuate p (lex between t) ≡ [] → ⊥
 some_ahead p t apart trimmed some e =
     let found = some_lexeme t trimmed some in
     some_token p found.0 found.1.0 apart (sym (ap (punctuate p) found.1.1) ∙ e)
 
--- ---- what the first token is
+-- ---- the first token
 
--- from here on, whatever follows the lexeme, the first token is this
+-- The first token from here on is this, whatever follows the lexeme.
 pub record FirstIs (p : Place) (l : Lexeme) : Type 0 where
   pub token_is : Token
   pub rest_of : List Lexeme → List Token
@@ -206,7 +206,7 @@ bad_first t left e good = good cc
 none_first : (t : Token) (left : List Token) → [] ≡ t ∷ left → ⊥
 none_first t left e = cc
 
--- a string, by what follows
+-- A string, by the lexeme after it.
 pub record IsOfString (p : Place) (s : List ℕ) (ls : List Lexeme) (before_colon : Bool) : Type 0 where
   pub others : List Lexeme
   pub are : ls ≡ token (string s) ∷ others

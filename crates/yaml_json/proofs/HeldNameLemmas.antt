@@ -11,7 +11,7 @@ use Rattle.std.specs.declared.cmp.Ordering.{Ordering}
 use Rattle.yaml_json.specs.{HeldNames.AddsName, HeldNames.HasNames, HeldNames.HaveNames, Names.IsNewName, Names.outer_names}
 use Rattle.yaml_json.specs.declared.names.{Level.Level, Names.Names}
 
--- a name is new exactly where it is none of those
+-- A name is new if and only if it is none of those.
 pub new_among : (names : List (List ℕ)) (name : List ℕ) → list_any (bytes_eq name) names ≡ false → IsNewName names name
 new_among [] name none = tt
 new_among (other ∷ names) name none =
@@ -25,7 +25,7 @@ among_new (other ∷ names) name some new = elim (or_cases (bytes_eq name other)
   | inr later ↦ among_new names name later new.1
 ]
 
--- where none are kept, each is new
+-- If none are kept, each is new.
 pub adds_unkept : {A : Type 0} (names : List (List ℕ)) (levels : List (List (List ℕ))) (name : List ℕ) (held : Names A) → held.are_kept ≡ false
     → AddsName names levels name true held
 adds_unkept names levels name held none = ((λ kept. cc), (λ new kept. cc), (λ is. cc))
@@ -206,7 +206,7 @@ module _ {A : Type 0} (few : Keys) (levels : List (Level A)) (n : ℕ) (long : n
         inner.2,
       )
 
-  -- what `AddsName` says
+  -- The meaning of `AddsName`.
   abbrev Adds : Bool → Keys → List (Level A) → Type 0
   Adds new few_now levels_now =
       (kept ≡ true → HaveNames few_now levels_now ((key.now ∷ names) ∷ outer))

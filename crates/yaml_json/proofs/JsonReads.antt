@@ -1,4 +1,4 @@
--- What the reader of whole streams finds in the bytes of a stream of JSON values.
+-- The reader of whole streams, over the bytes of a stream of JSON values.
 use Rattle.yaml_json.proofs.Common.{ℕ, None, Some, Bool, true, List, [], map, ◌++◌, ◌∷◌, ◌≡◌, append-nil, append_assoc, ap, sym, ◌∙◌, list_all}
 use Rattle.yaml_json.proofs.Common.{Json, HasNumbers, node_tree, Event, Documents, no_documents, documents_and, has_scalar_texts, IsAccepted, Settings}
 use Rattle.yaml_json.proofs.Common.{Effective, directives_in_force, Tree, resolved_by_core, resolved_by_11, Schema}

@@ -65,7 +65,7 @@ module _ {A : Type 0} where
       kept_on so (closer kind) held later leaves.0 (λ also. (closer_names kind levels).0)
       (λ holds. subst (λ (names : Taken). HoldsNames names later) (sym (closer_names kind levels).1) (leaves.1 levels holds))
 
-  -- where a name is next, there is an object that has it
+  -- If a name is next, an object is open that takes it.
   some_level : (kinds outer : List CollectionKind) (kind : CollectionKind) (held : Names A) (levels : Taken) → kinds ≡ outer ++ kind ∷ []
       → length held.levels.items ≡ length kinds → HaveNames held.few.items held.levels.items levels → levels ≡ inner_names levels ∷ outer_names levels
   some_level kinds outer kind held [] is many have =
@@ -116,7 +116,7 @@ module _ {A : Type 0} where
       → unique ≡ true → NamesOnce [] so
   names_once unique kinds held so fits kept is = (kept (fits.0 ∙ is)).0
 
-  -- where the walk stands
+  -- The state of the walk.
   pub record NamesSoFar (start ahead : List Token) (held : Names A) : Type 0 where
     pub taken : List Token
     pub parts : taken ++ ahead ≡ start

@@ -15,13 +15,13 @@ or_elim false b f g e = g e
 pub value_is : (P : ℕ → Type 0) (x v : ℕ) → P v → (x == v) ≡ true → P x
 value_is P x v p e = subst P (sym (eqb-true x v e)) p
 
--- what holds of each blank
+-- A property of each blank.
 pub each_space : (P : ℕ → Type 0) → P 32 → P 9 → P 10 → P 13 → (x : ℕ) → is_space x ≡ true → P x
 each_space P a b c d x e =
     or_elim ((x == 32) || (x == 9) || (x == 10)) (x == 13)
     (or_elim ((x == 32) || (x == 9)) (x == 10) (or_elim (x == 32) (x == 9) (value_is P x 32 a) (value_is P x 9 b)) (value_is P x 10 c)) (value_is P x 13 d) e
 
--- what holds of each bracket, colon and comma
+-- A property of each bracket, colon and comma.
 pub each_operator : (P : ℕ → Type 0) → P 123 → P 125 → P 91 → P 93 → P 58 → P 44 → (x : ℕ) → is_operator x ≡ true → P x
 each_operator P a b c d f g x e =
     or_elim ((x == 123) || (x == 125) || (x == 91) || (x == 93) || (x == 58)) (x == 44)

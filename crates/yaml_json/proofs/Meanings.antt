@@ -1,4 +1,4 @@
--- What the tree of a JSON value means, wherever each scalar stands.
+-- The meaning of the tree of a JSON value, at every place of its scalars.
 use Rattle.yaml_json.proofs.Common.{Option, None, Bool, List, [], ◌++◌, ◌∷◌, ◌≡◌, append-nil, append_assoc, subst, sym, ◌∙◌, chars, Json, null, boolean, number}
 use Rattle.yaml_json.proofs.Common.{string, Items, array, Members, object, no_items, item, no_members, member, HasNumbers, node_tree, Text, scalar_node, Nodes}
 use Rattle.yaml_json.proofs.Common.{Pairs, no_nodes, nodes_and, no_pairs, pairs_and, Effective, Tree, text_content, collection_in, Schema}
@@ -13,7 +13,7 @@ use Rattle.yaml_json.specs.Means.{Means, ItemsMean, MembersMean}
 use Rattle.yaml_writer.proofs.ScalarMeanings.{ReadsScalars, flag_at, null_at, number_at, text_at, untagged}
 
 module _ (schema : Schema) (reads : ReadsScalars schema) (s : Effective) (directives : List TagDirective) (in_flow : Bool) where
-  -- trees that mean some items stand after others
+  -- Trees that mean some items, after other trees.
   abbrev ItemsAfter : Items → Nodes → (flow : Bool) → Type 0
   ItemsAfter items before flow =
       (trees : List Tree)

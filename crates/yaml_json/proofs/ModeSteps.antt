@@ -27,7 +27,7 @@ goes_nowhere mode text = record { passed = []; parts = refl; mode = refl }
 pub goes_by_one : (from : Mode) (x : ℕ) (xs : List ℕ) → GoesOver from (x ∷ xs) xs (mode_after from (class x))
 goes_by_one from x xs = record { passed = x ∷ []; parts = refl; mode = refl }
 
--- ---- from where a lexeme may begin
+-- ---- the modes from which a lexeme may begin
 
 pub leads_nowhere : (text : List ℕ) → Leads text text
 leads_nowhere text from may = (from, goes_nowhere from text, may)

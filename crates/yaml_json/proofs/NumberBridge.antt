@@ -1,4 +1,4 @@
--- What a reader of JSON takes for a number is one by the definition of numbers.
+-- A text that a reader of JSON takes for a number is one by the definition of numbers.
 use Rattle.yaml_json.proofs.Common.{ℕ, if◌then◌else◌, ◌==◌, option_and_then, Option, None, Some, codes, drop, length, take, Bool, cond, false, not, true, ◌&&◌}
 use Rattle.yaml_json.proofs.Common.{◌||◌, [], ◌++◌, ◌∷◌, refl, ◌≡◌, eqb-true, take-append-drop, append-nil, append_assoc, ap, sym, ◌∙◌, arith, and_parts, Text}
 use Rattle.yaml_json.proofs.Common.{and_from, not_from_false, false≢true, list_all, JsonNumber, minus, are_digits, number_in, IsNumber}
@@ -46,7 +46,7 @@ all_digits (c ∷ text) = ap (list_all is_decimal) (take_while-cons is_ascii_dig
     by true digit rest = and_from (is_decimal c) (list_all is_decimal (take_while is_ascii_digit text)) (same_digit c digit) rest
     by false other rest = refl
 
--- digits, one or more, and what follows them
+-- Digits, one or more, and the text after them.
 record Digits (text rest : Text) : Type 0 where
   digits : Text
   joined : text ≡ digits ++ rest

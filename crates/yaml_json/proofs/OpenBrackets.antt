@@ -26,7 +26,7 @@ closed_there deep (kind ∷ outer) depth after is all count none =
 
 -- ---- byte by byte
 
--- the bytes before this place lead here, and those from it on lead from here to where all lead
+-- The bytes before this place lead to this state, and those after it from this state to the last.
 pub record StandsBefore (bytes : List ℕ) (deep at : ℕ) (front : Front) : Type 0 where
   pub standing : StandingInJson
   pub is : IsFront deep standing front

@@ -68,7 +68,7 @@ word_cut d rest from at all none so = (
   subst (EndsWord (drop from d)) (drop_all at d all ∙ sym none) (so.1, ap ends_word (drop_all at d all)),
 )
 
--- ---- by what it begins with
+-- ---- by its first byte
 
 pub passes_string : (t after rest : List ℕ) → head t ≡ 34 → lex between after ≡ lex in_string (drop 1 t) → LeadsFrom in_string (drop 1 t) after
     → lex between rest ≡ lex between after → Leads after rest → IsTrimmed rest → PassesLexeme t rest

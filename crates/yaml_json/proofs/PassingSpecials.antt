@@ -32,7 +32,7 @@ passes text cut (suc n) inside has room each =
     (one_scanned text (record { scan = cut.scan; scanned = cut.scanned + n })
     (passes text cut n inside has (omega arith) (λ k low. each k (omega arith))) (omega arith) cut.scan stays)
 
--- so many of 32 bytes are scanned, and the bits that are left may stand for special bytes among the others
+-- So many of 32 bytes are scanned, and the bits that are left mark the other bytes that may be special.
 pub record Left (text : List ℕ) (from : ℕ) (scan : Scan) (left : ℕ) : Type 0 where
   pub count : ℕ
   pub within : count ≤ 32

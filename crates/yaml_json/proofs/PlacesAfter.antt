@@ -46,7 +46,7 @@ one_count : {X : Type 0} (p : X → Bool) (x : X) (b : Bool) → p x ≡ b → c
 one_count p x true e = ap (λ c. 0 + cond c 1 0) e
 one_count p x false e = ap (λ c. 0 + cond c 1 0) e
 
--- all do where none passes it
+-- All do if none passes it.
 module _ {X : Type 0} (p : X → Bool) where
   none_more : (x : X) (xs : List X) → (count_by p xs ≡ 0 → tail_of p xs ≡ length xs) → count_by p (x ∷ xs) ≡ 0 → (b : Bool) → p x ≡ b
       → tail_of p (x ∷ xs) ≡ length (x ∷ xs)
@@ -88,7 +88,7 @@ module _ {X : Type 0} (p : X → Bool) where
   some_pass [] all = refl
   some_pass (x ∷ xs) all = some_more x xs (some_pass xs) all (p x) refl
 
--- ---- what stands after the last that passes
+-- ---- the bytes after the last that passes
 
 module _ {X : Type 0} (p : X → Bool) (front xs : List X) where
   pub last_none : count_by p xs ≡ 0 → after_last p (front ++ xs) ≡ after_last p front ++ xs
@@ -180,7 +180,7 @@ areof_joined front part at line column one other first second so here within les
     let smaller = line_few [] front (length front) (whole_within front) in
     (omega (arith, lines, so.0, here.0, line_is, small, smaller, less), omega (arith, columns, here.1, column_is))
 
--- ---- what follows nothing, and what follows more
+-- ---- the place after all bytes, and after more
 
 pub after_all : (front bytes : List ℕ) (start after : Place) (line column : ℕ) → IsPlaceAfter front start
     → AreOf bytes (length bytes) line column

@@ -1,4 +1,4 @@
--- Where the writing is stopped, by why it is.
+-- The place at which the writing is stopped, by the reason.
 use Rattle.std.proofs.Common.{◌≡◌, ℕ, ◌≤◌, Bool, true, false, List, [], ◌∷◌, ◌++◌, drop, refl, sym, subst, ap, ◌∙◌, arith, inl, inr, append_assoc, append-nil}
 use Rattle.json.specs.{Json.Json, Strict.HasUniqueKeys}
 use Rattle.json.specs.Lex.{between, lex, tokens}

@@ -12,7 +12,7 @@ use Rattle.yaml_json.proofs.LexSteps.{each_operator}
 use Rattle.json.specs.Lex.{Lexeme, Place, after_comma, after_key, after_value, backslash, begins_colon, between, class, colon, comma, fresh, in_string, in_word}
 use Rattle.json.specs.Lex.{lex, lex_byte, may_begin, may_close, Mode, if_allowed, operator, other, place_token, punctuate, quote, space, string_token, token}
 
--- ---- what a text begins with
+-- ---- the first lexeme of a text
 
 begins_with : (t : List ℕ) (v : ℕ) → head t ≡ v → (32 ≡ v → ⊥) → t ≡ v ∷ drop 1 t
 begins_with [] v e apart = absurd (apart e)
@@ -58,7 +58,7 @@ unfolding lex
 lex-word [] e = absurd (space_apart e)
 lex-word (x ∷ xs) e = ap (λ c. lex_byte between c x xs (λ next. lex next xs)) e
 
--- ---- a token where it may stand
+-- ---- a token at a place that allows it
 
 pub put-begin_object : (p : Place) (ls : List Lexeme) → may_begin p ≡ true → punctuate p (token begin_object ∷ ls) ≡ begin_object ∷ punctuate fresh ls
 unfolding punctuate
@@ -166,7 +166,7 @@ put-word p w ls i n e = as_placed p w ls ∙ put-good (begins_colon ls) p w (λ 
 pub put-bad : (p : Place) (ls : List Lexeme) → punctuate p (token bad ∷ ls) ≡ bad ∷ []
 put-bad p ls = as_placed p bad ls
 
--- ---- what can't stand
+-- ---- lexemes that no place allows
 
 pub stray-comma : (p : Place) (ls : List Lexeme) → may_begin p ≡ true → punctuate p (comma ∷ ls) ≡ bad ∷ []
 unfolding punctuate
@@ -235,7 +235,7 @@ late_byte false false x xs k = late_token (word (x ∷ xs)) (k in_word) (word_no
 some_apart : (x : ℕ) (xs : List ℕ) → (x ∷ xs) ≡ [] → ⊥
 some_apart x xs e = cc
 
--- behind a value nothing stands but a comma and what closes
+-- Nothing may follow a value but a comma and a bracket that closes.
 pub stray-behind : (t : List ℕ) → IsTrimmed t → (t ≡ [] → ⊥) → (head t ≡ 44 → ⊥) → (head t ≡ 125 → ⊥) → (head t ≡ 93 → ⊥)
     → punctuate after_value (lex between t) ≡ bad ∷ []
 unfolding lex punctuate

@@ -10,7 +10,7 @@ use Rattle.yaml_json.specs.Reached.{HasReadTokens, HaveTokens, IsReader, LastRea
 use Rattle.yaml_json.specs.declared.tokens.Stage.TheVariants.{Open, Behind, Owed, Over}
 use Rattle.yaml_json.proofs.FirstLexemes.{some_after_comma, some_ahead}
 
--- ---- what is left is the text's end
+-- ---- the rest is the text's end
 
 drop_front : (front rest : List ℕ) → drop (length front) (front ++ rest) ≡ rest
 drop_front [] rest = refl
@@ -26,7 +26,7 @@ pub left_is : (text taken_rest : List ℕ) (taken : List Token) (stage : Stage) 
     → last_bytes text (length taken_rest) ≡ taken_rest
 left_is text rest taken stage has = last_is text has.leads.1.passed rest has.leads.1.parts
 
--- ---- from where a reader reads
+-- ---- the place from which a reader reads
 
 pub placed : (text : List ℕ) (taken : List Token) (stage : Stage) (rest : List ℕ) → (stage ≡ Over → ⊥) → HaveTokens text taken (place_of stage) rest
     → Passed text taken stage rest

@@ -26,7 +26,7 @@ use Rattle.yaml_json.specs.declared.values.Stop.TheVariants as stops
 read_again : (json : Json) (deep : ℕ) → nesting json ≤ deep → value deep (json_tokens json) ≡ Some (json, [])
 read_again json deep fits = ap (value deep) (sym (append-nil (json_tokens json))) ∙ value-json_tokens json deep [] fits
 
--- it isn't where nothing is read
+-- It isn't if nothing is read.
 unread : (json : Json) (deep : ℕ) (all : List Token) → nesting json ≤ deep → json_tokens json ≡ all → skip_value deep all ≡ None → ⊥
 unread json deep all fits is none =
     let found : Some [] ≡ None = sym (ap left (ap (value deep) (sym is) ∙ read_again json deep fits)) ∙ none in cc
@@ -45,7 +45,7 @@ module _ (depth : ℕ) (taken : List Token) where
       let deep = max depth (nesting json) in
       unread json deep (taken ++ []) (le-max_right depth (nesting json)) (is ∙ sym (append-nil taken)) (dead deep (le-max_left depth (nesting json)))
 
--- ---- where a value is next
+-- ---- a value is next
 
 nothing_begins : (depth : ℕ) (taken : List Token) (levels : List CollectionKind) (ahead : List Token) → Awaits depth taken levels ahead
     → skip_value (depth - length levels) ahead ≡ None → skip_value depth (taken ++ ahead) ≡ None
@@ -135,7 +135,7 @@ first_refused depth unique taken levels [] stops.Memory place once isn't = tt
 first_refused depth unique taken levels [] stops.Failed place once isn't = tt
 first_refused depth unique taken levels (token ∷ after) stop place once isn't = token_refused depth unique taken levels token after stop place once isn't
 
--- ---- where a key is next
+-- ---- a key is next
 
 no_key : (depth : ℕ) (taken : List Token) (levels outer : List CollectionKind) (ahead : List Token)
     → levels ≡ outer ++ Mapping ∷ [] → LeavesOpen depth taken levels → read_key ahead ≡ None → (deep : ℕ) → depth ≤ deep
@@ -194,7 +194,7 @@ name_refused depth unique taken levels outer name after is stands wanted once ag
           (once_first [] (taken ++ Token.key name ∷ []) begins.rest (subst (NamesOnce []) (sym begins.parts) (unique_is_once json [] unique)))).0;
     }
 
--- ---- what could stand there
+-- ---- tokens that are possible there
 
 -- a scalar could
 scalar_stands : (depth : ℕ) (taken : List Token) (levels : List CollectionKind) (token : Token) → IsScalar token → Awaiting depth taken levels (token ∷ [])
@@ -218,7 +218,7 @@ opener_next : (kind : CollectionKind) (token : Token) (after : List Token) → t
 opener_next Sequence token after is = subst (λ (t : Token). NoStringNext (t ∷ after)) (sym is) tt
 opener_next Mapping token after is = subst (λ (t : Token). NoStringNext (t ∷ after)) (sym is) tt
 
--- where a value is next
+-- A value is next.
 module _ (depth : ℕ) (unique : Bool) (taken : List Token) (levels : List CollectionKind)
     (awaits : (token : Token) → IsScalar token → Awaiting depth taken levels (token ∷ [])) (once : unique ≡ true → NamesOnce [] taken) where
   goes_on_here : GoesOn depth unique taken
@@ -283,7 +283,7 @@ new_name names = zeros (suc (all_lengths names))
 new_is_new : (names : List (List ℕ)) → IsNewName names (new_name names)
 new_is_new names = let size = zeros_length (suc (all_lengths names)) in longer_is_new names (new_name names) (omega (arith, size))
 
--- where a key is next
+-- A key is next.
 module _ (depth : ℕ) (unique : Bool) (taken : List Token) (levels outer : List CollectionKind) (is : levels ≡ outer ++ Mapping ∷ [])
     (stands : LeavesOpen depth taken levels) (once : unique ≡ true → NamesOnce [] taken) where
   pub member_goes_on : GoesOn depth unique taken
@@ -339,9 +339,9 @@ value_names depth unique before after json read once is =
     subst (NamesOnce [])
     (append_cancel_right found.0 (json_tokens json) after (found.1 ∙ value-json_tokens_back depth before after json read)) found.2
 
--- ---- what is said
+-- ---- the meaning of the error
 
--- what breaks off, or nests too deep, is no value nested at most `depth` deep
+-- Tokens that break off, or nest too deep, are no value nested at most `depth` deep.
 broken_is_none : (depth : ℕ) (unique : Bool) (all : List Token) → TokensBreakOff depth unique all → (json : Json) → value depth all ≡ Some (json, []) → ⊥
 broken_is_none depth unique all broken json read =
     goes_on broken.left (broken.parts ∙ value-json_tokens_back depth all [] json read ∙ append-nil (json_tokens json)) broken.breaks where

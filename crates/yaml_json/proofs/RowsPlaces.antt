@@ -1,4 +1,4 @@
--- Where lexemes begin, computed on small texts.
+-- The places at which lexemes begin, computed on small texts.
 use Rattle.std.specs.Prelude.{codes}
 use Rattle.yaml_json.proofs.Common.{◌≡◌, ℕ, ◌++◌, List, [], ◌∷◌, drop, take, refl, inl, inr}
 use Rattle.json.specs.Lex.{Lexeme, between, colon, comma, lex, token}
@@ -16,7 +16,7 @@ colon_row : Begins (codes "[\"a\" :1]") 5 (token begin_array ∷ token (string (
 unfolding lex word after_number content
 colon_row = (refl, inr tt)
 
--- what closes too early
+-- Brackets that close too early.
 closer_row : Begins (codes "[1, ]") 4 (token begin_array ∷ token (number (49 ∷ [])) ∷ comma ∷ [])
 unfolding lex word after_number content
 closer_row = (refl, inr tt)

@@ -35,7 +35,7 @@ sending_begins depth in_flow unique text was held bare =
       whole = inl (refl, refl);
     }
 
--- what is ahead is this
+-- The bytes ahead are these.
 pub sending_same : (depth : ℕ) (in_flow unique : Bool) (text : List ℕ) (was : WriterState) (start : Option (List ℕ)) (rest same : List ℕ)
     (now : WriterState) (held : Option (List ℕ)) → rest ≡ same → SentSoFar depth in_flow unique text was start rest now held
     → SentSoFar depth in_flow unique text was start same now held
@@ -66,7 +66,7 @@ none_unsent (faults.WriteFailed error) = refl
 pub placed_nowhere : (depth : ℕ) (code : yaml_error_t) (front part : List ℕ) → HasPlaceWithin depth front part (faults.Refused (errors.Emitter code))
 placed_nowhere depth code front part = (0, ((λ less. tt), tt))
 
--- what was sent, where no more is offered
+-- The bytes that were sent, if no more are offered.
 module _ (in_flow : Bool) (parts : List (List ℕ × Json)) (was : WriterState) (start : Option (List ℕ)) (handed : List ℕ) (then : State)
     (wrote : AddsTaking was.emitter (events_with_separators was.canonical in_flow parts) handed then) where
   taken_so : AddsTaking was.emitter (events_with_separators was.canonical in_flow parts) (handed ++ []) then

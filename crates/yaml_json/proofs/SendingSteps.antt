@@ -1,4 +1,4 @@
--- What stops the sending of texts that come part by part, and what one of them adds.
+-- The reasons that stop the sending of texts that come part by part, and the events that one of them adds.
 use Rattle.yaml_json.proofs.Sending.{sending_same, placed_nowhere, documents_so, sending_goes_on, sending_fails, sending_unbegun}
 use Rattle.yaml_json.proofs.Common.{ℕ, ◌+◌, ◌-◌, ◌≤◌, flat_map, Option, drop, length, take, Bool, true, List, [], map, ◌++◌, ◌∷◌, refl, ◌≡◌, length-drop}
 use Rattle.yaml_json.proofs.Common.{take-append-drop, append-nil, append_assoc, inr, ap, subst, sym, ◌∙◌, arith, Event, Token, tokens, HasScanned, CutsAt}
@@ -18,7 +18,7 @@ use Rattle.yaml_json.specs.declared.error.StreamError.TheVariants as faults
 
 -- ---- errors
 
--- nothing is taken of a text where the reader fails
+-- If the reader fails, nothing is taken of a text.
 pub stops_by_reader : (depth : ℕ) (unique : Bool) (next : List ℕ) (left : List Token) (error : StreamError) → IsByReader error
     → StopsPartAt depth unique next [] left error
 stops_by_reader depth unique next left (faults.Refused error) is =
@@ -89,7 +89,7 @@ module _ (depth : ℕ) (in_flow unique : Bool) (text : List ℕ) (was : WriterSt
         documents = documents_so in_flow sending.parts was start sending.handed now.emitter sending.wrote.adds error held sending.sends sending.whole;
       }
 
--- ---- what is left of some bytes
+-- ---- the rest of some bytes
 
 pub whole_suffix : (held rest : List ℕ) → rest ≡ held → (length rest ≤ length held) × (drop (length held - length rest) held ≡ rest)
 whole_suffix held rest is =
@@ -116,7 +116,7 @@ left_scanned slice held now count cut same is kept keeps leaves =
 pub left_within : (slice held : List ℕ) (count : ℕ) (cut : Cut) → slice ≡ held → LeavesLast count slice cut → count ≤ length held
 left_within slice held count cut is leaves = (subst (λ (t : List ℕ). LeavesLast count t cut) is leaves).within
 
--- ---- what came, text by text
+-- ---- the input that came, text by text
 
 module _ (depth : ℕ) (in_flow unique : Bool) (ahead : List ℕ) (before : WriterState) (held : Option (List ℕ)) where
   pub advances_none : (same : List ℕ) → same ≡ ahead → Advances depth in_flow unique ahead before held same before held

@@ -1,4 +1,4 @@
--- What a sink was given of some texts, and why one of them stops the sending.
+-- The bytes of some texts that a sink was given, and why one of them stops the sending.
 use Rattle.yaml_json.proofs.Common.{ℕ, Option, Bool, List, [], ◌++◌, ◌∷◌, refl, ◌≡◌, append-nil, ap, subst, sym, ◌∙◌, inl, flat_map-append, Appends, Json}
 use Rattle.yaml_json.proofs.Common.{Event, Token, between, events_with_separators, json_events, WriterState}
 use Rattle.std.specs.Prelude.{IsUtf8}
@@ -7,7 +7,7 @@ use Rattle.yaml_json.specs.{Places.HasPlaceWithin, declared.error.StreamError.St
 use Rattle.yaml_json.specs.Sent.{GivesSink, StopsInPart, StopsPartAt}
 use Rattle.yaml_json.specs.declared.error.StreamError.TheVariants as faults
 
--- whichever error there is, where all bytes were given
+-- All bytes were given, whichever error there is.
 pub gives_all : (error : StreamError) (before after : Option (List ℕ)) (bytes : List ℕ) → Appends before after bytes
     → GivesSink error before after bytes []
 gives_all (faults.Refused error) before after bytes appends = (refl, appends)

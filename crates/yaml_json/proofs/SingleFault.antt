@@ -19,7 +19,7 @@ either_prefix {A} (x ∷ a) b (y ∷ c) d is = one_more (either_prefix a b c d (
   one_more (inl (r, one, other)) = inl (r, ap₂ (λ (e : A) (l : List A). e ∷ l) (sym first) one, other)
   one_more (inr (r, one, other)) = inr (r, ap₂ (λ (e : A) (l : List A). e ∷ l) first one, other)
 
--- what begins with a list begins with its prefixes
+-- A list that begins with another begins with the prefixes of that.
 begins_too : (prefix r taken all : List Token) → taken ≡ prefix ++ r → IsPrefix taken all → IsPrefix prefix all
 begins_too prefix r taken all is begins = prefix_then (record { rest = r; parts = sym is }) begins
 

@@ -121,7 +121,7 @@ abbrev separated : (due : Bool) → List Lexeme → List Lexeme
 separated true lexemes = comma ∷ lexemes
 separated false lexemes = lexemes
 
--- where a comma is due, it stands before what isn't the end of a collection
+-- If a comma is due, it precedes each lexeme but the end of a collection.
 abbrev pub spelled : (due : Bool) → List Token → List Lexeme
 spelled due [] = []
 spelled due (begin_object ∷ ts) = separated due (token begin_object ∷ spelled false ts)
@@ -155,7 +155,7 @@ spelled_colon due (bad ∷ ts) = refl
 abbrev pub AreSpelled : List Token → Type 0
 AreSpelled ts = (punctuate fresh (spelled false ts) ≡ ts) × (punctuate after_value (spelled true ts) ≡ ts)
 
--- what begins a value or is a name
+-- Lexemes that begin a value or are a name.
 pub begun_so : (p : Place) → may_begin p ≡ true → (t : Token) → IsBeginner t → (ts : List Token) → AreSpelled ts
     → punctuate p (spelled false (t ∷ ts)) ≡ t ∷ ts
 begun_so p may begin_object is ts so = put-begin_object p (spelled false ts) may ∙ ap (λ (l : List Token). begin_object ∷ l) so.0

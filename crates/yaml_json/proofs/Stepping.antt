@@ -1,4 +1,4 @@
--- A token and what it leaves, from what its parts are.
+-- A token and the text that it leaves, by its parts.
 use Rattle.std.proofs.Common.{◌≡◌, ℕ, ◌+◌, ◌-◌, ◌<◌, Bool, true, false, ◌⊎◌, inl, inr, List, [], ◌∷◌, ◌++◌, take, drop, get_or, length, Some, None, refl, sym}
 use Rattle.std.proofs.Common.{subst, ap, ◌∙◌, arith}
 use Rattle.std.proofs.lemmas.Bool.{true≢false, false_from_ne_true}
@@ -71,7 +71,7 @@ key_step s after rest step same colon_first opens = record {
   tidy = opens.tidy;
 }
 
--- what follows no colon
+-- Lexemes begin with no colon if their text begins with none.
 no_colon_more : (rest : List ℕ) (more : List Lexeme) → IsTrimmed rest → (head rest ≡ 58 → ⊥) → FollowsAs more rest → begins_colon more ≡ false
 no_colon_more rest more trimmed apart follows =
     false_from_ne_true (begins_colon more) (λ e. true≢false (sym (follows e) ∙ no_colon rest trimmed apart))
@@ -191,13 +191,13 @@ unclosed_array : (t : List ℕ) → head t ≡ 93 → punctuate after_comma (lex
 unfolding punctuate
 unclosed_array t e = ap (punctuate after_comma) (lex-end_array t e)
 
--- a bad token from the place where the text stands
+-- A bad token from the place of the text.
 pub bad_here : (stage : Stage) (text : List ℕ) (step : Step) → ahead stage text ≡ bad ∷ [] → token_of step.token ≡ bad → step.stage ≡ Over
     → IsTidy step.stage step.rest.now → ReadsFirst stage text step
 bad_here stage text step is token_is over tidy =
     record { first = is ∙ sym (over_is step token_is over); passes = inl (over, token_is); tidy = tidy }
 
--- a step from the place where the text stands
+-- A step from the place of the text.
 pub closed_here : (stage : Stage) (text : List ℕ) (step : Step) → closes_here stage ≡ true → StepsFrom may_close (lex between text) step
     → ReadsFirst stage text step
 closed_here Open text step e steps = record { first = steps.first fresh refl; passes = steps.passes fresh refl; tidy = steps.tidy }
@@ -227,7 +227,7 @@ may_not_begin Behind text some e tidy more a b = stray-behind text tidy.trimmed 
 may_not_begin Owed text some e tidy more a b = absurd (true≢false e)
 may_not_begin Over text some e tidy more a b = absurd (some refl)
 
--- ---- what is read can be written
+-- ---- tokens that are read can be written
 
 printable_ahead : (stage : Stage) (rest : List ℕ) → ArePrintableOrBad (ahead stage rest)
 printable_ahead Open rest = ArePrintableOrBad-tokens_at Fresh rest

@@ -1,4 +1,4 @@
--- What a writer was given when it failed.
+-- The events that a writer was given when it failed.
 use Rattle.yaml_json.proofs.Common.{IfSome, IfErr, OnOk, Option, None, Some, Result, Ok, Err, List, [], ◌++◌, ◌∷◌, ◌⊎◌, ◌≡◌, inl, inr, subst, sym, ◌∙◌, Event}
 use Rattle.yaml_json.proofs.Common.{unwrap_or, some_from_result, failure_of, emitter_error_of, RefusesText, Token, refl, ap, State, FailedWith, FailedGiving}
 use Rattle.yaml_json.specs.{Failing.FailedAtEnd, Failing.IsWritersAnswer, Failing.Kept, Failing.SoundAfter, Failing.TellsOf, Refused.IsByText}
@@ -12,12 +12,12 @@ use Rattle.yaml_base.specs.declared.kinds.CollectionKind.{CollectionKind}
 use Rattle.yaml_writer.specs.Writing.{Failed}
 use Rattle.yaml_writer.proofs.Taken.{moves_add}
 
--- what follows of a value, where there is one
+-- A consequence for a value, if there is one.
 pub if_some : {A : Type 0} {P Q : A → Type 0} (found : Option A) → ((value : A) → P value → Q value) → IfSome found P → IfSome found Q
 if_some None follows held = tt
 if_some (Some value) follows held = follows value held
 
--- what holds of each value
+-- A property of each value.
 whatever : {A : Type 0} {P : A → Type 0} (found : Option A) → ((value : A) → P value) → IfSome found P
 whatever None held = tt
 whatever (Some value) held = held value
@@ -44,7 +44,7 @@ never_by_text error stops.Failed tells by_text = by_text
 abbrev CodeOf : WriterState → yaml_error_t → Type 0
 CodeOf now error = (error ≡ Memory) ⊎ (now.emitter.error ≡ Some error)
 
--- what holds where a call succeeds, that it doesn't refuse the text, and what holds of its error
+-- A call by its answer: if it succeeds, this holds; it doesn't refuse the text; and of its error, that holds.
 answered : (P : Type 0) (Q : yaml_error_t → Type 0) (now : WriterState) (answer : Result (Unit {0}) yaml_error_t) (result : Result (Unit {0}) Stop)
     → IsWritersAnswer answer result → OnOk answer P → IfErr answer (λ error. CodeOf now error × Q error)
     → OnOk result P × (RefusesText result → ⊥) × IfSome (emitter_error_of now result) Q
@@ -111,7 +111,7 @@ start_failed kind before after event same error is (inl gave) = inr (record {
 })
 start_failed kind before after event same error is (inr memory) = inl memory
 
--- ---- what was written before
+-- ---- earlier output
 
 not_both : (answer : Result (Unit {0}) yaml_error_t) (done : Unit {0}) (error : yaml_error_t) → answer ≡ Ok done → answer ≡ Err error → ⊥
 not_both answer done error ok failed = cc

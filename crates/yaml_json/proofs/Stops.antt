@@ -22,7 +22,7 @@ unread_memory ahead now stops.NameAgain none = tt
 unread_memory ahead now stops.Memory none = refl
 unread_memory ahead now stops.Failed none = absurd none
 
--- what is refused within a value
+-- Tokens that are refused within a value.
 spot_inside : (token : Token) → StopsInside (stops.NotJson (spot_of token))
 spot_inside Token.begin_object = tt
 spot_inside Token.end_object = tt
@@ -50,7 +50,7 @@ inside_first depth levels [] stops.Memory refuses = tt
 inside_first depth levels [] stops.Failed refuses = tt
 inside_first depth levels (token ∷ after) stop refuses = inside_token depth levels token stop refuses
 
--- where it isn't whole, all is left
+-- If it isn't whole, all is left.
 pub all_left : (stop : Stop) (taken left : List Token) → StopsInside stop → WereLeft stop taken left left
 all_left (stops.NotJson At) taken left inside = refl
 all_left (stops.NotJson PastString) taken left inside = refl
@@ -89,7 +89,7 @@ adds_none in_flow levels before now same was so stood =
 
 module _ {A : Type 0} (depth : ℕ) (unique in_flow : Bool) (levels outer : List CollectionKind) (held : Names A) (fits : FitsNames unique levels held)
     (ahead : List Token) (before now : WriterState) where
-  -- where nothing was given
+  -- Nothing was given.
   module _ (same : now ≡ before) (last : List Token) (were : last ≡ ahead) where
     at_once : (left : List Token) → ahead ≡ left → (stop : Stop) → StopsInside stop
         → ((so : List Token) → LeavesOpen depth so levels → KeepsNames so held
@@ -152,7 +152,7 @@ module _ {A : Type 0} (depth : ℕ) (unique in_flow : Bool) (levels outer : List
             (member_goes_on depth unique so levels outer is stands (names_once unique levels held so fits kept), other),
           ))
 
-      -- a string stands where a name is next
+      -- There is a string, but a name is next.
       pub string_stopped : (text : List ℕ) (after : List Token) → ahead ≡ Token.string text ∷ after
           → Refuses depth unique in_flow levels held ahead last before (stops.NotJson PastString) now
       string_stopped text after first =
@@ -194,7 +194,7 @@ module _ {A : Type 0} (depth : ℕ) (unique in_flow : Bool) (levels outer : List
     unread kind is stops.Memory none by_text = absurd by_text
     unread kind is stops.Failed none by_text = absurd none
 
-  -- what follows a name is refused
+  -- The token after a name is refused.
   module _ (is : levels ≡ outer ++ Mapping ∷ []) (name : List ℕ) (inner : List Token) (first : ahead ≡ Token.key name ∷ inner) (later : Names A)
       (kept_same : later.are_kept ≡ held.are_kept) (new : Bool)
       (adds : (names : List (List ℕ)) → (more : List (List (List ℕ))) → HoldsNames (names ∷ more) held → AddsName names more name new later)

@@ -1,4 +1,4 @@
--- What the writer was given while the tokens of a value are walked over.
+-- The events that the writer was given in the walk over the tokens of a value.
 use Rattle.yaml_json.proofs.Common.{ℕ, ◌-◌, ◌<◌, length, take, Bool, List, [], ◌++◌, ◌∷◌, refl, ◌≡◌, append-nil, append_assoc, inl, inr, ap, subst, sym, ◌∙◌}
 use Rattle.yaml_json.proofs.Common.{arith, Token, Event, BeginsWithinDepth, FailedWith, FailedGiving, token_events, tokens_events, LeavesOpen, IsScalar, opener}
 use Rattle.yaml_json.proofs.Common.{closer, BeganValue, BeginFailed, BeganFirstValue, FirstFailed, IsBare, WroteEvent, start_event, IfSome, failure_of}
@@ -210,7 +210,7 @@ step_without_memory depth in_flow ahead levels before now same =
       begins = λ so stands. subst (BeginsWithinDepth depth) (sym (append-nil so)) (value_begins depth so levels stands);
     }
 
--- what failed at the first token, or before it
+-- A failure at the first token, or before it.
 step_at_first : (depth : ℕ) (in_flow : Bool) (ahead : List Token) (levels : List CollectionKind) (before : WriterState) (token : Token)
     (after : List Token) (error : yaml_error_t) (now : WriterState) → ahead ≡ token ∷ after → FailsGiving in_flow levels before (token ∷ []) error now
     → ((so : List Token) → LeavesOpen depth so levels → BeginsWithinDepth depth (so ++ token ∷ [])) → StepFailed depth in_flow ahead levels before error now

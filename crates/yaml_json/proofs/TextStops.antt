@@ -1,4 +1,4 @@
--- What an error says of a text, and of the writer that was given its first tokens.
+-- The meaning of an error for a text, and for the writer that was given its first tokens.
 use Rattle.yaml_json.proofs.Common.{ℕ, IfSome, Option, None, Some, Err, Bool, List, ◌≡◌, refl, inl, inr, subst, sym, unwrap_or, failure_of, FailedInText, ap}
 use Rattle.yaml_json.proofs.Common.{◌∙◌, ◌++◌, ◌⊎◌, WriterState, Token, ExplainsError, WhyStopped, ◌+◌, ◌≤◌, [], arith, length}
 use Rattle.yaml_base.specs.declared.errors.{yaml_error_t.yaml_error_t, yaml_error_t.TheVariants.Memory}
@@ -49,7 +49,7 @@ module _ (depth : ℕ) (unique in_flow : Bool) (text : List ℕ) (was now : Writ
   stopped_by_writer code returned failed =
       record { taken = failed.0; left = failed.1.0.left; split = failed.1.0.parts; why = failed.1.1; adds = failed.1.0.gave.adds }
 
-  -- an error says what the stop does
+  -- An error has the same meaning as the stop.
   pub text_stopped : (stop : Stop) (error : JsonError) → MatchesStop text stop error
       → (IsByText stop → StopsText depth unique in_flow text was stop now)
       → IfSome (failure_of now stop) (λ code. FailedInText depth in_flow text was code now) → StopsInText depth unique in_flow text was error now
@@ -136,7 +136,7 @@ pub said_as : (was now : WriterState) (stop : Stop) (found : Option yaml_error_t
     → HasErrorSaid was found now
 said_as was now stop found is kept = subst (λ (f : Option yaml_error_t). HasErrorSaid was f now) (sym is) (said_by was now stop kept.sound)
 
--- the error is where the stop is
+-- The error is at the place of the stop.
 pub placed_as : (depth : ℕ) (part text : List ℕ) (at : ℕ) (stop : Stop) (error : JsonError) → MatchesStop part stop error
     → (IsByText stop → StopsAtLexeme depth text at stop) → SaysExpected text at error → IsPlacedAt depth text at error
 placed_as depth part text at (stops.NotJson spot) (errors.NotJson line column says) same placed expects = (placed tt, expects)

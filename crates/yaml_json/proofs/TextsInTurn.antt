@@ -54,7 +54,7 @@ pub more_names : (unique : Bool) (parts : List (List ℕ × Json)) (last : List 
 more_names unique [] last names more = (more, tt)
 more_names unique (part ∷ parts) last names more = (names.0, more_names unique parts last names.1 more)
 
--- where a text is the last, and where others follow
+-- A text is the last, or others follow.
 cut_last : {rest first more : List ℕ} → CutsFirstText rest first more → more ≡ [] → texts_in rest ≡ first ∷ []
 cut_last (joined, inl (none, cut)) is = cut
 cut_last (joined, inr (some, less, cut)) is = absurd (some is)
@@ -188,7 +188,7 @@ module _ (depth : ℕ) (in_flow unique : Bool) (text : List ℕ) (was : WriterSt
             (adds_then now.emitter given.emitter after.emitter events between events_given.adds (moves_add passed.moves)));
       }
 
-  -- where nothing follows, all texts are given
+  -- If nothing follows, all texts are given.
   joined_done : more ≡ [] → flat_map (λ part. part.0) (so_far.parts ++ (first, one.json) ∷ []) ≡ text
   joined_done none = sym (append-nil (flat_map (λ part. part.0) (so_far.parts ++ (first, one.json) ∷ []))) ∙ joined_now [] (sym none)
 
@@ -219,9 +219,9 @@ module _ (depth : ℕ) (in_flow unique : Bool) (text : List ℕ) (was : WriterSt
   pub texts_read : more ≡ [] → ReadsTexts depth in_flow text was given
   texts_read none = last_reads depth in_flow text was given so_far.parts (first, one.json) (joined_done none) each_done wrote_done
 
--- What follows the first text
+-- The bytes after the first text.
 
--- nothing, where it has no length
+-- There are none if the rest has no length.
 pub no_more : (more : List ℕ) (empty : Bool) → empty ≡ (length more == 0) → empty ≡ true → more ≡ []
 no_more more empty is h = nil_from_length more (eqb-true (length more) 0 (sym is ∙ h))
 
@@ -234,7 +234,7 @@ pub some_more : (first more rest : List ℕ) (empty : Bool) → CutsFirstText re
 some_more first more rest empty (joined, inl (none, cut)) is h = absurd (is_more more empty is h none)
 some_more first more rest empty (joined, inr (some, less, cut)) is h = less
 
--- Where the next text is refused, or the writer fails within it
+-- The next text is refused, or the writer fails within it.
 pub texts_stopped : (depth : ℕ) (in_flow unique : Bool) (text : List ℕ) (was : WriterState) (rest first more : List ℕ) (now later : WriterState)
     → CutsFirstText rest first more → (so_far : TextsSoFar depth in_flow unique text was rest now) → (error : JsonError)
     → StopsInText depth unique in_flow first now error later → HasPlaceAfter depth text (flat_map (λ part. part.0) so_far.parts) first error

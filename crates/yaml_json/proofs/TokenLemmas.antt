@@ -9,7 +9,7 @@ pub some_then : (canonical in_flow : Bool) (first second : List Token)
     → tokens_events canonical in_flow (first ++ second) ≡ tokens_events canonical in_flow first ++ tokens_events canonical in_flow second
 some_then canonical in_flow first second = flat_map-append (token_events canonical in_flow) first second
 
--- a value, what follows it, and the end
+-- A value, the tokens after it, and the end.
 ends_after : (canonical in_flow : Bool) (first second : List Token) (events later : List Event) (end : Event)
     → tokens_events canonical in_flow first ≡ events → tokens_events canonical in_flow second ≡ later ++ end ∷ []
     → tokens_events canonical in_flow (first ++ second) ≡ (events ++ later) ++ end ∷ []

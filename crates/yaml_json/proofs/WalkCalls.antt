@@ -1,4 +1,4 @@
--- The calls of a walk over the tokens of a text, from what the calls of its writer and its lists do.
+-- The calls of a walk over the tokens of a text, by the calls of its writer and its lists.
 use Rattle.yaml_json.proofs.Common.{suc, ℕ, ◌-◌, ◌<◌, IfSome, OnOk, Result, Ok, Err, length, take, Bool, true, List, [], ◌++◌, ◌∷◌, refl, ◌≡◌, inl, inr, ap}
 use Rattle.yaml_json.proofs.Common.{sym, ◌∙◌, arith, chars, Event, scalar, Token, token_events, HoldsNames, AddsName, text_content, failure_of, FailedGiving}
 use Rattle.yaml_json.proofs.Common.{emitter_error_of, RefusesText, IsScalar, opener, closer, KeepsNamesAfter, BeganValue, BeginFailed, RefusesToken, Refuses}
@@ -311,7 +311,7 @@ module _ {A : Type 0} (settings : JsonSettings) (reader middle left : Reader) (b
 
 -- ---- a value
 
--- nothing is left behind it
+-- Nothing is left after it.
 pub only_value : {A : Type 0} (settings : JsonSettings) (reader left : Reader) (before after : JsonWalk A) → left.ahead ≡ []
     → ValueGiven settings reader before left after → OnlyGiven settings reader before after
 only_value settings reader left before after none given =

@@ -64,7 +64,7 @@ module _ (d : ℕ) where
       (λ k' r is x y z. let same : k' ≡ k = omega arith in members_enough k (m - 1) (n - 1) r x y (omega arith))
       (read_key ts) refl
 
-  -- what doesn't close an array is its next item, and then the rest
+  -- A token that doesn't close an array begins its next item, and then the rest follows.
   item_turn : (ts : List Token) → after_end_array ts ≡ None → (v : Option (Json × List Token)) → value d ts ≡ v
       → skip_items d ts ≡ option_and_then (skip_items d) (left v)
   item_turn ts e None f = ap left (items_fail (value d) (length ts) ts e f)
@@ -111,7 +111,7 @@ pub longer : (levels : List CollectionKind) (kind : CollectionKind) → length (
 longer [] kind = refl
 longer (outer ∷ inner) kind = ap suc (longer inner kind)
 
--- ---- where a value is next: here, the tokens are those of a value inside
+-- ---- a value is next: here, the tokens are those of a value inside
 
 -- these collections are open around the value that is next
 abbrev pub Awaits : ℕ → List Token → List CollectionKind → List Token → Type 0
@@ -255,7 +255,7 @@ closes_allowed depth unique taken closes once =
       begins = record { rest = closes.rest; parts = closes.parts };
     }
 
--- so a value begins with what was taken
+-- So a value begins with the tokens that were taken.
 pub value_begins_at : (depth : ℕ) (taken : List Token) (levels : List CollectionKind) → LeavesOpenAt depth taken levels → Closes depth taken
 value_begins_at depth taken levels stands =
     let whole = taken ++ (closers levels ++ []) in
@@ -274,14 +274,14 @@ value_closes depth taken levels stands = value_begins_at depth taken levels (sta
 pub value_begins : (depth : ℕ) (taken : List Token) (levels : List CollectionKind) → LeavesOpen depth taken levels → BeginsWithinDepth depth taken
 value_begins depth taken levels stands = closes_value depth taken (value_closes depth taken levels stands)
 
--- ---- the places where a value is next
+-- ---- the places at which a value is next
 
 -- these collections are open around the value that is next, of which these tokens are ahead
 abbrev pub AwaitsFirst : ℕ → List Token → List CollectionKind → List Token → Type 0
 AwaitsFirst depth taken levels [] = Awaits depth taken levels []
 AwaitsFirst depth taken levels (token ∷ after) = (more : List Token) → Awaits depth taken levels (token ∷ more)
 
--- a value is next within these collections, however much deeper values may nest; and a value begins with what was taken
+-- A value is next within these collections, however much deeper values may nest; and a value begins with the tokens that were taken.
 pub record Awaiting (depth : ℕ) (taken : List Token) (levels : List CollectionKind) (ahead : List Token) : Type 0 where
   pub begins : Closes depth taken
   pub few : length levels ≤ depth

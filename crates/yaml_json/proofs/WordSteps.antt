@@ -116,7 +116,7 @@ number_over t rest =
     (λ point first next. exponent power rest last ∙ fraction point power next ∙ whole (after_minus t) point first
     ∙ over_if (head t == 45) t (value_is Inner (head t) 45 refl)) found)
 
--- ---- what is read
+-- ---- the token that is read
 
 pub literal_read : (name t left : List ℕ) (named : Token) → IsInWord name → (named ≡ bad → ⊥) → starts_with nat_eq t name ≡ true
     → ends_word (drop (length name) t) ≡ true → left ≡ drop (length name) t
@@ -137,7 +137,7 @@ number_read t run left end leaves ends same is =
       ap (lex between) is ∙ ends_here (drop end t) ends ∙ number_over t (drop end t) (sym leaves.0),
     )
 
--- what names no value is a number, or none
+-- A word that names no value is a number, or no token.
 pub number_word : (t : List ℕ) → (head t ≡ 116 → ⊥) → (head t ≡ 102 → ⊥) → (head t ≡ 110 → ⊥) → word t ≡ number_before t (after_number t)
 unfolding word
 number_word t no_true no_false no_null = λ i.

@@ -47,7 +47,7 @@ all_have_numbers : (depth : ℕ) (parts : List (List ℕ × Json)) → AreJson d
 all_have_numbers depth [] each = tt
 all_have_numbers depth (part ∷ parts) each = (text_has_numbers depth part.0 part.1 each.0, all_have_numbers depth parts each.1)
 
--- the events of texts, of which there is one at least, read as these texts, whatever was taken of their bytes
+-- The events of one text or more read as these texts, however many of their bytes were taken.
 texts_read : (depth : ℕ) (in_flow : Bool) (text : List ℕ) (was now : WriterState) (taken : List ℕ) (part : List ℕ × Json) (rest : List (List ℕ × Json))
     → flat_map (λ part. part.0) (part ∷ rest) ≡ text → AreJson depth (part ∷ rest)
     → AddsTaking was.emitter (parts_events was.canonical in_flow (part ∷ rest)) taken now.emitter

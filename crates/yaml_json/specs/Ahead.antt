@@ -10,7 +10,7 @@ use Rattle.yaml_json.specs.declared.tokens.Stage.{Stage}
 use Rattle.yaml_json.specs.declared.tokens.Stage.TheVariants.{Open, Behind, Owed, Over}
 use Rattle.yaml_json.specs.declared.tokens.Step.{Step}
 
--- the tokens of what is left
+-- The tokens of the rest of a text.
 abbrev pub ahead : Stage → (rest : List ℕ) → List Token
 ahead Open rest = punctuate fresh (lex between rest)
 ahead Behind rest = punctuate after_value (lex between rest)
@@ -29,18 +29,18 @@ closes_here Behind = true
 closes_here Owed = false
 closes_here Over = false
 
--- from where the tokens are read
+-- The place from which the tokens are read.
 abbrev pub place_of : Stage → Place
 place_of Open = fresh
 place_of Behind = after_value
 place_of Owed = after_comma
 place_of Over = after_value
 
--- these lexemes begin with a colon only if those of what is left do
+-- These lexemes begin with a colon only if those of the rest do.
 abbrev pub FollowsAs : (more : List Lexeme) → (rest : List ℕ) → Type 0
 FollowsAs more rest = begins_colon more ≡ true → begins_colon (lex between rest) ≡ true
 
--- what is left begins with a token, if any is left
+-- The rest begins with a token, if any is left.
 abbrev pub IsTrimmed : (rest : List ℕ) → Type 0
 IsTrimmed rest = is_space (head rest) ≡ true → rest ≡ []
 
@@ -52,7 +52,7 @@ pub record IsTidy (stage : Stage) (rest : List ℕ) : Type 0 where
   pub trimmed : IsTrimmed rest
   pub comma : PassedComma stage rest
 
--- the token ends a value, and what follows it was passed up to the next token
+-- The token ends a value, and the text after it was passed up to the next token.
 pub record Ends (token : Token) (text : List ℕ) (step : Step) : Type 0 where
   pub same : token_of step.token ≡ token
   pub good : step.stage ≢ Over
@@ -64,7 +64,7 @@ pub record Ends (token : Token) (text : List ℕ) (step : Step) : Type 0 where
   pub over : Leads text step.rest.now
   pub tidy : IsTidy step.stage step.rest.now
 
--- the token stands before what may open next
+-- After the token a value or a name may begin.
 pub record Opens (token : Token) (text : List ℕ) (step : Step) : Type 0 where
   pub same : token_of step.token ≡ token
   pub opens : step.stage ≡ Open
@@ -73,7 +73,7 @@ pub record Opens (token : Token) (text : List ℕ) (step : Step) : Type 0 where
   pub over : Leads text step.rest.now
   pub tidy : IsTidy step.stage step.rest.now
 
--- from this place the lexemes are those of the step's token and of what is left, and whatever lexemes follow, their tokens are read then
+-- From this place the lexemes are those of the step's token and of the rest; and after these, the tokens of any further lexemes are read.
 pub record Passes (place : Place) (lexemes : List Lexeme) (step : Step) : Type 0 where
   pub good : step.stage ≢ Over
   pub first : Token
@@ -86,19 +86,19 @@ pub record Passes (place : Place) (lexemes : List Lexeme) (step : Step) : Type 0
 abbrev pub PassesOrEnds : Place → List Lexeme → Step → Type 0
 PassesOrEnds place lexemes step = ((step.stage ≡ Over) × (token_of step.token ≡ bad)) ⊎ Passes place lexemes step
 
--- wherever such a token may stand, these lexemes begin with it, and the step leaves the others
+-- At each place that allows such a token, these lexemes begin with it, and the step leaves the others.
 pub record StepsFrom (may_stand : Place → Bool) (lexemes : List Lexeme) (step : Step) : Type 0 where
   pub first : (place : Place) → may_stand place ≡ true → punctuate place lexemes ≡ token_of step.token ∷ ahead step.stage step.rest.now
   pub passes : (place : Place) → may_stand place ≡ true → PassesOrEnds place lexemes step
   pub tidy : IsTidy step.stage step.rest.now
 
--- of the tokens of what is left, the step has the first, and leaves the others
+-- Of the tokens of the rest the step has the first, and leaves the others.
 pub record ReadsFirst (stage : Stage) (text : List ℕ) (step : Step) : Type 0 where
   pub first : ahead stage text ≡ token_of step.token ∷ ahead step.stage step.rest.now
   pub passes : PassesOrEnds (place_of stage) (lex between text) step
   pub tidy : IsTidy step.stage step.rest.now
 
--- where there is no step, no token is left
+-- If there is no step, no token is left.
 abbrev pub Reads : Stage → (text : List ℕ) → Option Step → Type 0
 Reads stage text found = MatchOption found (ahead stage text ≡ []) (ReadsFirst stage text)
 

@@ -16,7 +16,7 @@ pub record BeginsWithinDepth (depth : ℕ) (taken : List Token) : Type 0 where
   pub nested : nesting json ≤ depth
   pub begins : IsPrefix taken (json_tokens json)
 
--- the value nests at most `depth` deep; and, where names are to come once, each object has each name once
+-- The value nests at most `depth` deep; and if names must be unique, each object has each name once.
 pub record IsAllowed (depth : ℕ) (unique : Bool) (json : Json) : Type 0 where
   pub nested : nesting json ≤ depth
   pub names : unique ≡ true → HasUniqueKeys json
@@ -27,7 +27,7 @@ pub record BeginsAllowed (depth : ℕ) (unique : Bool) (taken : List Token) : Ty
   pub allowed : IsAllowed depth unique json
   pub begins : IsPrefix taken (json_tokens json)
 
--- after these tokens no value goes on with the next of those; where there is none, no value ends
+-- No value continues these tokens with the next of those; and if there is no next, no value ends here.
 abbrev pub NoneGoesOn : (taken left : List Token) → Type 0
 NoneGoesOn taken [] = (json : Json) → json_tokens json ≡ taken → ⊥
 NoneGoesOn taken (next ∷ left) = BeginsSome (taken ++ next ∷ []) → ⊥

@@ -1,4 +1,4 @@
--- How far a text of several was scanned, whatever follows it.
+-- The part of several texts that was scanned, whatever follows it.
 use Rattle.std.specs.Prelude.{◌≡◌, ℕ, ◌<◌, ◌≤◌, List, [], ◌∷◌, ◌++◌, drop, length, take, get_or}
 use Rattle.yaml_json.specs.declared.cuts.Cut.{Cut}
 use Rattle.yaml_json.specs.declared.cuts.Mode.TheVariants.{Before}
@@ -10,7 +10,7 @@ abbrev pub all_onto : List ℕ → List (List ℕ) → List (List ℕ)
 all_onto [] texts = texts
 all_onto (byte ∷ bytes) texts = onto_first byte (all_onto bytes texts)
 
--- after these bytes, all of one text, the scan is here, whatever follows
+-- The state of the scan after these bytes, all of one text, is this, whatever follows.
 pub record Scanned (done : List ℕ) (scan : Scan) : Type 0 where
   pub texts : (more : List ℕ) → texts_in (done ++ more) ≡ all_onto done (texts_after scan more)
   pub few : scan.levels ≤ length done
@@ -21,7 +21,7 @@ pub record HasScanned (text : List ℕ) (cut : Cut) : Type 0 where
   pub within : cut.scanned ≤ length text
   pub scanned : Scanned (take cut.scanned text) cut.scan
 
--- the first text ends here, and what follows begins others, whatever follows them
+-- The first text ends here, and the rest begins others, whatever follows them.
 pub record CutsAt (text : List ℕ) (end : ℕ) : Type 0 where
   pub some : 0 < end
   pub within : end < length text

@@ -1,4 +1,4 @@
--- What could stand where a text breaks off, by the bytes before: by what stands last, and by the innermost bracket that is open.
+-- The input that is possible at the place where a text breaks off, by the bytes before: by the last token, and by the innermost open bracket.
 use Rattle.std.specs.Prelude.{◌≡◌, ℕ, Bool, true, false, ◌==◌, ◌&&◌, nat_le, Option, None, Some, List, [], ◌∷◌, codes, drop, length, suc, take, if◌then◌else◌}
 use Rattle.json.specs.Ascii as ascii
 use Rattle.json.specs.Word.{is_space}
@@ -16,9 +16,9 @@ use Rattle.yaml_json.specs.declared.expecting.Last.TheVariants.{Nothing, Opener,
 use Rattle.yaml_json.specs.declared.expecting.Quoting.{Quoting}
 use Rattle.yaml_json.specs.declared.expecting.Quoting.TheVariants.{Outside, Inside, Escaped}
 
--- ---- where a text is after some of its bytes
+-- ---- the state of a text after some of its bytes
 
--- within a string or not; what stands last; which brackets are open, the innermost first
+-- Whether the place is within a string; the kind of the last token; the open brackets, the innermost first.
 pub record StandingInJson : Type 0 where
   pub quoting : Quoting
   pub last : Last
@@ -27,7 +27,7 @@ pub record StandingInJson : Type 0 where
 abbrev pub start : StandingInJson
 start = record { quoting = Outside; last = Nothing; kinds = [] }
 
--- a string ends with the quote that no backslash stands before
+-- A string ends with a quote that no backslash precedes.
 abbrev pub quoting_after : Quoting → ℕ → Quoting
 quoting_after Outside byte = if byte == ascii.quote then Inside else Outside
 quoting_after Inside byte = if byte == ascii.backslash then Escaped else (if byte == ascii.quote then Outside else Inside)
@@ -75,7 +75,7 @@ abbrev pub standing_over : StandingInJson → List ℕ → StandingInJson
 standing_over standing [] = standing
 standing_over standing (byte ∷ bytes) = standing_over (standing_after standing byte) bytes
 
--- ---- what could stand there
+-- ---- the input that is possible there
 
 abbrev pub innermost : List CollectionKind → Option CollectionKind
 innermost [] = None
@@ -87,7 +87,7 @@ after_value None = expected.End
 after_value (Some Sequence) = expected.CommaOrBracket
 after_value (Some Mapping) = expected.CommaOrBrace
 
--- after the first string or word behind a bracket or a comma: in an object it is a name
+-- After the first string or word that follows a bracket or a comma: in an object it is a name.
 abbrev pub after_first : Option CollectionKind → Expected
 after_first (Some Mapping) = expected.Colon
 after_first kind = after_value kind
@@ -121,11 +121,11 @@ abbrev pub expected_of : StandingInJson → (ended : Bool) → Expected
 expected_of standing ended =
     if is_nothing standing.last && ended then expected.Text else expected_by standing.last (innermost standing.kinds)
 
--- what could stand at an offset of a text
+-- The input that is possible at an offset of a text.
 abbrev pub expected_at : (text : List ℕ) → (at : ℕ) → Expected
 expected_at text at = expected_of (standing_over start (take at text)) (nat_le (length text) at)
 
--- where the text is no JSON, the error says so
+-- If the text is no JSON, the error names that input.
 abbrev pub SaysExpected : (text : List ℕ) → (at : ℕ) → JsonError → Type 0
 SaysExpected text at (errors.NotJson line column says) = says ≡ expected_at text at
 SaysExpected text at (errors.Marked line column) = Unit {0}

@@ -1,4 +1,4 @@
--- Why a writer fails that is given the events of a text, and what it was given until then.
+-- Why a writer fails that is given the events of a text, and the events that it was given until then.
 use Rattle.std.specs.Prelude.{◌≡◌, ◌≢◌, ◌⊎◌, ℕ, ◌<◌, ◌≤◌, Bool, Option, None, Some, unwrap_or, Result, Ok, Err, List, [], ◌++◌, flat_map}
 use Rattle.json.specs.Token.{Token}
 use Rattle.json.specs.Lex.{tokens}
@@ -23,7 +23,7 @@ use Rattle.yaml_json.specs.declared.error.JsonError.TheVariants as errors
 use Rattle.yaml_json.specs.declared.values.Stop.{Stop}
 use Rattle.yaml_json.specs.declared.values.Stop.TheVariants as stops
 
--- ---- the error of the writer, where there is one
+-- ---- the error of the writer, if there is one
 
 abbrev pub failure_of : WriterState → Stop → Option yaml_error_t
 failure_of now (stops.NotJson spot) = None
@@ -58,7 +58,7 @@ writers_error (errors.TooDeep line column) = None
 writers_error (errors.DuplicateName line column) = None
 writers_error (errors.Emitter error) = Some error
 
--- ---- what was given
+-- ---- the events that were given
 
 -- the innermost collection was ended, and the emitter has this error now; or none was open, and nothing changed
 abbrev pub FailedAtEnd : WriterState → yaml_error_t → WriterState → Type 0
@@ -84,7 +84,7 @@ FailedInText depth in_flow text was error now = FailedInValue depth in_flow (tok
 abbrev pub events_with_separators : (canonical in_flow : Bool) → List (List ℕ × Json) → List Event
 events_with_separators canonical in_flow parts = flat_map (λ part. json_events canonical in_flow part.1 ++ between) parts
 
--- ---- what a call returned
+-- ---- the result of a call
 
 -- the emitter has no error after a success, and none more after the text stopped the writing, or an allocation of the call's own
 abbrev pub SoundAfter : WriterState → Result (Unit {0}) Stop → WriterState → Type 0
@@ -110,17 +110,17 @@ IsSound was (Err error) now = HasErrorSaid was (writers_error error) now
 
 -- ---- why no stream was written
 
--- the bytes of the events of the text's tokens pass the limit; where the text is JSON nested at most `depth` deep, and no more than
--- may be open, those of the stream of its value do
+-- The bytes of the events of the text's tokens pass the limit. If the text is JSON nested at most `depth` deep, and no deeper than the
+-- emitter allows, the bytes of the stream of its value pass it.
 pub record OverLimit (given : Settings) (in_flow : Bool) (depth : ℕ) (text : List ℕ) : Type 0 where
   pub passes : PassesLimit given (opening ++ tokens_events given.canonical in_flow (tokens text) ++ closing)
   pub cut : (json : Json) → value depth (tokens text) ≡ Some (json, []) → nesting json ≤ most_open
       → IsUncut given (opening ++ json_events given.canonical in_flow json ++ closing) → ⊥
 
--- where the text is JSON nested at most `depth` deep, it has more levels than may be open
+-- If the text is JSON nested at most `depth` deep, it has more levels than may be open.
 abbrev pub NestsPastMost : (depth : ℕ) → (text : List ℕ) → Type 0
 NestsPastMost depth text = (json : Json) → value depth (tokens text) ≡ Some (json, []) → most_open < nesting json
 
--- an allocation failed, the limit gave out, or too many collections were open
+-- An allocation failed, the limit is exceeded, or too many collections were open.
 abbrev pub JsonFailsBy : Settings → (in_flow : Bool) → (depth : ℕ) → (text : List ℕ) → yaml_error_t → Type 0
 JsonFailsBy given in_flow depth text = FailsBy depth (OverLimit given in_flow depth text) (NestsPastMost depth text)

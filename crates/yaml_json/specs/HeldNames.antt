@@ -1,4 +1,4 @@
--- What contracts see of the names in the objects that are open.
+-- The view of the names in the open objects in contracts.
 use Rattle.std.specs.Prelude.{◌≡◌, ◌+◌, ◌≤◌, ◌||◌, ℕ, Bool, true, false, List, [], ◌∷◌, ◌++◌, bytes_eq, drop, length, take}
 use Rattle.std.specs.Borrow.{Bor}
 use Rattle.std.specs.BTreeSet.{BTreeSet, contains_by}
@@ -20,7 +20,7 @@ HaveNames {A} few levels (names ∷ outer) =
     (init : List (Level A)) × (last : Level A) × (levels ≡ init ++ last ∷ []) × (last.first ≤ length few) × HasNames (drop last.first few) last.many names
     × HaveNames (take last.first few) init outer
 
--- these are the names of the arrays and objects that are open, where names are kept
+-- These are the names of the arrays and objects that are open, if names are kept.
 abbrev pub HoldsNames : {A : Type 0} → List (List (List ℕ)) → Names A → Type 0
 HoldsNames levels held = held.are_kept ≡ true → HaveNames held.few.items held.levels.items levels
 

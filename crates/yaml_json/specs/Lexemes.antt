@@ -1,4 +1,4 @@
--- Where parts of a JSON text end.
+-- The ends of the parts of a JSON text.
 use Rattle.std.specs.Prelude.{◌≡◌, ℕ, ◌-◌, ◌<◌, ◌≤◌, Bool, true, false, ◌||◌, ◌==◌, nat_lt, Option, option_map, IfSome, MatchOption, None, List, drop, get_or}
 use Rattle.std.specs.Prelude.{◌≢◌, [], ◌∷◌, length, not}
 use Rattle.std.specs.Borrow.{Bor}
@@ -12,7 +12,7 @@ use Rattle.json.specs.Token.{Token, bad}
 use Rattle.json.specs.Word.{is_operator, is_space}
 use Rattle.json.specs.declared.token.Token as declared
 
--- a byte of a string's content that doesn't stand for itself, or none of it
+-- True if a byte isn't itself in a string's content.
 abbrev pub is_stop : ℕ → Bool
 is_stop byte = (byte == ascii.quote) || (byte == ascii.backslash) || nat_lt byte ascii.space
 
@@ -20,14 +20,14 @@ is_stop byte = (byte == ascii.quote) || (byte == ascii.backslash) || nat_lt byte
 abbrev pub is_no_digit : ℕ → Bool
 is_no_digit byte = not (is_ascii_digit byte)
 
--- the bytes between two places stand for themselves, and the one that follows doesn't
+-- The bytes between two places are themselves in a string's content, and the next isn't.
 pub record ArePlain (text : List ℕ) (from to : ℕ) : Type 0 where
   pub ordered : from ≤ to
   pub within : to ≤ length text
   pub plain : (k : ℕ) → from ≤ k → k < to → is_stop (get_or text k 0) ≡ false
   pub stops : to < length text → is_stop (get_or text to 0) ≡ true
 
--- what is left begins at this place
+-- The rest begins at this place.
 abbrev pub LeavesAt : (text : List ℕ) → Option ℕ → (rest : Option (List ℕ)) → Type 0
 LeavesAt text place rest = (option_map (λ at. drop at text) place ≡ rest) × IfSome place (λ at. at ≤ length text)
 
@@ -35,7 +35,7 @@ LeavesAt text place rest = (option_map (λ at. drop at text) place ≡ rest) × 
 abbrev pub IsInWord : (bytes : List ℕ) → Type 0
 IsInWord bytes = list_any (λ byte. is_operator byte || is_space byte) bytes ≡ false
 
--- the word that a text begins with has this token, and ends before what is left; where nothing is found, the token is bad
+-- The word that a text begins with has this token, and ends before the rest. If nothing is found, the token is bad.
 abbrev pub ReadsWord : (text : List ℕ) → Token → Option (declared.Token × Bor (List ℕ)) → Type 0
 ReadsWord text token found =
     MatchOption found (token ≡ bad)

@@ -1,4 +1,4 @@
--- When what a tree that was read means by a schema is a value of JSON. This names no writer and no event.
+-- When the meaning of a tree by a schema is a value of JSON. No writer and no event is named here.
 use Rattle.std.specs.Prelude.{◌≡◌, ℕ, Bool, None, Some, List, [], ◌∷◌, map}
 use Rattle.json.specs.Json.{Json, null, boolean, number, string, array, object, Items, no_items, item, Members, no_members, member}
 use Rattle.yaml_base.specs.values.Resolved.{meant_null, meant_boolean}
@@ -37,16 +37,16 @@ AllMean schema [] [] = Unit {0}
 AllMean schema (json ∷ values) (tree ∷ trees) = Means schema json tree × AllMean schema values trees
 AllMean schema _ _ = ⊥
 
--- what a reader of whole streams finds in some bytes: for each of these values one document without directives, in order, whose
--- root means the value by the type repository of YAML 1.1 and by the core schema of YAML 1.2
+-- A reader of whole streams finds in some bytes one document without directives for each of these values, in order, whose root means the
+-- value by the type repository of YAML 1.1 and by the core schema of YAML 1.2.
 pub record ReadsAsValues (breaks12 : Bool) (bytes : List ℕ) (values : List Json) : Type 0 where
   pub roots : List Tree
   pub read : stream_trees breaks12 bytes ≡ Some (map plain_document roots)
   pub by_11 : AllMean resolved_by_11 values roots
   pub by_core : AllMean resolved_by_core values roots
 
--- what a reader of whole streams finds in some bytes: one document without directives, whose root means this value by the type
--- repository of YAML 1.1 and by the core schema of YAML 1.2
+-- A reader of whole streams finds in some bytes one document without directives, whose root means this value by the type repository of
+-- YAML 1.1 and by the core schema of YAML 1.2.
 pub record ReadsAsJson (breaks12 : Bool) (bytes : List ℕ) (json : Json) : Type 0 where
   pub root : Tree
   pub read : stream_trees breaks12 bytes ≡ Some (plain_document root ∷ [])

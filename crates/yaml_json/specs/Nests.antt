@@ -1,4 +1,4 @@
--- What contracts see of what is open in a walk.
+-- The view of the open arrays and objects of a walk in contracts.
 use Rattle.std.specs.Prelude.{ℕ, ◌≡◌, ◌≤◌, Bool, [], length}
 use Rattle.std.specs.declared.alloc.Allocator.{Ghosts}
 use Rattle.yaml_json.specs.HeldNames.{HoldsNames}
@@ -6,11 +6,11 @@ use Rattle.yaml_json.specs.Walk.{FitsNames}
 use Rattle.yaml_json.specs.declared.texts.Room.{Room}
 use Rattle.yaml_json.specs.declared.values.Nesting.{Nesting}
 
--- not more is open than is allowed, and names are kept of each array and object, where they are to come once
+-- No more is open than is allowed; and if names must be unique, those of each open array and object are kept.
 abbrev pub IsNesting : {A : Type 0} → (depth : ℕ) → (unique : Bool) → Nesting A → Type 0
 IsNesting depth unique nest = (length nest.kinds.items ≤ depth) × FitsNames unique nest.kinds.items nest.names
 
--- nothing is open; names are kept where they are to come once
+-- Nothing is open; names are kept if they must be unique.
 abbrev pub HasNoneOpen : {A : Type 0} → (unique : Bool) → Nesting A → Type 0
 HasNoneOpen unique nest = (nest.kinds.items ≡ []) × (nest.names.are_kept ≡ unique) × HoldsNames [] nest.names
 

@@ -1,4 +1,4 @@
--- At which offset of its text an error is, by where the last token that was read begins.
+-- The offset of an error in its text, by the offset at which the last token that was read begins.
 use Rattle.std.specs.Prelude.{◌≡◌, ◌≢◌, ◌<◌, ◌≤◌, ℕ, List, ◌∷◌, drop, length}
 use Rattle.json.specs.Lex.{Lexeme, between, lex}
 use Rattle.json.specs.Word.{head}

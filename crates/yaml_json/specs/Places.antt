@@ -1,4 +1,4 @@
--- Where in a text an error is.
+-- The places of errors in a text.
 use Rattle.std.specs.Prelude.{◌≡◌, ℕ, ◌+◌, ◌<◌, ◌≤◌, List, [], ◌∷◌, ◌++◌, drop, flat_map, length, take}
 use Rattle.std.specs.Str.{IsValidUpTo}
 use Rattle.json.specs.Json.{Json}
@@ -16,7 +16,7 @@ use Rattle.yaml_json.specs.declared.error.StreamError.{StreamError}
 use Rattle.yaml_json.specs.declared.error.StreamError.TheVariants as faults
 use Rattle.yaml_json.specs.declared.places.Place.{Place}
 
--- the error, where it has a place, is at this offset of the text
+-- The error, if it has a place, is at this offset of the text.
 abbrev pub IsAt : (text : List ℕ) → (at : ℕ) → JsonError → Type 0
 IsAt text at (errors.NotJson line column says) = AreOf text at line column
 IsAt text at (errors.Marked line column) = AreOf text at line column
@@ -24,7 +24,7 @@ IsAt text at (errors.TooDeep line column) = AreOf text at line column
 IsAt text at (errors.DuplicateName line column) = AreOf text at line column
 IsAt text at (errors.Emitter error) = Unit {0}
 
--- ---- the lexeme that can't stand there
+-- ---- the lexeme that isn't possible at its place
 
 -- a lexeme begins at this offset, or the text ends there
 pub record IsLexemeStart (text : List ℕ) (at : ℕ) : Type 0 where
@@ -37,12 +37,12 @@ abbrev pub BeginLexemes : (allowed : Json → Type 0) → List Lexeme → Type 0
 BeginLexemes allowed lexemes =
     (json : Json) × (allowed json × ((more : List Lexeme) × (punctuate fresh (lexemes ++ more) ≡ json_tokens json)))
 
--- after these lexemes those of no allowed value go on with the next of these; where there is none, those of none end
+-- The lexemes of no allowed value continue these lexemes with the next of those; and if there is no next, those of no allowed value end here.
 abbrev pub NoneGoOn : (allowed : Json → Type 0) → (before after : List Lexeme) → Type 0
 NoneGoOn allowed before [] = (json : Json) → allowed json → punctuate fresh before ≡ json_tokens json → ⊥
 NoneGoOn allowed before (next ∷ after) = BeginLexemes allowed (before ++ next ∷ []) → ⊥
 
--- the text's lexemes up to this offset are those with which an allowed value begins, and the next can't stand there
+-- An allowed value begins with the text's lexemes up to this offset, and the next isn't possible there.
 pub record CannotStandAt (allowed : Json → Type 0) (text : List ℕ) (at : ℕ) : Type 0 where
   pub start : IsLexemeStart text at
   pub before : List Lexeme
@@ -57,8 +57,8 @@ IsAny json = Unit {0}
 abbrev pub IsWithinDepth : (depth : ℕ) → Json → Type 0
 IsWithinDepth depth json = nesting json ≤ depth
 
--- the error is at the first lexeme that can't stand where it stands, or at the text's end: of any value; of one that nests at most
--- `depth` deep; of one whose objects have each name once. Of no JSON it says what could stand there
+-- The error is at the first lexeme that isn't possible at its place, or at the text's end: in any value; in one that nests at most
+-- `depth` deep; in one whose objects have each name once. If the text is no JSON, the error names the input that is possible there.
 abbrev pub IsPlacedAt : (depth : ℕ) → (text : List ℕ) → (at : ℕ) → JsonError → Type 0
 IsPlacedAt depth text at (errors.NotJson line column says) = CannotStandAt IsAny text at × (says ≡ expected_at text at)
 IsPlacedAt depth text at (errors.Marked line column) = CannotStandAt IsAny text at
@@ -66,7 +66,7 @@ IsPlacedAt depth text at (errors.TooDeep line column) = CannotStandAt (IsWithinD
 IsPlacedAt depth text at (errors.DuplicateName line column) = CannotStandAt HasUniqueKeys text at
 IsPlacedAt depth text at (errors.Emitter error) = Unit {0}
 
--- the line and the column of the error, where it has them, are those of that lexeme
+-- The line and the column of the error, if it has them, are those of that lexeme.
 abbrev pub HasPlace : (depth : ℕ) → (text : List ℕ) → JsonError → Type 0
 HasPlace depth text error = (at : ℕ) × (IsAt text at error × IsPlacedAt depth text at error)
 
@@ -84,8 +84,8 @@ many_bytes = 9223372036854775808
 abbrev pub IsPlaceAfter : (front : List ℕ) → Place → Type 0
 IsPlaceAfter front place = length front < many_bytes → AreOf front (length front) place.line place.column
 
--- an error is at this lexeme of a text, or where it stops to be UTF-8; its line and column are counted from the start of these bytes,
--- which come before it
+-- An error is at this lexeme of a text, or at the first byte that isn't UTF-8. Its line and column are counted from the start of these
+-- bytes, which precede the text.
 abbrev pub HasPlaceWithin : (depth : ℕ) → (front part : List ℕ) → StreamError → Type 0
 HasPlaceWithin depth front part (faults.Refused error) =
     (at : ℕ) × ((length front + at < many_bytes → IsAt (front ++ part) (length front + at) error) × IsPlacedAt depth part at error)
@@ -93,7 +93,7 @@ HasPlaceWithin depth front part (faults.NotText line column) =
     (at : ℕ) × ((length front + at < many_bytes → AreOf (front ++ part) (length front + at) line column) × IsValidUpTo part at)
 HasPlaceWithin depth front part _ = Unit {0}
 
--- of these bytes those are left, and the place moves with what they follow
+-- Of these bytes those are left, and the place moves past the bytes before them.
 pub record MovesPlace (before after : List ℕ) (old new : Place) : Type 0 where
   pub dropped : List ℕ
   pub parts : dropped ++ after ≡ before

@@ -1,4 +1,4 @@
--- What contracts see of the reader of tokens: how far it is in its text.
+-- The view of the reader of tokens in contracts: its progress in its text.
 use Rattle.std.specs.Prelude.{◌≡◌, ◌≤◌, ℕ, ◌-◌, List, [], ◌∷◌, ◌++◌, drop, length, refl}
 use Rattle.std.specs.Coded.{Coded, code_by, coded×, coded_ℕ, coded_list}
 use Rattle.json.specs.Lex.{Lexeme, Place, after_comma, after_value, between, fresh, lex, punctuate, tokens}
@@ -26,7 +26,7 @@ reader_code =
     code_by (List ℕ × (List Token × List Token)) (coded× (coded_list coded_ℕ) (coded× tokens_code tokens_code)) (λ r. (r.text, (r.ahead, r.before)))
     (λ p. record { text = p.0; ahead = p.1.0; before = p.1.1 }) (λ _. refl)
 
--- the text's lexemes up to what is left have these tokens, and whatever follows them has those that it has from this place on
+-- The text's lexemes up to the rest have these tokens, and any lexemes after them have the tokens that they have from this place on.
 pub record HaveTokens (text : List ℕ) (taken : List Token) (place : Place) (rest : List ℕ) : Type 0 where
   pub passed : List Lexeme
   pub parts : passed ++ lex between rest ≡ lex between text
@@ -42,7 +42,7 @@ Passed text taken Behind rest = HaveTokens text taken after_value rest
 Passed text taken Owed rest = HaveTokens text taken after_comma rest
 Passed text taken Over rest = EndsBad taken
 
--- these tokens of the text were read, and what is left begins where a lexeme may
+-- These tokens of the text were read, and the rest begins at a place at which a lexeme may begin.
 pub record HasReadTokens (text : List ℕ) (taken : List Token) (stage : Stage) (rest : List ℕ) : Type 0 where
   pub all : taken ++ ahead stage rest ≡ tokens text
   pub passed : Passed text taken stage rest
@@ -56,7 +56,7 @@ last_bytes text count = drop (length text - count) text
 abbrev pub reader_of : (text : List ℕ) → Stage → (rest : List ℕ) → (was : Stage) → (left : ℕ) → Reader
 reader_of text stage rest was left = record { text = text; ahead = ahead stage rest; before = ahead was (last_bytes text left) }
 
--- so the reader stands, and so it stood when the last token was read
+-- The reader is in this state, and was in that when the last token was read.
 pub record IsReader (text : List ℕ) (stage : Stage) (rest : List ℕ) (was : Stage) (left : ℕ) : Type 0 where
   pub taken : List Token
   pub stands : HasReadTokens text taken stage rest

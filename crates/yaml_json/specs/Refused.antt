@@ -1,4 +1,4 @@
--- What an error says of the text.
+-- The meaning of an error for the text.
 use Rattle.std.specs.Prelude.{◌≡◌, ℕ, ◌<◌, Bool, true, false, Some, Result, Ok, Err, List, [], ◌∷◌, ◌++◌, nat_eq}
 use Rattle.std.specs.List.{starts_with}
 use Rattle.json.specs.Strict.{HasUniqueKeys}
@@ -44,7 +44,7 @@ DeniesJson (errors.Emitter error) = ⊥
 
 -- ---- why
 
--- the tokens are those of an allowed value up to one that can't stand there, or up to their end, which comes too early
+-- The tokens are those of an allowed value up to one that isn't possible there, or up to their end, which comes too early.
 pub record TokensBreakOff (depth : ℕ) (unique : Bool) (all : List Token) : Type 0 where
   pub taken : List Token
   pub left : List Token
@@ -76,7 +76,7 @@ pub record NamesTwice (depth : ℕ) (unique : Bool) (all : List Token) : Type 0 
 
 -- ---- why, after these tokens, with those ahead
 
--- the tokens before are those of an allowed value, and the next can't stand there, or they end too early
+-- The tokens before are those of an allowed value, and the next isn't possible there, or they end too early.
 pub record TokensBreakAt (depth : ℕ) (unique : Bool) (taken left : List Token) : Type 0 where
   pub begins : BeginsAllowed depth unique taken
   pub breaks : NoneGoesOn taken left
@@ -122,8 +122,8 @@ IsNotJson depth text = IsNoValue depth (tokens text)
 abbrev pub is_marked : List ℕ → Bool
 is_marked text = starts_with nat_eq text (239 ∷ 187 ∷ 191 ∷ [])
 
--- what an error says of the text: that it breaks off, without a byte order mark at its start or with one; that it opens too many
--- arrays and objects; that a name comes twice
+-- The error explains the text: it breaks off, without a byte order mark at its start or with one; it opens too many arrays and objects; or
+-- a name comes twice.
 abbrev pub ExplainsError : (depth : ℕ) → (unique : Bool) → (text : List ℕ) → JsonError → Type 0
 ExplainsError depth unique text (errors.NotJson line column says) = TokensBreakOff depth unique (tokens text) × (is_marked text ≡ false)
 ExplainsError depth unique text (errors.Marked line column) = TokensBreakOff depth unique (tokens text) × (is_marked text ≡ true)
@@ -131,8 +131,8 @@ ExplainsError depth unique text (errors.TooDeep line column) = OpensTooDeep dept
 ExplainsError depth unique text (errors.DuplicateName line column) = NamesTwice depth unique (tokens text)
 ExplainsError depth unique text (errors.Emitter error) = Unit {0}
 
--- what it says of the tokens of the text that were taken, and of those ahead; where it is the writer's, some value nested at most
--- `depth` deep begins with the tokens that were taken
+-- The error explains the tokens of the text that were taken, and those ahead. If it is the writer's, some value nested at most `depth` deep
+-- begins with the tokens that were taken.
 abbrev pub TokensStopAt : (depth : ℕ) → (unique : Bool) → (text : List ℕ) → (taken left : List Token) → JsonError → Type 0
 TokensStopAt depth unique text taken left (errors.NotJson line column says) = TokensBreakAt depth unique taken left × (is_marked text ≡ false)
 TokensStopAt depth unique text taken left (errors.Marked line column) = TokensBreakAt depth unique taken left × (is_marked text ≡ true)
@@ -140,11 +140,11 @@ TokensStopAt depth unique text taken left (errors.TooDeep line column) = OpensTo
 TokensStopAt depth unique text taken left (errors.DuplicateName line column) = NamesTwiceAt depth unique taken left
 TokensStopAt depth unique text taken left (errors.Emitter error) = BeginsWithinDepth depth taken
 
--- where names are to come once, no object of the text has one twice
+-- If names must be unique, no object of the text has one twice.
 abbrev pub HasNamesOnce : (unique : Bool) → (text : List ℕ) → Type 0
 HasNamesOnce unique text = unique ≡ true → (depth : ℕ) → (json : Json) → value depth (tokens text) ≡ Some (json, []) → HasUniqueKeys json
 
--- where names are to come once, no object of any of these texts has one twice
+-- If names must be unique, no object of any of these texts has one twice.
 abbrev pub HaveNamesOnce : (unique : Bool) → List (List ℕ) → Type 0
 HaveNamesOnce unique [] = Unit {0}
 HaveNamesOnce unique (text ∷ texts) = HasNamesOnce unique text × HaveNamesOnce unique texts

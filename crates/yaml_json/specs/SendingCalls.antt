@@ -1,4 +1,4 @@
--- What the calls do that read JSON texts part by part and send their documents on, by their results.
+-- The calls that read JSON texts part by part and send their documents on, by their results.
 use Rattle.std.specs.Prelude.{◌≡◌, ◌-◌, ℕ, Bool, false, Option, None, Result, Ok, Err, IfSome, IsUtf8, List, [], drop, length}
 use Rattle.std.specs.Io.KnownBytes.{IsAtEnd}
 use Rattle.yaml_pen.specs.Wrote.{Grows}
@@ -17,7 +17,7 @@ use Rattle.yaml_json.specs.declared.stream.Incoming.{Incoming}
 
 -- ---- a part
 
--- these bytes came more; where no more may follow, none came, and the reader is at its end
+-- These bytes came. If no more may follow, none came, and the reader is at its end.
 pub record PartRead {A : Type 0} (before : Incoming A) (ahead : Option (List ℕ)) (more : Bool) (after : Incoming A) (left : Option (List ℕ))
     : Type 0 where
   pub come : HasCome before ahead after left
@@ -58,7 +58,7 @@ LastStep settings text place was (Err error) now = LastStopped settings text pla
 
 -- ---- the next document
 
--- it was begun, and the sink was given all that was written before
+-- It was begun, and the sink was given all output before.
 pub record NextBegun (was : WriterState) (held : Option (List ℕ)) (now : WriterState) (holds : Option (List ℕ)) : Type 0 where
   pub begun : BeginsNext was held now holds
   pub grew : Grew was None now
@@ -72,10 +72,10 @@ abbrev pub NextStep : WriterState → Option (List ℕ) → Result (Unit {0}) St
 NextStep was held (Ok done) now holds = NextBegun was held now holds
 NextStep was held (Err error) now holds = NextFailed was held error now holds
 
--- ---- the texts that are complete in what came
+-- ---- the texts that are complete in the input that came
 
--- their events were given, a document begun after each, and the sink was given what was written of the documents; the last `count` bytes
--- are left
+-- Their events were given, a document begun after each, and the sink was given the output of the documents; the last `count` bytes are
+-- left.
 pub record CompleteGiven (settings : JsonSettings) (held : List ℕ) (was : WriterState) (before : Option (List ℕ)) (count : ℕ) (cut : Cut)
     (now : WriterState) (after : Option (List ℕ)) : Type 0 where
   pub bare : IsBare now
@@ -113,7 +113,7 @@ DropStep settings came was before (Err error) left now after =
 
 -- ---- all texts of a reader
 
--- the reader is at its end, and its texts were sent; what was written before stays, and the emitter has no error
+-- The reader is at its end, and its texts were sent; earlier output stays, and the emitter has no error.
 pub record TextsSent (settings : JsonSettings) (ahead left : Option (List ℕ)) (was : WriterState) (before : Option (List ℕ)) (now : WriterState)
     (after : Option (List ℕ)) : Type 0 where
   pub grows : Grows was.emitter.page now.emitter.page
@@ -122,7 +122,7 @@ pub record TextsSent (settings : JsonSettings) (ahead left : Option (List ℕ)) 
   pub bare : IsBare now
   pub sent : IfSome ahead (λ text. SentTexts settings.depth settings.unique_names settings.flow text was before now after)
 
--- the first of them were sent, and no more; what was written before stays, and an error of the emitter is the one that is returned
+-- The first of them were sent, and no more; earlier output stays, and an error of the emitter is the one that is returned.
 pub record TextsUnsent (settings : JsonSettings) (ahead : Option (List ℕ)) (was : WriterState) (before : Option (List ℕ)) (error : StreamError)
     (now : WriterState) (after : Option (List ℕ)) : Type 0 where
   pub grows : Grows was.emitter.page now.emitter.page

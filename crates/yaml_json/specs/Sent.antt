@@ -1,4 +1,4 @@
--- JSON texts that come part by part: what was given of them, and what was sent on.
+-- JSON texts that come part by part: the events that were given, and the bytes that were sent on.
 use Rattle.std.specs.Prelude.{◌≡◌, ◌⊎◌, ℕ, ◌-◌, ◌≤◌, Bool, Option, None, Result, Ok, Err, List, [], ◌∷◌, ◌++◌}
 use Rattle.std.specs.Prelude.{IsUtf8, drop, flat_map, length, map}
 use Rattle.std.specs.Io.KnownBytes.{Appends, Consumes}
@@ -32,9 +32,9 @@ abbrev pub AreUtf8 : List (List ℕ × Json) → Type 0
 AreUtf8 [] = Unit {0}
 AreUtf8 (part ∷ parts) = IsUtf8 part.0 × AreUtf8 parts
 
--- the text is UTF-8, one JSON text after another, where each ends; their events were given, a document each, and the sink was given
--- the bytes that were taken; where names are to come once, they do. Where the writer was at the start of its first document, what was
--- taken of it before, what the sink was given, and what then finishes the stream, is read as the values of the text
+-- The text is UTF-8, one JSON text after another, cut at their ends. Their events were given, a document each, and the sink was given the
+-- bytes that were taken. If names must be unique, they are. If the writer was at the start of its first document, the bytes that were taken
+-- of it before, those that the sink was given, and those that then finish the stream, are together read as the values of the text.
 pub record SentTexts (depth : ℕ) (unique in_flow : Bool) (text : List ℕ) (was : WriterState) (before : Option (List ℕ)) (now : WriterState)
     (after : Option (List ℕ)) : Type 0 where
   pub parts : List (List ℕ × Json)
@@ -49,8 +49,8 @@ pub record SentTexts (depth : ℕ) (unique in_flow : Bool) (text : List ℕ) (wa
   pub reads : (given : Settings) (sent bytes : List ℕ) → StandsTaken given opening sent was.emitter → was.canonical ≡ given.canonical
       → Finishes now.emitter bytes → IsYamlOfTexts given in_flow depth text ((sent ++ handed) ++ bytes)
 
--- of these bytes, these are left: the texts before them were given, a document begun after each, and the sink was given what was
--- written of the documents
+-- Of these bytes, these are left: the texts before them were given, a document begun after each, and the sink was given the output of the
+-- documents.
 pub record SentSoFar (depth : ℕ) (in_flow unique : Bool) (text : List ℕ) (was : WriterState) (before : Option (List ℕ)) (rest : List ℕ) (now : WriterState)
     (after : Option (List ℕ)) : Type 0 where
   pub parts : List (List ℕ × Json)
@@ -64,7 +64,7 @@ pub record SentSoFar (depth : ℕ) (in_flow unique : Bool) (text : List ℕ) (wa
   pub wrote : WroteTaking was (events_with_separators was.canonical in_flow parts) handed now
   pub whole : ((parts ≡ []) × (handed ≡ [])) ⊎ IsAllTaken now.emitter
 
--- wherever the sending was, with these bytes ahead, these are left
+-- If the sending had these bytes ahead, these are left now.
 abbrev pub Advances : (depth : ℕ) → (in_flow unique : Bool) → List ℕ → WriterState → Option (List ℕ) → List ℕ → WriterState → Option (List ℕ) → Type 0
 Advances depth in_flow unique ahead before held left now holds =
     (text : List ℕ) (was : WriterState) (start : Option (List ℕ)) (more : List ℕ)
@@ -78,7 +78,7 @@ FailsNext before held _ after holds = ⊥
 
 -- ---- errors
 
--- the error of the emitter, where there is one
+-- The error of the emitter, if there is one.
 abbrev pub emitter_error : StreamError → Option yaml_error_t
 emitter_error (faults.Refused error) = writers_error error
 emitter_error _ = None
@@ -100,15 +100,15 @@ IsByReader (faults.Refused error) = error ≡ errors.Emitter Memory
 IsByReader (faults.ReadFailed error) = Unit {0}
 IsByReader _ = ⊥
 
--- what an error says of a text of which these tokens were taken, with those ahead: of nothing but UTF-8 a token is taken
+-- The error explains a text of which these tokens were taken, with those ahead. Tokens are taken only of UTF-8.
 abbrev pub StopsPartAt : (depth : ℕ) → (unique : Bool) → (text : List ℕ) → (taken left : List Token) → StreamError → Type 0
 StopsPartAt depth unique text taken left (faults.Refused error) =
     TokensStopAt depth unique text taken left error × (IsUtf8 text ⊎ ((taken ≡ []) × (IsOfText error → ⊥)))
 StopsPartAt depth unique text taken left (faults.NotText line column) = (taken ≡ []) × (IsUtf8 text → ⊥)
 StopsPartAt depth unique text taken left _ = taken ≡ []
 
--- a writer was given the events of a text's first tokens, and no more, for this reason; the error has its place there, counted from the
--- start of what came before the text
+-- A writer was given the events of a text's first tokens, and no more, for this reason; the error has its place there, counted from the
+-- start of the bytes that came before the text.
 pub record StopsInPart (depth : ℕ) (unique in_flow : Bool) (front text : List ℕ) (was : WriterState) (error : StreamError) (now : WriterState)
     : Type 0 where
   pub taken : List Token
@@ -118,19 +118,19 @@ pub record StopsInPart (depth : ℕ) (unique in_flow : Bool) (front text : List 
   pub place : HasPlaceWithin depth front text error
   pub adds : AddsEvents was.emitter (tokens_events was.canonical in_flow taken) now.emitter
 
--- the sink was given these bytes; where it failed, these and a beginning of what was offered to it then
+-- The sink was given these bytes; if it failed, these and a beginning of the bytes that were offered to it then.
 abbrev pub GivesSink : StreamError → (old new : Option (List ℕ)) → (handed offered : List ℕ) → Type 0
 GivesSink (faults.WriteFailed error) old new handed offered =
     (first : List ℕ) × IsPrefix first offered × Appends old new (handed ++ first)
 GivesSink _ old new handed offered = (offered ≡ []) × Appends old new handed
 
--- these documents weren't sent: none, or the last, where the writer failed
+-- These documents weren't sent: none, or the last if the writer failed.
 abbrev pub MayBeUnsent : StreamError → List (List ℕ × Json) → Type 0
 MayBeUnsent (faults.Refused (errors.Emitter error)) unsent = length unsent ≤ 1
 MayBeUnsent _ unsent = unsent ≡ []
 
--- of the documents of these texts, the sink was given whole ones, as a writer without an error has written them that was given no more
--- than these and the start of the next, and whose output is taken; nothing, where these are none
+-- Of the documents of these texts, the sink was given whole ones: the output of a writer without an error that was given no more than
+-- these and the start of the next, and whose output is taken; if there are none, nothing.
 pub record SentDocuments (in_flow : Bool) (parts : List (List ℕ × Json)) (was : WriterState) (before : Option (List ℕ)) (error : StreamError)
     (handed : List ℕ) (after : Option (List ℕ)) : Type 0 where
   pub sent : List (List ℕ × Json)
@@ -164,7 +164,7 @@ pub record StopsSending (depth : ℕ) (unique in_flow : Bool) (text : List ℕ) 
       AddsTaking was.emitter (events_with_separators was.canonical in_flow parts ++ tokens_events was.canonical in_flow taken) handed now.emitter
   pub documents : SentDocuments in_flow parts was before error handed after
 
--- wherever the sending was, with these bytes ahead, which begin at this place, it stops
+-- If the sending had these bytes ahead, which begin at this place, it stops.
 abbrev pub StopsWithin : (depth : ℕ) → (in_flow unique : Bool) → List ℕ → Place → WriterState → Option (List ℕ) → StreamError → WriterState
     → Option (List ℕ) → Type 0
 StopsWithin depth in_flow unique ahead place before held error now holds =
@@ -172,9 +172,9 @@ StopsWithin depth in_flow unique ahead place before held error now holds =
     → SentSoFar depth in_flow unique text was start (ahead ++ more) before held
     → StopsSending depth unique in_flow text was start error now holds
 
--- ---- what came
+-- ---- the input that came
 
--- what was held was scanned as far as is said; all of it
+-- The bytes that are held were scanned as far as the cut says; then all of them were.
 abbrev pub IsIncoming : {A : Type 0} → Incoming A → Type 0
 IsIncoming incoming = HasScanned incoming.held.items incoming.reading.cut
 
@@ -187,7 +187,7 @@ pub record LeavesLast (count : ℕ) (held : List ℕ) (cut : Cut) : Type 0 where
   pub scanned : HasScanned (drop (length held - count) held) cut
   pub all : cut.scanned ≡ length (drop (length held - count) held)
 
--- these bytes came more
+-- These bytes came after those.
 abbrev pub HasCome : {A : Type 0} → Incoming A → Option (List ℕ) → Incoming A → Option (List ℕ) → Type 0
 HasCome before ahead after left =
     (bytes : List ℕ) × (after.held.items ≡ before.held.items ++ bytes) × Consumes ahead left bytes

@@ -1,4 +1,4 @@
--- How far a text was taken, or the texts of a text, before an error: what the writer was given until then, and why no more.
+-- The part of a text, or of the texts of a text, that was taken before an error: the events that the writer was given, and why no more.
 use Rattle.std.specs.Prelude.{◌≡◌, ℕ, Bool, List, ◌∷◌, ◌++◌, flat_map, map}
 use Rattle.json.specs.Token.{Token}
 use Rattle.json.specs.Lex.{tokens}

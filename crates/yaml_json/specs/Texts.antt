@@ -1,4 +1,4 @@
--- The texts of JSON that follow one another in a text: where each ends, by brackets, quotes and blanks alone.
+-- The texts of JSON that follow one another in a text: the end of each, by brackets, quotes and blanks alone.
 use Rattle.std.specs.Prelude.{◌≡◌, ◌⊎◌, ℕ, suc, ◌-◌, ◌<◌, Bool, ◌||◌, ◌&&◌, ◌==◌, nat_le, Option, None, Some, List, [], ◌∷◌, ◌++◌, length, if◌then◌else◌}
 use Rattle.json.specs.Ascii as ascii
 use Rattle.json.specs.Word.{is_operator, is_space}
@@ -19,7 +19,7 @@ is_inner_byte byte = nat_le 128 byte && nat_le (suc byte) 192
 abbrev scan_at : Mode → ℕ → Scan
 scan_at mode levels = record { mode = mode; levels = levels }
 
--- a text begins, or a blank stands before it
+-- The scan after the first byte of a text, or after a blank before it.
 abbrev pub scan_first_byte : ℕ → Scan
 scan_first_byte byte =
     if is_space byte then scan_at Before 0
@@ -40,7 +40,7 @@ scan_in_string levels byte =
     if byte == ascii.backslash then scan_at AfterBackslash levels
     else (if byte == ascii.quote then (if levels == 0 then scan_at Behind 0 else scan_at Within levels) else scan_at InString levels)
 
--- after a byte of the same text, with the blanks after it; none where the byte begins the next text
+-- The scan after a byte of the same text and its blanks; none if the byte begins the next text.
 abbrev scan_by_mode : Mode → ℕ → ℕ → Option Scan
 scan_by_mode Before levels byte = Some (scan_first_byte byte)
 scan_by_mode Within levels byte = Some (scan_within levels byte)
@@ -62,7 +62,7 @@ abbrev pub cut_text_before : ℕ → Option Scan → (Scan → List (List ℕ)) 
 cut_text_before byte None more = [] ∷ onto_first byte (more (scan_first_byte byte))
 cut_text_before byte (Some scan) more = onto_first byte (more scan)
 
--- what is left of a text, and the texts after it
+-- The rest of a text, and the texts after it.
 abbrev pub texts_after : Scan → List ℕ → List (List ℕ)
 texts_after scan [] = [] ∷ []
 texts_after scan (byte ∷ bytes) = cut_text_before byte (after_byte scan byte) (λ next. texts_after next bytes)

@@ -6,7 +6,7 @@ use Rattle.yaml_base.specs.Event.{Event, scalar, sequence_start, sequence_end, m
 use Rattle.yaml_writer.specs.NumberParts.{number_in}
 use Rattle.yaml_writer.specs.Contents.{bool_content, collection_in, null_content, number_content, text_content}
 
--- the event of a token; what is no token of JSON has none
+-- The event of a token. A bad token has none.
 abbrev pub token_events : (canonical in_flow : Bool) → Token → List Event
 token_events canonical in_flow begin_object = mapping_start (collection_in in_flow) ∷ []
 token_events canonical in_flow end_object = mapping_end ∷ []

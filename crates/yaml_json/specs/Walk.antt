@@ -1,4 +1,4 @@
--- The walk over the tokens of a value: which arrays and objects are open after some of them, and what was given until there.
+-- The walk over the tokens of a value: the arrays and objects that are open after some of them, and the events that were given until there.
 use Rattle.std.specs.Prelude.{◌≡◌, ◌≢◌, ◌⊎◌, ℕ, ◌-◌, ◌<◌, ◌≤◌, Bool, true, false, not, Option, Some, option_and_then, List, [], ◌∷◌, ◌++◌, length}
 use Rattle.json.specs.Token.{Token}
 use Rattle.json.specs.Json.{Json, skip_value}
@@ -27,17 +27,17 @@ use Rattle.yaml_json.specs.declared.values.Stop.TheVariants as stops
 
 -- ---- the grammar
 
--- what is left once a collection is closed, of the tokens after some of its items or members; its values nest at most `depth` deep
+-- The tokens after a collection, of the tokens after some of its items or members; its values nest at most `depth` deep.
 abbrev pub skip_rest : CollectionKind → ℕ → List Token → Option (List Token)
 skip_rest Sequence depth ahead = skip_items depth ahead
 skip_rest Mapping depth ahead = skip_members depth ahead
 
--- what is left once each of these collections is closed, the outermost first, of what the innermost has ahead
+-- The tokens after each of these collections is closed, the outermost first, of the tokens that the innermost has ahead.
 abbrev pub unwind : ℕ → List CollectionKind → Option (List Token) → Option (List Token)
 unwind depth [] found = found
 unwind depth (kind ∷ inner) found = option_and_then (skip_rest kind (depth - 1)) (unwind (depth - 1) inner found)
 
--- after these tokens of a value these collections are open: whatever follows, the value is what closes them all
+-- After these tokens of a value these collections are open: whatever follows, the value ends when all are closed.
 abbrev pub LeavesOpenAt : ℕ → List Token → List CollectionKind → Type 0
 LeavesOpenAt depth taken levels = (length levels ≤ depth) × ((more : List Token) → skip_value depth (taken ++ more) ≡ unwind depth levels (Some more))
 
@@ -104,13 +104,13 @@ BeginsValueBy depth levels token now =
 abbrev pub GaveTokens : (in_flow : Bool) → WriterState → List Token → List CollectionKind → WriterState → Type 0
 GaveTokens in_flow was taken levels now = GivenLeaving was (tokens_events was.canonical in_flow taken) (was.levels ++ levels) now
 
--- wherever the writer stood, the events of these tokens were given more
+-- After the tokens that were given before, the events of these tokens were given.
 abbrev pub GivesTaken : (in_flow : Bool) → List CollectionKind → WriterState → List Token → List CollectionKind → WriterState → Type 0
 GivesTaken in_flow levels before taken opened after =
     (was : WriterState) (so : List Token) → GaveTokens in_flow was so levels before → GaveTokens in_flow was (so ++ taken) opened after
 
--- an allocation failed, and nothing changed; or, wherever the writer stood, the events of these tokens were given more, and its
--- emitter has this error
+-- An allocation failed, and nothing changed; or the events of these tokens were given after those before, and the writer failed with this
+-- error.
 abbrev pub FailsGiving : (in_flow : Bool) → List CollectionKind → WriterState → List Token → yaml_error_t → WriterState → Type 0
 FailsGiving in_flow levels before taken error after =
     ((error ≡ Memory) × (after ≡ before))
@@ -119,7 +119,7 @@ FailsGiving in_flow levels before taken error after =
 
 -- ---- the names
 
--- where names are kept, none comes twice among these tokens, and those of the arrays and objects that are open are kept
+-- If names are kept, none comes twice among these tokens, and those of the arrays and objects that are open are kept.
 abbrev pub KeepsNames : {A : Type 0} → List Token → Names A → Type 0
 KeepsNames so held = held.are_kept ≡ true → NamesOnce [] so × HaveNames held.few.items held.levels.items (all_names_after [] so)
 
@@ -127,7 +127,7 @@ KeepsNames so held = held.are_kept ≡ true → NamesOnce [] so × HaveNames hel
 abbrev pub FitsNames : {A : Type 0} → (unique : Bool) → List CollectionKind → Names A → Type 0
 FitsNames unique levels held = (held.are_kept ≡ unique) × (held.are_kept ≡ true → length held.levels.items ≡ length levels)
 
--- wherever they were kept, they are after these tokens more
+-- If they were kept before these tokens, they are kept after them.
 abbrev pub KeepsNamesAfter : {A : Type 0} → Names A → List Token → Names A → Type 0
 KeepsNamesAfter held taken later = (so : List Token) → KeepsNames so held → KeepsNames (so ++ taken) later
 
@@ -143,7 +143,7 @@ LeavesNames held later =
     (later.are_kept ≡ held.are_kept) × ((names : List (List (List ℕ))) → HoldsNames names held → HoldsNames (outer_names names) later)
     × (held.are_kept ≡ true → length later.levels.items ≡ length held.levels.items - 1)
 
--- where names are to come once, none comes twice among the tokens that were taken
+-- If names must be unique, none comes twice among the tokens that were taken.
 abbrev pub HasUniqueNames : (unique : Bool) → (before after : List Token) → Type 0
 HasUniqueNames unique before after = unique ≡ true → (taken : List Token) × (taken ++ after ≡ before) × NamesOnce [] taken
 
@@ -162,7 +162,7 @@ pub record BeginFailed (depth : ℕ) (in_flow : Bool) (token : Token) (levels : 
   pub begins : BeginsValueBy depth levels token opened
   pub fails : FailsGiving in_flow levels before (token ∷ []) error after
 
--- where the text breaks off at a token with which no value begins: at what follows the string of a name, or at the token
+-- The place at which the text breaks off, if no value begins with a token: after the string of a name, or at the token.
 abbrev pub spot_of : Token → Spot
 spot_of Token.begin_object = At
 spot_of Token.end_object = At
@@ -233,7 +233,7 @@ pub record IsInnermost (kind : CollectionKind) (levels : List CollectionKind) : 
   pub outer : List CollectionKind
   pub is : levels ≡ outer ++ kind ∷ []
 
--- the first tokens were given, and wherever the walk stood with these collections open, it stands with those now
+-- The first tokens were given; these collections were open in the walk, and those are now.
 pub record WalkedOn (depth : ℕ) (in_flow : Bool) (ahead : List Token) (levels : List CollectionKind) (before : WriterState) (after : List Token)
     (opened : List CollectionKind) (now : WriterState) : Type 0 where
   pub taken : List Token
@@ -242,8 +242,8 @@ pub record WalkedOn (depth : ℕ) (in_flow : Bool) (ahead : List Token) (levels 
   pub gives : GivesTaken in_flow levels before taken opened now
   pub moves : (so : List Token) → LeavesOpen depth so levels → LeavesOpen depth (so ++ taken) opened
 
--- wherever the walk stood with these collections open, the events of the first tokens were given, with which a value begins; then an
--- allocation failed, or the emitter
+-- In a walk with these collections open, the events of the first tokens were given, with which a value begins; then an allocation failed,
+-- or the emitter.
 pub record StepFailed (depth : ℕ) (in_flow : Bool) (ahead : List Token) (levels : List CollectionKind) (before : WriterState) (error : yaml_error_t)
     (now : WriterState) : Type 0 where
   pub taken : List Token
@@ -297,7 +297,7 @@ NoStringNext (Token.boolean flag ∷ after) = Unit {0}
 NoStringNext (Token.null ∷ after) = Unit {0}
 NoStringNext (Token.bad ∷ after) = Unit {0}
 
--- the next token is a name, and its string could stand there; or it is a string, and could as a name
+-- The next token is a name, and its string is possible there; or it is a string, and is possible as a name.
 abbrev pub CouldStandOther : (taken left : List Token) → Type 0
 CouldStandOther taken left =
     (text : List ℕ) × ((after : List Token)
@@ -313,11 +313,11 @@ IsSpot depth unique At taken left = GoesOn depth unique taken × NoStringNext le
 IsSpot depth unique PastString taken left = CouldStandOther taken left
 IsSpot depth unique PastValue taken left = IsWholeValue taken × (left ≢ [])
 
--- the next token is no name whose string could stand there
+-- The next token is no name whose string is possible there.
 abbrev pub NoStringStands : (taken left : List Token) → Type 0
 NoStringStands taken left = (text : List ℕ) (after : List Token) → left ≡ Token.key text ∷ after → BeginsSome (taken ++ Token.string text ∷ []) → ⊥
 
--- where the text stops the writing after these tokens, with those ahead
+-- The place at which the text stops the writing after these tokens, with those ahead.
 abbrev pub WhereStopped : (depth : ℕ) → (unique : Bool) → (taken left : List Token) → Stop → Type 0
 WhereStopped depth unique taken left (stops.NotJson spot) = IsSpot depth unique spot taken left
 WhereStopped depth unique taken left stops.TooDeep = GoesOn depth unique taken × NoStringNext left
@@ -325,7 +325,7 @@ WhereStopped depth unique taken left stops.NameAgain = GoesOn depth unique taken
 WhereStopped depth unique taken left stops.Memory = Unit {0}
 WhereStopped depth unique taken left stops.Failed = Unit {0}
 
--- these tokens were left when the last was read: those ahead, and where a value is whole, its last before them
+-- These tokens were left when the last was read: those ahead, and before them, if a value is whole, its last.
 abbrev pub WereLeft : Stop → (taken left before : List Token) → Type 0
 WereLeft (stops.NotJson PastValue) taken left before =
     (front : List Token) × ((last : Token) × ((taken ≡ front ++ last ∷ []) × (before ≡ last ∷ left)))
@@ -336,8 +336,8 @@ abbrev pub StopsInside : Stop → Type 0
 StopsInside (stops.NotJson PastValue) = ⊥
 StopsInside _ = Unit {0}
 
--- wherever the walk stood with these collections open and these names taken, the events of the first of the tokens ahead were given,
--- and then the text stops it, with these left
+-- In a walk with these collections open and these names taken, the events of the first of the tokens ahead were given, and then the text
+-- stops it, with these left.
 pub record Refuses {A : Type 0} (depth : ℕ) (unique in_flow : Bool) (levels : List CollectionKind) (held : Names A) (ahead left : List Token)
     (before : WriterState) (stop : Stop) (now : WriterState) : Type 0 where
   pub taken : List Token
@@ -366,7 +366,7 @@ StopsText depth unique in_flow text was stop now = (before : List Token) × Text
 
 -- ---- the whole walk
 
--- where the walk stands
+-- The state of the walk.
 pub record WalkProgress (depth : ℕ) (in_flow : Bool) (start : List Token) (was : WriterState) (ahead : List Token) (levels : List CollectionKind)
     (now : WriterState) : Type 0 where
   pub taken : List Token
@@ -374,9 +374,9 @@ pub record WalkProgress (depth : ℕ) (in_flow : Bool) (start : List Token) (was
   pub stood : GaveTokens in_flow was taken levels now
   pub stands : LeavesOpen depth taken levels
 
--- ---- what is returned to a caller
+-- ---- the error that is returned to a caller
 
--- the error says what the stop does of the text
+-- The error has the same meaning for the text as the stop.
 abbrev pub MatchesStop : (text : List ℕ) → Stop → JsonError → Type 0
 MatchesStop text (stops.NotJson spot) (errors.NotJson line column says) = is_marked text ≡ false
 MatchesStop text (stops.NotJson spot) (errors.Marked line column) = is_marked text ≡ true

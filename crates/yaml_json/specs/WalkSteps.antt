@@ -1,4 +1,4 @@
--- What the calls of a walk over the tokens of a text do, by their results.
+-- The calls of a walk over the tokens of a text, by their results.
 use Rattle.std.specs.Prelude.{◌≡◌, ℕ, true, IfSome, Result, Ok, Err, List, [], ◌∷◌}
 use Rattle.json.specs.Lex.{tokens}
 use Rattle.json.specs.Token.{Token}
@@ -16,7 +16,7 @@ use Rattle.yaml_json.specs.declared.settings.JsonSettings.{JsonSettings}
 use Rattle.yaml_json.specs.declared.values.Nesting.{Nesting}
 use Rattle.yaml_json.specs.declared.values.Stop.{Stop}
 
--- where a walk is: what is open, and the writer
+-- The state of a walk: the open arrays and objects, and the writer.
 pub record JsonWalk (A : Type 0) : Type 0 where
   pub nest : Nesting A
   pub writer : WriterState
@@ -73,7 +73,7 @@ FirstStep settings reader before (Err stop) left after = FirstStopped settings r
 
 -- ---- an item, a member, or an end
 
--- the first of the tokens ahead were given, and wherever the walk stood, it stands after them
+-- The first of the tokens ahead were given, and the walk is after them.
 pub record Walked {A : Type 0} (settings : JsonSettings) (reader : Reader) (before : JsonWalk A) (left : Reader) (after : JsonWalk A)
     : Type 0 where
   pub stepped : WalkedOn settings.depth settings.flow reader.ahead before.nest.kinds.items before.writer left.ahead after.nest.kinds.items after.writer

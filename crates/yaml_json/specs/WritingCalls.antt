@@ -1,4 +1,4 @@
--- What the calls do that write JSON texts, by their results.
+-- The calls that write JSON texts, by their results.
 use Rattle.std.specs.Prelude.{ℕ, Bool, Result, Ok, Err, Vec, IfSome, List}
 use Rattle.yaml_base.specs.Settings.{Settings}
 use Rattle.yaml_emitter.specs.Given.{seen_settings}
@@ -15,15 +15,15 @@ use Rattle.yaml_json.specs.declared.settings.JsonSettings.{JsonSettings}
 
 -- ---- a text
 
--- the text is JSON, and the writer was given its events; what was written before stays, and the emitter has no error
+-- The text is JSON, and the writer was given its events; earlier output stays, and the emitter has no error.
 pub record TextWritten (settings : JsonSettings) (text : List ℕ) (was now : WriterState) : Type 0 where
   pub grows : Grows was.emitter.page now.emitter.page
   pub sound : IsSound was (Ok tt) now
   pub written : WroteText settings.depth settings.flow text was now
   pub names : HasNamesOnce settings.unique_names text
 
--- the writer was given the events of the text's first tokens, and no more, since the text is refused or the writer failed; what was
--- written before stays, and an error of the emitter is the one that is returned
+-- The writer was given the events of the text's first tokens, and no more, since the text is refused or the writer failed; earlier output
+-- stays, and an error of the emitter is the one that is returned.
 pub record TextUnwritten (settings : JsonSettings) (text : List ℕ) (was : WriterState) (error : JsonError) (now : WriterState) : Type 0 where
   pub grows : Grows was.emitter.page now.emitter.page
   pub sound : IsSound was (Err error) now
@@ -37,7 +37,7 @@ WritesText settings text was (Err error) now = TextUnwritten settings text was e
 
 -- ---- the texts in a text
 
--- they are JSON, and the writer was given their events, a document each, which is read as their values where it is all the stream
+-- They are JSON, and the writer was given their events, a document each. If these are all the stream, it is read as their values.
 pub record TextsWritten (settings : JsonSettings) (text : List ℕ) (was now : WriterState) : Type 0 where
   pub grows : Grows was.emitter.page now.emitter.page
   pub sound : IsSound was (Ok tt) now
@@ -57,7 +57,7 @@ WritesTexts settings text was (Err error) now = TextsUnwritten settings text was
 
 -- ---- the YAML of a text
 
--- the text is JSON, with each name once where that is asked for, and these bytes are its YAML
+-- The text is JSON, with unique names if that is asked for, and these bytes are its YAML.
 pub record HasYaml (given : Settings) (in_flow : Bool) (depth : ℕ) (unique : Bool) (text bytes : List ℕ) : Type 0 where
   pub stream : IsYamlOf given in_flow depth text bytes
   pub names : HasNamesOnce unique text

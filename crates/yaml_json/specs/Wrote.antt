@@ -1,4 +1,4 @@
--- What a value of JSON comes to for the writer that it is given to, and what is left of the reader's tokens.
+-- The events of a value of JSON that a writer was given, and the tokens that the reader has left.
 use Rattle.std.specs.Prelude.{◌≡◌, ℕ, Bool, Some, List, [], ◌∷◌, ◌++◌, flat_map, map, true}
 use Rattle.json.specs.Token.{Token}
 use Rattle.json.specs.Lex.{tokens}
@@ -39,7 +39,7 @@ parts_events canonical in_flow (part ∷ []) = json_events canonical in_flow par
 parts_events canonical in_flow (part ∷ next ∷ rest) =
     json_events canonical in_flow part.1 ++ document_end true ∷ plain_start ∷ parts_events canonical in_flow (next ∷ rest)
 
--- the text is one JSON text after another, where each ends; their events were given, a document each
+-- The text is one JSON text after another, cut at their ends; their events were given, a document each.
 pub record WroteTexts (depth : ℕ) (in_flow : Bool) (text : List ℕ) (was now : WriterState) : Type 0 where
   pub parts : List (List ℕ × Json)
   pub cut : map (λ part. part.0) parts ≡ texts_in text
@@ -57,8 +57,8 @@ pub record IsYamlOfTexts (given : Settings) (in_flow : Bool) (depth : ℕ) (text
   pub reads : ReadsAsValues given.breaks12 bytes (map (λ part. part.1) parts)
   pub reads_with_either_breaks : given.portable ≡ true → (breaks12 : Bool) → ReadsAsValues breaks12 bytes (map (λ part. part.1) parts)
 
--- where the writer was at the start of its first document, the stream that it then finishes, with what was taken of it before,
--- is read as the values of the text
+-- If the writer was at the start of its first document, the stream that it then finishes, with the bytes that were taken of it before, is
+-- read as the values of the text.
 abbrev pub ReadsTexts : (depth : ℕ) → (in_flow : Bool) → (text : List ℕ) → WriterState → WriterState → Type 0
 ReadsTexts depth in_flow text was now =
     (given : Settings) (sent bytes : List ℕ) → StandsTaken given opening sent was.emitter → was.canonical ≡ given.canonical → Finishes now.emitter bytes

@@ -27,7 +27,7 @@ pub(crate) enum Mode {
     Behind,
 }
 
-/// The state of a scan: where it is, and how many brackets and braces are open.
+/// The state of a scan: its mode, and the number of open brackets and braces.
 #[derive(Clone, Copy)]
 pub(crate) struct Scan {
     pub(crate) mode: Mode,
@@ -54,7 +54,7 @@ fn is_inner(byte: u8) -> bool
 }
 
 /// Returns the scan after the first byte of a text, or after a blank before it.
-fn begun(byte: u8) -> Scan
+fn first_scan(byte: u8) -> Scan
     ensures { result ≡ scan_first_byte byte }
 {
     if is_blank(byte) {
@@ -159,13 +159,13 @@ fn inside(scan: Scan, byte: u8) -> Scan
     }
 }
 
-/// Returns the scan after a byte more of the same text; `None` where the byte begins the next text.
+/// Returns the scan after a byte more of the same text; `None` if the byte begins the next text.
 fn step(scan: Scan, byte: u8) -> Option<Scan>
     requires { scan.levels + 1 < 2 ^ 64 }
     ensures { result ≡ after_byte scan byte }
 {
     match scan.mode {
-        Mode::Before => Some(begun(byte)),
+        Mode::Before => Some(first_scan(byte)),
         Mode::Within | Mode::InString => Some(inside(scan, byte)),
         Mode::AfterBackslash => Some(Scan {
             mode: Mode::InString,
@@ -293,7 +293,8 @@ fn pass_bytes(text: &[u8], cut: Cut) -> Cut
     next
 }
 
-/// Scans a text from where the scan stopped. Returns where the text after the first begins; where there is none, all is scanned.
+/// Scans a text from the place at which the scan stopped. Returns the place at which the text after the first begins. If there is none,
+/// all is scanned.
 pub(crate) fn find_end(text: &[u8], cut: &mut Cut) -> Option<usize>
     requires { HasScanned text.now cut.old }
     ensures { MatchOption result (HasScanned text.now cut.new × (cut.new.scanned ≡ length text.now)) (CutsAt text.now) }
@@ -314,7 +315,7 @@ pub(crate) fn find_end(text: &[u8], cut: &mut Cut) -> Option<usize>
     None
 }
 
-/// Returns the first JSON text of a text, with the blanks after it, and what follows it.
+/// Returns the first JSON text of a text, with the blanks after it, and the rest.
 pub(crate) fn first_cut(text: &str) -> (&str, &str)
     ensures { CutsFirstText text.now result.0.now result.1.now }
 {
@@ -324,8 +325,8 @@ pub(crate) fn first_cut(text: &str) -> (&str, &str)
     }
 }
 
-/// Returns where the JSON text begins that an offset in bytes is in, of those that follow one another in a text. The offset must be
-/// before the text's end.
+/// Returns the offset at which a JSON text begins: of the JSON texts that follow one another in a text, the one that holds this offset.
+/// Offsets are in bytes. The given one must be before the text's end.
 pub fn text_around(text: &[u8], offset: usize) -> usize
     requires { offset < length text.now }
     ensures { HasInText text.now offset result }

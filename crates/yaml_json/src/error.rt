@@ -9,9 +9,9 @@ use yaml_writer::yaml_error_t;
 /// The reason why a text isn't written as YAML.
 #[derive(Clone, Copy, Debug, Drop, Error, PartialEq, Eq)]
 pub enum JsonError {
-    /// The text is no JSON. The first bracket, string, word, comma or colon that can't stand where it stands begins here; where the
-    /// text ends too early, this is its end. Lines end with LF, and both numbers count from 1, columns in characters. It says what could
-    /// stand there, by the bytes before.
+    /// The text is no JSON. The first bracket, string, word, comma or colon that isn't possible at its place begins here; if the text
+    /// ends too early, this is its end. Lines end with LF, and both numbers count from 1, columns in characters. `expected` names the
+    /// input that is possible here, by the bytes before.
     #[error("line {line}, column {column}: {expected}")]
     NotJson {
         line: usize,
@@ -36,8 +36,8 @@ pub enum JsonError {
         line: usize,
         column: usize,
     },
-    /// The bytes pass the limit (`WriteError`), or an allocation failed (`Memory`). Where more than 1,000,000 levels were allowed,
-    /// the emitter refuses what lies deeper than that (`TooDeep`).
+    /// The bytes pass the limit (`WriteError`), or an allocation failed (`Memory`). If more than 1,000,000 levels were allowed,
+    /// the emitter refuses any deeper level (`TooDeep`).
     #[error("{0}")]
     Emitter(yaml_error_t),
 }

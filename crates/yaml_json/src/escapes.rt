@@ -83,7 +83,7 @@ fn letter_meaning(letter: u8) -> Option<char>
     Some(character)
 }
 
-/// Returns the character of an escape, by what follows its backslash, and the number of bytes of the escape after the backslash.
+/// Returns the character of an escape, by the text after its backslash, and the number of bytes of the escape after the backslash.
 fn escape(text: &[u8]) -> Option<(char, usize)>
     ensures { Unescapes after_backslash text.now result }
 {

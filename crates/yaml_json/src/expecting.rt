@@ -1,4 +1,4 @@
-//! The input that could stand where a JSON text breaks off, found in the bytes before. It is looked for after an error, and needs no
+//! The input that is possible at the place where a JSON text breaks off, by the bytes before. It is looked for after an error, and needs no
 //! memory: the open brackets are counted first, and then the last that makes as many is the innermost.
 ghost use Rattle.std.specs.Prelude.{◌≡◌, ◌+◌, ◌<◌, ◌≤◌, ◌^◌, List, None, true};
 ghost use Rattle.yaml_json.specs.Expected as meaning;
@@ -8,7 +8,7 @@ use crate::words::is_blank;
 use std::fmt;
 use yaml_writer::CollectionKind;
 
-/// The input that could stand where a text breaks off.
+/// The input that is possible at the place where a text breaks off.
 #[derive(Clone, Copy, Debug, Drop, PartialEq, Eq)]
 pub enum Expected {
     /// A JSON text: there are blanks alone.
@@ -34,7 +34,7 @@ pub enum Expected {
 }
 
 impl Expected {
-    /// Returns what an error says.
+    /// Returns the words of an error.
     pub fn words(self) -> &'static str
         ensures { result.now ≡ meaning.words self }
     {
@@ -64,11 +64,11 @@ impl fmt::Display for Expected {
 pub(crate) enum Quoting {
     Outside,
     Inside,
-    /// A backslash stands before it.
+    /// A backslash precedes it.
     Escaped,
 }
 
-/// The kind of token that stands last in some bytes of a text.
+/// The kind of the last token in some bytes of a text.
 #[derive(Clone, Copy)]
 pub(crate) enum Last {
     /// Blanks alone.
@@ -77,7 +77,7 @@ pub(crate) enum Last {
     Opener,
     Comma,
     Colon,
-    /// The first string or word behind a bracket or a comma.
+    /// The first string or word after a bracket or a comma.
     First,
     /// Any other token that ends a value.
     Value,
@@ -98,7 +98,7 @@ pub(crate) struct Front {
     pub(crate) depth: Depth,
 }
 
-/// Returns what stands last after a byte that is outside of strings, or that begins one.
+/// Returns the kind of the last token after a byte that is outside of strings, or that begins one.
 fn last_after(last: Last, byte: u8) -> Last
     ensures { result ≡ meaning.last_after last byte }
 {
@@ -120,7 +120,7 @@ fn last_after(last: Last, byte: u8) -> Last
     }
 }
 
-/// Returns the depth where one bracket fewer is open.
+/// Returns the depth with one open bracket less.
 fn shallower(depth: Depth, deep: usize) -> Depth
     ensures is { (kinds : List CollectionKind) → meaning.IsDepth deep kinds depth → meaning.IsDepth deep (meaning.open_by None true kinds) result }
     ensures few { result.count ≤ depth.count + 1 }
@@ -191,7 +191,7 @@ fn front_after(front: Front, deep: usize, byte: u8) -> Front
     }
 }
 
-/// Returns where a text is after these bytes, and of which kind the bracket is that makes as many as `deep`.
+/// Returns the state of a text after these bytes, with the kind of the open bracket that is number `deep`.
 fn front_of(bytes: &[u8], deep: usize) -> Front
     ensures { meaning.IsFront deep (meaning.standing_over meaning.start bytes.now) result }
 {
@@ -211,7 +211,7 @@ fn front_of(bytes: &[u8], deep: usize) -> Front
     front
 }
 
-/// Returns what could stand after what stands last, within a bracket of this kind.
+/// Returns the input that is possible after a last token, within a bracket of this kind.
 fn expected_by(last: Last, kind: Option<CollectionKind>) -> Expected
     ensures { result ≡ meaning.expected_by last kind }
 {
@@ -234,7 +234,7 @@ fn is_nothing(last: Last) -> bool
     matches!(last, Last::Nothing)
 }
 
-/// Returns what could stand at an offset of a text.
+/// Returns the input that is possible at an offset of a text.
 pub(crate) fn expected_at(text: &str, at: usize) -> Expected
     ensures { result ≡ meaning.expected_at text.now at }
 {

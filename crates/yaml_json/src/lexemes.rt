@@ -10,7 +10,7 @@ ghost use Rattle.yaml_json.specs.Lexemes.{ArePlain, is_stop};
 use crate::words::is_blank;
 use std::simd::prelude::*;
 
-/// Returns what follows the blanks that a text begins with.
+/// Returns the text after the blanks that a text begins with.
 #[inline(always)]
 pub(crate) fn skip_blanks(text: &str) -> &str
     ensures same { lex between result.now ≡ lex between text.now }
@@ -40,7 +40,7 @@ fn is_stop(byte: u8) -> bool
     (byte == b'"') | (byte == b'\\') | (byte < 0x20)
 }
 
-/// Returns the first quote, backslash or control byte from a place on; the text's end where there is none.
+/// Returns the first quote, backslash or control byte from a place on; if there is none, the text's end.
 pub(crate) fn plain_end(text: &[u8], from: usize) -> usize
     requires { from ≤ length text.now }
     ensures { ArePlain text.now from result }
@@ -59,7 +59,7 @@ pub(crate) fn plain_end(text: &[u8], from: usize) -> usize
     at
 }
 
-/// Returns what follows the string whose content begins at a place; nothing where it isn't closed.
+/// Returns the text after the string whose content begins at a place; nothing if the string isn't closed.
 pub(crate) fn after_string(text: &str, from: usize) -> &str
     requires { from ≤ length text.now }
     ensures same { lex between result.now ≡ lex in_string (drop from text.now) }

@@ -13,17 +13,17 @@ const MOST_LISTED: usize = 16;
 /// The names of an array or object that is open. An array has none.
 #[derive(Drop)]
 pub(crate) struct Level<'a, A: Allocator> {
-    /// The place in the list where its first names begin.
+    /// The place in the list at which its first names begin.
     pub(crate) first: usize,
     /// Its later names.
     pub(crate) many: BTreeSet<&'a str, A>,
 }
 
-/// The names in each array and object that is open, so that one which comes again is found.
+/// The names in each array and object that is open, by which a repeated name is found.
 #[derive(Drop)]
 pub(crate) struct Names<'a, A: Allocator> {
     alloc: A,
-    /// Else a name may come again, and nothing is kept.
+    /// Whether names are kept. Otherwise a name may be repeated.
     pub(crate) are_kept: bool,
     /// The first names of each, those of the innermost last.
     pub(crate) few: Vec<&'a str, A>,
@@ -32,7 +32,7 @@ pub(crate) struct Names<'a, A: Allocator> {
 }
 
 impl<'a, A: Allocator + Copy> Names<'a, A> {
-    /// Makes names where nothing is open.
+    /// Makes the names of no open object.
     pub(crate) fn new(alloc: A, are_kept: bool) -> Self
         ensures kept { result.are_kept ≡ are_kept }
         ensures holds { HoldsNames [] result }

@@ -13,7 +13,7 @@ use crate::values::{Spot, Stop};
 use crate::words::{is_delimiter, is_operator};
 use yaml_base::place_of;
 
-/// Returns what follows the word whose first byte is before a place.
+/// Returns the text after the word whose first byte is before a place.
 fn after_word(text: &str, from: usize) -> &str
     requires { from ≤ length text.now }
     ensures same { lex between result.now ≡ lex in_word (drop from text.now) }
@@ -30,7 +30,7 @@ fn after_word(text: &str, from: usize) -> &str
     &text[bytes.len()..]
 }
 
-/// Returns what follows the bracket, string or word that begins at a place, and the blanks after it.
+/// Returns the text after the bracket, string or word that begins at a place, and after the blanks that follow it.
 fn after_lexeme(text: &str, from: usize) -> &str
     requires { from < length text.now }
     ensures { head (drop from text.now) ≢ 92 → IsTrimmed (drop from text.now) → PassesLexeme (drop from text.now) result.now }
@@ -45,7 +45,7 @@ fn after_lexeme(text: &str, from: usize) -> &str
     }
 }
 
-/// Returns the offset of what follows the lexeme that begins at an offset.
+/// Returns the offset at which the lexeme after that at an offset begins.
 fn past_lexeme(text: &str, from: usize) -> usize
     ensures within { result ≤ length text.now }
     ensures past { from < length text.now → head (drop from text.now) ≢ 92 → IsTrimmed (drop from text.now)
@@ -58,7 +58,7 @@ fn past_lexeme(text: &str, from: usize) -> usize
     }
 }
 
-/// Returns where a text stops the writing, by where the last token that was read begins.
+/// Returns the offset at which a text stops the writing, by the offset at which the last token that was read begins.
 pub(crate) fn offset_of(text: &str, last: usize, stop: Stop) -> usize
     requires { last ≤ length text.now }
     ensures { IsOffset text.now last stop result }

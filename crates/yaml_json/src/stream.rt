@@ -30,7 +30,7 @@ const NO_MEMORY: StreamError = StreamError::Refused(JsonError::Emitter(yaml_erro
 pub(crate) struct Reading<A: Allocator> {
     alloc: A,
     pub(crate) cut: Cut,
-    /// The place where the input begins that came and isn't written yet.
+    /// The place at which the input begins that came and isn't written yet.
     place: Place,
 }
 
@@ -112,8 +112,8 @@ fn write_bytes<'a, A: Allocator + Copy>(
     }
 }
 
-/// Returns the error of a text as one of all that came, where the text begins at this place.
-fn placed(error: StreamError, start: Place) -> StreamError
+/// Adds the text's start to the error's position.
+fn shifted_by(error: StreamError, start: Place) -> StreamError
     ensures says { (depth : ℕ) (unique : Bool) (all : List ℕ) (taken left : List Token) → StopsPartAt depth unique all taken left error
         → StopsPartAt depth unique all taken left result }
     ensures by_emitter { emitter_error result ≡ emitter_error error }
@@ -155,7 +155,7 @@ fn placed(error: StreamError, start: Place) -> StreamError
     }
 }
 
-/// Begins the next document, and sends on what is written.
+/// Begins the next document, and sends on the output.
 fn begin_next<A: Allocator + Copy, W: Write>(
     writer: &mut Writer<A>,
     sink: &mut W,
@@ -172,7 +172,7 @@ fn begin_next<A: Allocator + Copy, W: Write>(
     }
 }
 
-/// Keeps the last `count` bytes of what came.
+/// Keeps the last `count` bytes of the input that came.
 fn keep_last<A: Allocator + Copy>(incoming: &mut Incoming<A>, count: usize)
     requires { count ≤ length incoming.old.held.items }
     ensures kept { incoming.new.held.items ≡ drop (length incoming.old.held.items - count) incoming.old.held.items }
@@ -188,7 +188,7 @@ fn keep_last<A: Allocator + Copy>(incoming: &mut Incoming<A>, count: usize)
     incoming.held.truncate(count);
 }
 
-/// Gives a writer the texts that are complete in what came, and sends on what is written of each. Returns how many bytes are left.
+/// Gives a writer the texts that are complete in the input that came, and sends on the output of each. Returns how many bytes are left.
 fn write_texts<A: Allocator + Copy, W: Write>(
     writer: &mut Writer<A>,
     sink: &mut W,
@@ -209,7 +209,7 @@ fn write_texts<A: Allocator + Copy, W: Write>(
         let (first, more) = rest.split_at(end);
         if let Err(error) = write_bytes(&mut room, writer, first, settings) {
             let done = &held[..held.len() - rest.len()];
-            return Err(placed(error, reading.place.after(done)));
+            return Err(shifted_by(error, reading.place.after(done)));
         }
         if let Err(error) = begin_next(writer, sink) {
             return Err(error);
@@ -220,7 +220,7 @@ fn write_texts<A: Allocator + Copy, W: Write>(
     Ok(rest.len())
 }
 
-/// Gives a writer the texts that are complete in what came, sends on what is written of each, and drops their bytes.
+/// Gives a writer the texts that are complete in the input that came, sends on the output of each, and drops their bytes.
 fn write_complete<A: Allocator + Copy, W: Write>(
     writer: &mut Writer<A>,
     sink: &mut W,
@@ -255,27 +255,27 @@ fn write_last<A: Allocator + Copy>(
     let arena = Bump::new(reading.alloc);
     let mut room = Room::new(reading.alloc, &arena, settings.unique_names);
     if let Err(error) = write_bytes(&mut room, writer, text, settings) {
-        return Err(placed(error, reading.place));
+        return Err(shifted_by(error, reading.place));
     }
     Ok(())
 }
 
 /// Reads JSON texts that follow one another to the reader's end, and gives their events to a writer, as `write_json_texts` does:
 /// a document each, the first as the document that the writer is in. A text is known to be complete once the next one begins:
-/// then the next document is begun, and the sink is given what is written until then. The last text's document is left to the
+/// then the next document is begun, and the sink is given the output until then. The last text's document is left to the
 /// writer.
 ///
 /// No more is held than a part of 65,536 bytes, a text that isn't complete, and the YAML of its document. The sink is flushed
 /// after each part.
 ///
 /// The writer must have no anchor and no tag for the next node. After `Ok` the reader is at its end, the writer has no anchor and no
-/// tag again, and its emitter has no error. Whatever is returned, what was written before stays.
+/// tag again, and its emitter has no error. Whatever is returned, earlier output stays.
 ///
 /// # Errors
 ///
-/// `Refused` as by `write_json_texts`; `NotText` where a text isn't UTF-8; `ReadFailed` and `WriteFailed`. Until then the sink was
+/// `Refused` as by `write_json_texts`; `NotText` if a text isn't UTF-8; `ReadFailed` and `WriteFailed`. Until then the sink was
 /// given whole documents, those of the texts before the one that is refused. A sink that failed has a beginning of their bytes, and
-/// the writer still has what was offered to it last.
+/// the writer still has the bytes that were offered to it last.
 pub fn send_json_texts<A: Allocator + Copy, R: Read, W: Write>(
     alloc: A,
     writer: &mut Writer<A>,

@@ -124,19 +124,19 @@ pub(crate) fn write_text_by<A: Allocator + Copy>(
 }
 
 /// Gives a writer the events of a JSON text, by all of these settings but those of a writer. Arrays and objects may nest
-/// `settings.depth` deep. Each of them stands in flow if `settings.flow` is set, else in a block, where it isn't empty. Keys keep
+/// `settings.depth` deep. Each of them is in flow if it is empty or `settings.flow` is set, else in a block. Keys keep
 /// their order. A key may come once in an object if `settings.unique_names` is set; else it is written as often as it comes.
 ///
 /// The writer must have no anchor and no tag for the next node. After `Ok` it was given exactly the text's events, has no anchor and
-/// no tag again, and its emitter has no error. Whatever is returned, what was written before stays.
+/// no tag again, and its emitter has no error. Whatever is returned, earlier output stays.
 ///
 /// # Errors
 ///
-/// `NotJson` where the text isn't JSON up to the place that it names: a token that can't stand there, or the text's end. It says what
-/// could stand there. `Marked` in its place where the text begins with a byte order mark.
-/// `TooDeep` where the text is JSON up to an array or an object that opens too deep, `DuplicateName` where it is JSON up to a key
+/// `NotJson` if the text isn't JSON up to the place that it names: a token that isn't possible there, or the text's end. It names the
+/// input that is possible there. `Marked` in its place if the text begins with a byte order mark.
+/// `TooDeep` if the text is JSON up to an array or an object that opens too deep, `DuplicateName` if it is JSON up to a key
 /// that its object has already and may have once. `Emitter` with the error of the writer's
-/// emitter, which has it now, or with `Memory` where an allocation fails. After an error the writer was given exactly the events of the
+/// emitter, which has it now, or with `Memory` if an allocation fails. After an error the writer was given exactly the events of the
 /// tokens before, and its emitter has no error that it hadn't before, unless it is the one that is returned.
 pub fn write_json<A: Allocator + Copy>(
     alloc: A,
@@ -159,8 +159,8 @@ pub fn write_json<A: Allocator + Copy>(
 /// # Errors
 ///
 /// `NotJson`, `Marked`, `TooDeep` and `DuplicateName` as by `write_json`. `Emitter` with
-/// `WriteError` where the bytes pass the limit, with `Memory` where an allocation fails, and with `TooDeep` where arrays and
-/// objects nest more than 1,000,000 deep and `settings.depth` allows it. No other error of the writer comes.
+/// `WriteError` if the bytes pass the limit, with `Memory` if an allocation fails, and with `TooDeep` if arrays and objects
+/// nest more than 1,000,000 deep and `settings.depth` allows it. No other error of the writer comes.
 pub fn yaml_from_json<A: Allocator + Copy>(
     alloc: A,
     text: &str,

@@ -20,11 +20,11 @@ use std::marker::Model;
 /// The tokens that may come next.
 #[derive(Clone, Copy)]
 pub(crate) enum Stage {
-    /// A value or a key, or what closes.
+    /// A value, a key, or a bracket or a brace that closes.
     Open,
     /// A bracket or a brace that closes: after a value, no comma read.
     Behind,
-    /// A value or a key: a comma stands before.
+    /// A value or a key: a comma precedes it.
     Owed,
     /// Nothing: a token was bad.
     Over,
@@ -44,7 +44,7 @@ impl Stage {
     }
 }
 
-/// A token, and what follows it and the blanks, the colon or the comma after it.
+/// A token, and the text after it and after the blanks, the colon or the comma that follow it.
 #[derive(Clone, Copy, Drop)]
 pub(crate) struct Step<'a> {
     pub(crate) token: Token<'a>,
@@ -107,7 +107,7 @@ fn opening<'a>(token: Token<'a>, text: &'a str) -> Step<'a>
     }
 }
 
-/// Returns a token that ends a value, and what follows the blanks after it.
+/// Returns a token that ends a value, and the text after it and the blanks that follow it.
 #[inline(always)]
 fn ending<'a>(token: Token<'a>, text: &'a str) -> Step<'a>
     requires { IsTrimmed text.now }
@@ -128,7 +128,7 @@ fn ending<'a>(token: Token<'a>, text: &'a str) -> Step<'a>
     }
 }
 
-/// Returns a string with this content, and what follows it.
+/// Returns a string with this content, and the text after it.
 #[inline(always)]
 fn string_step<'a>(content: &'a str, after: &'a str) -> Step<'a>
     ensures steps { StepsFrom may_begin (token (spec.string content.now) ∷ lex between after.now) result }
@@ -230,7 +230,7 @@ fn beginning<'a, A: Allocator + Copy>(
     }
 }
 
-/// Returns what comes where no text is left: a bad token where a value or a key is owed.
+/// Returns the step at the end of the text: to a bad token if a value or a key is owed.
 fn at_end<'a>(text: &'a str, stage: Stage) -> Option<Step<'a>>
     requires over { stage ≢ Stage.Over }
     requires none { text.now ≡ [] }
@@ -243,7 +243,7 @@ fn at_end<'a>(text: &'a str, stage: Stage) -> Option<Step<'a>>
     }
 }
 
-/// Returns the next token, which may be bad; `None` where there is none.
+/// Returns the next token, which may be bad; `None` if there is none.
 #[inline(always)]
 fn read<'a, A: Allocator + Copy>(
     alloc: A,
@@ -292,7 +292,7 @@ impl<'a, A: Allocator + Copy> Tokens<'a, A> {
         }
     }
 
-    /// Returns where the last token begins, by an offset in bytes; the text's end where there was none.
+    /// Returns the offset in bytes at which the last token begins; if there was none, the text's end.
     pub fn last_offset(&self) -> usize
         ensures { AreFrom self.now.text self.now.before result }
     {
@@ -311,11 +311,11 @@ impl<'a, A: Allocator + Copy> Tokens<'a, A> {
         }
     }
 
-    /// Returns the next token; `None` where there is none.
+    /// Returns the next token; `None` if there is none.
     ///
     /// # Errors
     ///
-    /// Where an allocation fails.
+    /// `AllocError` if an allocation fails.
     #[inline(always)]
     pub fn next(&mut self) -> Result<Option<Token<'a>>, AllocError>
         ensures value { IfOk result (λ found. MatchOption found ((self.old.ahead ≡ []) × (self.new.ahead ≡ []))

@@ -1,4 +1,4 @@
-//! Values of JSON, token by token from a reader to a writer. The arrays and objects that are open stand in a list.
+//! Values of JSON, token by token from a reader to a writer. The arrays and objects that are open are in a list.
 ghost use Rattle.std.specs.Prelude.{◌≡◌, ◌≢◌, [], ◌∷◌, ◌-◌, length, take, IfErr, IfOk, MatchOption};
 ghost use Rattle.json.specs.Print.{IsPrintable};
 ghost use Rattle.json.specs.Reads.{token_of};
@@ -19,7 +19,7 @@ use yaml_writer::{
     YAML_FLOW_MAPPING_STYLE, YAML_FLOW_SEQUENCE_STYLE, yaml_error_t,
 };
 
-/// The place of a token that can't stand there, by where the last token that was read begins.
+/// The place of a token that isn't possible there, relative to the last token that was read.
 #[derive(Clone, Copy)]
 pub(crate) enum Spot {
     /// It is the last token, or the text ends there.
@@ -33,9 +33,9 @@ pub(crate) enum Spot {
 /// The reason why a value isn't written.
 #[derive(Clone, Copy)]
 pub(crate) enum Stop {
-    /// A token can't stand where it stands, or the text ends too early, here.
+    /// A token isn't possible at its place, or the text ends too early, here.
     NotJson(Spot),
-    /// An array or an object lies too deep.
+    /// An array or an object is too deep.
     TooDeep,
     /// The last token that was read is a name that its object has.
     NameAgain,
@@ -54,7 +54,7 @@ pub(crate) struct Nesting<'a, A: Allocator> {
 }
 
 impl<'a, A: Allocator + Copy> Nesting<'a, A> {
-    /// Makes a nesting where nothing is open.
+    /// Makes a nesting with nothing open.
     pub(crate) fn new(alloc: A, unique_names: bool) -> Self
         ensures { HasNoneOpen unique_names result }
     {

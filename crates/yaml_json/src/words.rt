@@ -1,5 +1,5 @@
-//! Words of a JSON text (RFC 8259, sections 3 and 6): numbers, and the names of three values. Each part of a number has a function, which
-//! takes a text and the part's place, and returns the place after the part.
+//! Words of a JSON text (RFC 8259, sections 3 and 6): numbers, and the names of three values. Each part of a number has a
+//! function, which takes a text and the part's place, and returns the place after the part.
 ghost use Rattle.std.specs.Prelude.{◌≡◌, ◌≢◌, ℕ, ◌+◌, ◌<◌, ◌≤◌, ◌||◌, Bool, IfSome, drop, length, map};
 ghost use Rattle.std.specs.Char.{is_ascii_digit};
 ghost use Rattle.std.specs.List.{prefix_len};
@@ -54,7 +54,7 @@ fn no_digits(bytes: u8x16) -> u64
         .to_bitmask()
 }
 
-/// Returns where the digits end that begin at a place. A vector holds most runs of them.
+/// Returns the end of the digits that begin at a place. A vector holds most runs of them.
 fn past_digits(text: &[u8], from: usize) -> usize
     requires { from ≤ length text.now }
     ensures run { result ≡ from + prefix_len is_ascii_digit (drop from text.now) }
@@ -73,7 +73,7 @@ fn past_digits(text: &[u8], from: usize) -> usize
     at
 }
 
-/// Returns where one digit or more end that begin at a place.
+/// Returns the end of the digits, one or more, that begin at a place.
 fn digits_end(text: &[u8], from: usize) -> Option<usize>
     requires { from ≤ length text.now }
     ensures { LeavesAt text.now result (after_digits (drop from text.now)) }
@@ -82,7 +82,7 @@ fn digits_end(text: &[u8], from: usize) -> Option<usize>
     if end > from { Some(end) } else { None }
 }
 
-/// Returns where the integer of a number ends: one zero, or digits.
+/// Returns the end of the integer of a number: one zero, or digits.
 fn integer_end(text: &[u8], from: usize) -> Option<usize>
     requires { from ≤ length text.now }
     ensures { LeavesAt text.now result (after_whole (drop from text.now)) }
@@ -93,7 +93,7 @@ fn integer_end(text: &[u8], from: usize) -> Option<usize>
     }
 }
 
-/// Returns where the fraction of a number ends, which may be missing.
+/// Returns the end of the fraction of a number, which may be missing.
 fn fraction_end(text: &[u8], from: usize) -> Option<usize>
     requires { from ≤ length text.now }
     ensures { LeavesAt text.now result (after_fraction (drop from text.now)) }
@@ -104,7 +104,7 @@ fn fraction_end(text: &[u8], from: usize) -> Option<usize>
     }
 }
 
-/// Returns where the sign and the digits of an exponent end.
+/// Returns the end of the sign and the digits of an exponent.
 fn power_end(text: &[u8], from: usize) -> Option<usize>
     requires { from ≤ length text.now }
     ensures { LeavesAt text.now result (after_digits (after_sign (drop from text.now))) }
@@ -115,7 +115,7 @@ fn power_end(text: &[u8], from: usize) -> Option<usize>
     }
 }
 
-/// Returns where the exponent of a number ends, which may be missing.
+/// Returns the end of the exponent of a number, which may be missing.
 fn exponent_end(text: &[u8], from: usize) -> Option<usize>
     requires { from ≤ length text.now }
     ensures { LeavesAt text.now result (after_exponent (drop from text.now)) }
@@ -126,8 +126,7 @@ fn exponent_end(text: &[u8], from: usize) -> Option<usize>
     }
 }
 
-/// Returns where the number ends that a text begins with: a minus or none, an integer, a fraction and an exponent (RFC 8259,
-/// section 6).
+/// Returns the end of the number that a text begins with: a minus or none, an integer, a fraction and an exponent (RFC 8259, section 6).
 fn number_end(text: &[u8]) -> Option<usize>
     ensures { LeavesAt text.now result (after_number text.now) }
 {
@@ -137,7 +136,7 @@ fn number_end(text: &[u8]) -> Option<usize>
     exponent_end(text, fraction)
 }
 
-/// Returns the number that a text begins with, and what follows it.
+/// Returns the number that a text begins with, and the rest.
 fn number<'a>(text: &'a str) -> Option<(Token<'a>, &'a str)>
     ensures reads { ReadsWord text.now (number_before text.now (after_number text.now)) result }
     ensures over { IfSome result (λ part. EndsWord text.now part.1.now) }
@@ -155,7 +154,7 @@ fn number<'a>(text: &'a str) -> Option<(Token<'a>, &'a str)>
     }
 }
 
-/// Returns this token where a text begins with its name, and what follows it.
+/// Returns this token if a text begins with its name, and the rest.
 fn literal<'a>(text: &'a str, name: &[u8], token: Token<'a>) -> Option<(Token<'a>, &'a str)>
     requires name { IsInWord name.now }
     requires good { token_of token ≢ bad }
@@ -170,7 +169,7 @@ fn literal<'a>(text: &'a str, name: &[u8], token: Token<'a>) -> Option<(Token<'a
     }
 }
 
-/// Returns the token of the word that a text begins with, and what follows the word; `None` where the word is no token.
+/// Returns the token of the word that a text begins with, and the rest; `None` if the word is no token.
 #[inline(always)]
 pub(crate) fn word<'a>(text: &'a str) -> Option<(Token<'a>, &'a str)>
     ensures reads { ReadsWord text.now (word text.now) result }

@@ -6,7 +6,7 @@ use Rattle.yaml_json.proofs.PlacesAfter.{moves_nothing, moves_on}
 use Rattle.yaml_json.specs.Places.{IsPlaceAfter}
 use Rattle.yaml_json.proofs.stream.keep_last.Goals as goal
 
--- the last bytes, where they are moved to the front
+-- The last bytes, which are moved to the front.
 moved_last : (held moved later : List ℕ) (start end count : ℕ) → end ≡ length held → count ≤ length held → start ≡ length held - count
     → moved ≡ copy_within held start end 0 → later ≡ take count moved → later ≡ drop start held
 moved_last held moved later start end count whole within first is cut =

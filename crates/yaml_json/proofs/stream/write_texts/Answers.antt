@@ -70,7 +70,7 @@ returns-in-Err g c =
     let l = c.texts in
     let s = a.settings.now in
     let now = c.write_bytes.new.writer in
-    let error = c.placed.result in
+    let error = c.shifted_by.result in
     let rest = l.rest.now in
     let first = take c.in-Some.end rest in
     let done = take (length a.held.now - length rest) a.held.now in
@@ -81,12 +81,12 @@ returns-in-Err g c =
       gives = record {
         stops = stops_at_first s.depth s.flow s.unique_names a.held.now a.writer.now (g.W.Write.contents a.sink.now) l.rest.now l.writer
             (g.W.Write.contents l.sink) l.invariant.4 c.in-Some.end c.in-Some.ensures a.reading.now.place error now done parts
-            (λ front follows. part_placed s.depth s.unique_names s.flow (front ++ done) first l.writer c.in-Err.error error now c.placed.ensures.says
-            (c.placed.ensures.place s.depth (front ++ done) first (c.after.ensures front (subst (IsPlaceAfter front) (sym l.invariant.7) follows)))
+            (λ front follows. part_placed s.depth s.unique_names s.flow (front ++ done) first l.writer c.in-Err.error error now c.shifted_by.ensures.says
+            (c.shifted_by.ensures.place s.depth (front ++ done) first (c.after.ensures front (subst (IsPlaceAfter front) (sym l.invariant.7) follows)))
             (subst (λ (t : List ℕ). StopsInPart s.depth s.unique_names s.flow [] t l.writer c.in-Err.error now) c.split_at.ensures.front
             c.in-Err.ensures.gives.stopped));
         grew = grew_then a.writer.now l.writer now (emitter_error error) l.invariant.6
-            (subst (λ (found : Option yaml_error_t). Grew l.writer found now) (sym c.placed.ensures.by_emitter) c.in-Err.ensures.gives.grew);
+            (subst (λ (found : Option yaml_error_t). Grew l.writer found now) (sym c.shifted_by.ensures.by_emitter) c.in-Err.ensures.gives.grew);
       };
     }
 

@@ -134,7 +134,7 @@ returns-in_default-clause-steps g c =
     (no_string c.in-Ok.token c.next_token.new.reader.ahead c.in_default.not-Key c.in_default.not-String))
     tt
 
--- ---- what the calls need
+-- ---- the requirements of the calls
 
 pub leave-requires : goal.leave-requires
 leave-requires g c = record { bare = c.requires.bare }

@@ -8,7 +8,7 @@ use Rattle.yaml_json.specs.{Walk.TextStopsWriting, WalkSteps.at, Wrote.WroteValu
 use Rattle.yaml_json.specs.declared.values.Stop.TheVariants as stops
 use Rattle.yaml_json.proofs.values.write_only_value.Goals as goal
 
--- the writing is stopped by what follows the value
+-- The writing is stopped by the token after the value.
 past_stopped : (left : List Token) (depth : ℕ) (unique flow : Bool) (start before front : List Token) (last : Token) (was now : WriterState)
     → (wrote : WroteValue depth flow start was left now) → (unique ≡ true → NamesOnce [] (json_tokens wrote.json))
     → start ≡ front ++ last ∷ left → before ≡ last ∷ left → (left ≡ [] → ⊥) → TextStopsWriting depth unique flow start before was (stops.NotJson PastValue) now

@@ -76,7 +76,7 @@ returns-in-BeginArray g c = rw c.in-BeginArray.is c.begin.ensures
 pub returns-in-BeginObject : goal.returns-in-BeginObject
 returns-in-BeginObject g c = rw c.in-BeginObject.is c.begin-in-BeginObject.ensures
 
--- ---- what begins no value
+-- ---- tokens that begin no value
 
 pub returns-in-Key : goal.returns-in-Key
 returns-in-Key g c =

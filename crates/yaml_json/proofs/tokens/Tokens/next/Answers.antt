@@ -21,7 +21,7 @@ invariant_of-self-in-Ok-Some g c =
     let s = c.self.inside in
     reads_one s.text.now s.stage s.rest.now s.was s.left c.self.invariant c.in-Ok-Some.step c.in_default.not-Over read.reads read.over
 
--- ---- where there is none
+-- ---- there is none
 
 pub returns-in-Over : goal.returns-in-Over
 returns-in-Over g c =
