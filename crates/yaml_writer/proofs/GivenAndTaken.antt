@@ -4,8 +4,9 @@ use Rattle.yaml_writer.proofs.Common.{output_left, none_from_result, some_from_r
 use Rattle.std.specs.Io.KnownBytes.{Appends}
 use Rattle.yaml_base.specs.{Sinks.AppendsFirst, declared.errors.yaml_error_t.yaml_error_t}
 use Rattle.yaml_emitter.{proofs.Common.with_all_taken, proofs.standing.Taking.stands_taken}
-use Rattle.yaml_writer.proofs.Taken.{left_taken, moves_add, moves_taken}
-use Rattle.yaml_writer.specs.Failing.{FailedWith}
+use Rattle.yaml_writer.proofs.OpenLevels.{gave_passed}
+use Rattle.yaml_writer.proofs.Taken.{left_taken, moves_taken}
+use Rattle.yaml_writer.specs.Failing.{FailedHaving}
 use Rattle.yaml_writer.specs.WasGiven.{AddsTaking, BeginsNext, NextUnsent, IsBare, WasGiven, WroteTaking, between}
 
 -- nothing was given, and nothing taken
@@ -89,13 +90,13 @@ begun_taken before middle after bytes held holds bare passed takes kept sends =
     }
 
 -- or the sink failed, which was given all that was left
-pub begun_unsent : (before middle : WriterState) (held holds : Option (List ℕ)) → PassedEvents before between (Ok tt) middle
+pub begun_unsent : (before middle : WriterState) (held holds : Option (List ℕ)) → IsBare before → PassedEvents before between (Ok tt) middle
     → AppendsFirst held holds (output_left middle.emitter.page) → NextUnsent before held middle holds
-begun_unsent before middle held holds passed sends =
+begun_unsent before middle held holds bare passed sends =
     record {
       offered = output_left middle.emitter.page;
       sends = sends;
-      adds = moves_add passed.moves;
+      gave = gave_passed before middle (Ok tt) bare passed;
       then = with_all_taken middle.emitter;
       wrote = λ given all sent stands.
           let stood = moves_taken passed.moves given all sent stands in
@@ -105,6 +106,7 @@ begun_unsent before middle held holds passed sends =
     }
 
 -- the writer fails
-pub begun_not : (before after : WriterState) (error : yaml_error_t) → PassedEvents before between (Err error) after → FailedWith before between error after
-begun_not before after error passed =
-    record { adds = moves_add passed.moves; is_error = inr (some_from_result after.emitter.error error passed.moves.answered) }
+pub begun_not : (before after : WriterState) (error : yaml_error_t) → IsBare before → PassedEvents before between (Err error) after
+    → FailedHaving before between error after
+begun_not before after error bare passed =
+    record { gave = gave_passed before after (Err error) bare passed; is_error = inr (some_from_result after.emitter.error error passed.moves.answered) }

@@ -11,11 +11,11 @@ pub mod SpellingLemmas
 pub mod UnchangedSpellings
 pub mod Overflow
 pub mod Taken
-pub mod GivenAndTaken
 pub mod MissingNodes
 pub mod Finishing
 pub mod GivenLemmas
 pub mod OpenLevels
+pub mod GivenAndTaken
 pub mod WholeStreams
 pub mod WaitingStarts
 pub mod PlainLemmas

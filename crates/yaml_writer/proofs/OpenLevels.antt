@@ -7,7 +7,7 @@ use Rattle.std.proofs.Math.Seq.{take-append_seam}
 use Rattle.yaml_base.specs.declared.errors.yaml_error_t.{yaml_error_t}
 use Rattle.yaml_base.specs.declared.kinds.CollectionKind.{CollectionKind}
 use Rattle.yaml_base.specs.declared.kinds.CollectionKind.TheVariants.{Mapping, Sequence}
-use Rattle.yaml_writer.specs.WasGiven.{GaveEvents, GivenLeaving, IsBare, WasGiven, between, levels_after, levels_after_event, start_event}
+use Rattle.yaml_writer.specs.WasGiven.{GaveEvents, IsBare, StaysUsable, between, levels_after, levels_after_event, start_event}
 use Rattle.yaml_writer.specs.Writing.{EndedCollection}
 use Rattle.yaml_writer.proofs.GivenLemmas.{gave_then, wrote_nothing}
 use Rattle.yaml_writer.proofs.Taken.{moves_add}
@@ -84,6 +84,23 @@ gave_end outer kind before after answer levels bare end same_kind same_outer =
           ∙ ap (levels_after_event (end_event kind)) (sym levels);
       bare = (ap (λ (w : WriterState). w.anchor) end.rest ∙ bare.0, ap (λ (w : WriterState). w.tag) end.rest ∙ bare.1);
     }
+
+-- The writer can be used further.
+pub usable_by : (before after : WriterState) (events : List Event) → GaveEvents before events after → StaysUsable before events after
+usable_by before after events gave = record { canonical = gave.canonical; levels = gave.levels; bare = gave.bare }
+
+-- Events that leave open what was open, and then others.
+pub closed_then : (before middle after : WriterState) (first second : List Event) → levels_after first before.levels ≡ before.levels
+    → middle.canonical ≡ before.canonical → middle.levels ≡ before.levels → StaysUsable middle second after → StaysUsable before (first ++ second) after
+closed_then before middle after first second closed canonical levels usable =
+    record {
+      canonical = usable.canonical ∙ canonical;
+      levels = usable.levels ∙ ap (levels_after second) (levels ∙ sym closed) ∙ sym (levels_after-append first second before.levels);
+      bare = usable.bare;
+    }
+
+pub usable_same : (before after : WriterState) (events same : List Event) → events ≡ same → StaysUsable before events after → StaysUsable before same after
+usable_same before after events same is = subst (λ (e : List Event). StaysUsable before e after) is
 
 -- The events are these.
 pub gave_same : (before after : WriterState) (events same : List Event) → events ≡ same → GaveEvents before events after → GaveEvents before same after

@@ -46,6 +46,13 @@ levels_after (event ∷ events) levels = levels_after events (levels_after_event
 abbrev pub GaveEvents : WriterState → List Event → WriterState → Type 0
 GaveEvents before events after = GivenLeaving before events (levels_after events before.levels) after
 
+-- A writer can be used further after these events: its form is unchanged, those collections are open that the events leave open, and the
+-- next node has no anchor and no tag.
+pub record StaysUsable (before : WriterState) (events : List Event) (after : WriterState) : Type 0 where
+  pub canonical : after.canonical ≡ before.canonical
+  pub levels : after.levels ≡ levels_after events before.levels
+  pub bare : IsBare after
+
 -- ---- one event
 
 -- one event was given
@@ -90,7 +97,7 @@ pub record BeginsNext (before : WriterState) (held : Option (List ℕ)) (after :
 pub record NextUnsent (before : WriterState) (held : Option (List ℕ)) (after : WriterState) (holds : Option (List ℕ)) : Type 0 where
   pub offered : List ℕ
   pub sends : AppendsFirst held holds offered
-  pub adds : AddsEvents before.emitter between after.emitter
+  pub gave : GaveEvents before between after
   pub then : State
   pub wrote : AddsTaking before.emitter between offered then
   pub whole : IsAllTaken then
