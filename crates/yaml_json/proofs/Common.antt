@@ -24,7 +24,7 @@ pub use Rattle.yaml_emitter.{proofs.Common.some_from_result, specs.Promises.Refu
 pub use Rattle.yaml_json.specs.{Begins.BeginsWithinDepth, Begins.NoneGoesOn, Cuts.HasScanned, Cuts.CutsAt, HeldNames.HaveNames, HeldNames.HoldsNames}
 pub use Rattle.yaml_json.specs.{HeldNames.AddsName, Texts.after_byte, Texts.texts_in, Texts.CutsFirstText, TokenEvents.token_events, TokenEvents.tokens_events}
 pub use Rattle.yaml_writer.specs.Means.{Schema}
-pub use Rattle.yaml_writer.specs.Failing.{FailedWith, FailedGiving}
+pub use Rattle.yaml_writer.specs.Failing.{FailedHaving}
 pub use Rattle.yaml_writer.specs.WasGiven.{between, IsBare, WasGiven, WroteEvent, start_event}
 pub use Rattle.yaml_json.specs.Failing.{failure_of, emitter_error_of, FailedInText, events_with_separators}
 pub use Rattle.yaml_json.specs.JsonEvents.{json_events, items_events, members_events}

@@ -1,6 +1,9 @@
 -- JSON texts that come part by part, in turn.
+use Rattle.yaml_writer.proofs.OpenLevels.{usable_same}
+use Rattle.yaml_writer.specs.WasGiven.{GaveEvents, StaysUsable}
+use Rattle.yaml_json.proofs.TokenLemmas.{texts_closed}
 use Rattle.yaml_json.proofs.Common.{ℕ, flat_map, Option, Bool, true, List, [], map, ◌++◌, ◌∷◌, ◌⊎◌, refl, ◌≡◌, append-nil, append_assoc, inl, inr, ap, subst}
-use Rattle.yaml_json.proofs.Common.{sym, ◌∙◌, arith, map-append, Appends, Event, Json, tokens, FailedWith, between, events_with_separators, json_events, IsBare}
+use Rattle.yaml_json.proofs.Common.{sym, ◌∙◌, arith, map-append, Appends, Event, Json, tokens, FailedHaving, between, events_with_separators, json_events, IsBare}
 use Rattle.yaml_json.proofs.Common.{NamesOnce, HaveNamesOnce, texts_in, WasGiven, WroteText, AreJson, AddsEvents, parts_events, State, WriterState}
 use Rattle.std.proofs.lemmas.Str.{IsUtf8-append, IsUtf8-nil}
 use Rattle.std.specs.{Prelude.IsUtf8, declared.io.Error.Error}
@@ -165,7 +168,7 @@ module _ (depth : ℕ) (in_flow unique : Bool) (text : List ℕ) (was : WriterSt
       }
 
   -- or it isn't
-  module _ (is : later ≡ texts_in left) (after : WriterState) (adds : AddsEvents given.emitter between after.emitter) where
+  module _ (is : later ≡ texts_in left) (after : WriterState) (gave : GaveEvents given between after) where
     given_next : AddsTaking was.emitter (events_with_separators was.canonical in_flow all_parts ++ []) sending.handed after.emitter
     given_next =
         let before = events_with_separators was.canonical in_flow sending.parts in
@@ -177,7 +180,17 @@ module _ (depth : ℕ) (in_flow unique : Bool) (text : List ℕ) (was : WriterSt
         (adds_then now.emitter given.emitter after.emitter events between
         (subst (λ (canonical : Bool). AddsEvents now.emitter (json_events canonical in_flow one.json) given.emitter) sending.wrote.canonical
         one.wrote.adds)
-        adds))
+        gave.adds))
+
+    usable_next : StaysUsable was (events_with_separators was.canonical in_flow all_parts ++ []) after
+    usable_next =
+        usable_same was after (events_with_separators was.canonical in_flow all_parts) (events_with_separators was.canonical in_flow all_parts ++ [])
+        (sym (append-nil (events_with_separators was.canonical in_flow all_parts)))
+        (record {
+          canonical = gave.canonical ∙ one.wrote.canonical ∙ sending.wrote.canonical;
+          levels = gave.levels ∙ one.wrote.levels ∙ sending.wrote.levels ∙ sym (texts_closed was.canonical in_flow all_parts was.levels);
+          bare = gave.bare;
+        })
 
     stops_begun : (error : StreamError) (holds : Option (List ℕ)) → StopsPartAt depth unique (some_text left).0 [] (tokens (some_text left).0) error
         → ((front part : List ℕ) → HasPlaceWithin depth front part error)
@@ -200,6 +213,7 @@ module _ (depth : ℕ) (in_flow unique : Bool) (text : List ℕ) (was : WriterSt
           place = place (flat_map (λ part. part.0) all_parts) found.0;
           handed = sending.handed;
           adds = given_next;
+          usable = usable_next;
           documents = documents;
         }
 
@@ -209,7 +223,7 @@ module _ (depth : ℕ) (in_flow unique : Bool) (text : List ℕ) (was : WriterSt
   sending_fails after holds fault is fails =
       let before = events_with_separators was.canonical in_flow sending.parts in
       let events = json_events was.canonical in_flow one.json in
-      stops_begun is after fails.adds (faults.WriteFailed fault) holds refl (λ front part. tt)
+      stops_begun is after fails.gave (faults.WriteFailed fault) holds refl (λ front part. tt)
       (record {
         sent = all_parts;
         unsent = [];
@@ -231,10 +245,10 @@ module _ (depth : ℕ) (in_flow unique : Bool) (text : List ℕ) (was : WriterSt
 
   -- or the writer
   pub sending_unbegun : (after : WriterState) (holds : Option (List ℕ)) (code : yaml_error_t) → later ≡ texts_in left
-      → FailedWith given between code after → holds ≡ held
+      → FailedHaving given between code after → holds ≡ held
       → StopsSending depth unique in_flow text was start (faults.Refused (errors.Emitter code)) after holds
   sending_unbegun after holds code is failed same =
-      stops_begun is after failed.adds (faults.Refused (errors.Emitter code)) holds (begins_nothing depth, inr (refl, λ is. is)) (placed_nowhere depth code)
+      stops_begun is after failed.gave (faults.Refused (errors.Emitter code)) holds (begins_nothing depth, inr (refl, λ is. is)) (placed_nowhere depth code)
       (documents_but in_flow sending.parts was start sending.handed now.emitter sending.wrote.adds (first, one.json) code holds
       (subst (λ (h : Option (List ℕ)). Appends start h sending.handed) (sym same) sending.sends) sending.whole)
 

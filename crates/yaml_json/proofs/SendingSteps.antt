@@ -1,4 +1,7 @@
 -- The reasons that stop the sending of texts that come part by part, and the events that one of them adds.
+use Rattle.yaml_writer.proofs.OpenLevels.{closed_then, usable_by, usable_same}
+use Rattle.yaml_writer.specs.WasGiven.{GaveEvents}
+use Rattle.yaml_json.proofs.TokenLemmas.{texts_closed}
 use Rattle.yaml_json.proofs.Sending.{sending_same, placed_nowhere, documents_so, sending_goes_on, sending_fails, sending_unbegun}
 use Rattle.yaml_json.proofs.Common.{ℕ, ◌+◌, ◌-◌, ◌≤◌, flat_map, Option, drop, length, take, Bool, true, List, [], map, ◌++◌, ◌∷◌, refl, ◌≡◌, length-drop}
 use Rattle.yaml_json.proofs.Common.{take-append-drop, append-nil, append_assoc, inr, ap, subst, sym, ◌∙◌, arith, Event, Token, tokens, HasScanned, CutsAt}
@@ -58,6 +61,12 @@ module _ (depth : ℕ) (in_flow unique : Bool) (text : List ℕ) (was : WriterSt
         place = place (flat_map (λ part. part.0) sending.parts) found.0;
         handed = sending.handed;
         adds = subst (λ (all : List Event). AddsTaking was.emitter all sending.handed now.emitter) (sym (append-nil events)) sending.wrote.adds;
+        usable = usable_same was now events (events ++ []) (sym (append-nil events))
+            (record {
+              canonical = sending.wrote.canonical;
+              levels = sending.wrote.levels ∙ sym (texts_closed was.canonical in_flow sending.parts was.levels);
+              bare = sending.wrote.bare;
+            });
         documents = documents_so in_flow sending.parts was start sending.handed now.emitter sending.wrote.adds error held sending.sends sending.whole;
       }
 
@@ -85,7 +94,11 @@ module _ (depth : ℕ) (in_flow unique : Bool) (text : List ℕ) (was : WriterSt
         adds = adds_taking_more was.emitter now.emitter after.emitter (events_with_separators was.canonical in_flow sending.parts)
             (tokens_events was.canonical in_flow stops.taken) sending.handed sending.wrote.adds
             (subst (λ (canonical : Bool). AddsEvents now.emitter (tokens_events canonical in_flow stops.taken) after.emitter) sending.wrote.canonical
-            stops.adds);
+            stops.gave.adds);
+        usable = closed_then was now after (events_with_separators was.canonical in_flow sending.parts) (tokens_events was.canonical in_flow stops.taken)
+            (texts_closed was.canonical in_flow sending.parts was.levels) sending.wrote.canonical sending.wrote.levels
+            (usable_by now after (tokens_events was.canonical in_flow stops.taken)
+            (subst (λ (canonical : Bool). GaveEvents now (tokens_events canonical in_flow stops.taken) after) sending.wrote.canonical stops.gave));
         documents = documents_so in_flow sending.parts was start sending.handed now.emitter sending.wrote.adds error held sending.sends sending.whole;
       }
 

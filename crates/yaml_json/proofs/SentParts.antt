@@ -32,7 +32,14 @@ pub part_stopped : (depth : ℕ) (unique in_flow : Bool) (text : List ℕ) (was 
     → StopsInText depth unique in_flow text was error now → HasPlaceWithin depth [] text (faults.Refused error)
     → StopsInPart depth unique in_flow [] text was (faults.Refused error) now
 part_stopped depth unique in_flow text was error now readable stops place =
-    record { taken = stops.taken; left = stops.left; split = stops.split; why = (stops.why, inl readable); place = place; adds = stops.adds }
+    record {
+      taken = stops.taken;
+      left = stops.left;
+      split = stops.split;
+      why = (stops.why, inl readable);
+      place = place;
+      gave = record { adds = stops.adds; canonical = stops.usable.canonical; levels = stops.usable.levels; bare = stops.usable.bare };
+    }
 
 -- and so of its place among others
 pub part_placed : (depth : ℕ) (unique in_flow : Bool) (front text : List ℕ) (was : WriterState) (error placed : StreamError) (now : WriterState)
@@ -46,5 +53,5 @@ part_placed depth unique in_flow front text was error placed now says moves stop
       split = stops.split;
       why = says depth unique text stops.taken stops.left stops.why;
       place = moves stops.place;
-      adds = stops.adds;
+      gave = stops.gave;
     }

@@ -1,16 +1,17 @@
 -- The events that a writer was given when it failed.
 use Rattle.yaml_json.proofs.Common.{IfSome, IfErr, OnOk, Option, None, Some, Result, Ok, Err, List, [], ◌++◌, ◌∷◌, ◌⊎◌, ◌≡◌, inl, inr, subst, sym, ◌∙◌, Event}
-use Rattle.yaml_json.proofs.Common.{unwrap_or, some_from_result, failure_of, emitter_error_of, RefusesText, Token, refl, ap, State, FailedWith, FailedGiving}
+use Rattle.yaml_json.proofs.Common.{unwrap_or, some_from_result, failure_of, emitter_error_of, RefusesText, Token, refl, ap, State, FailedHaving}
 use Rattle.yaml_json.specs.{Failing.FailedAtEnd, Failing.IsWritersAnswer, Failing.Kept, Failing.SoundAfter, Failing.TellsOf, Refused.IsByText}
 use Rattle.yaml_json.specs.{Walk.ReadsNone, declared.values.Stop.Stop}
-use Rattle.yaml_json.proofs.Common.{WriterState, end_event, with_collection, GaveEvent, EndsInnermost, AddsEvents}
+use Rattle.yaml_json.proofs.Common.{WriterState, end_event, with_collection, GaveEvent, EndsInnermost}
 use Rattle.yaml_pen.{proofs.Composing.grows_itself, proofs.Composing.grows_then, proofs.Writing.none_from_result, specs.Wrote.Grows}
 use Rattle.yaml_json.specs.declared.values.Stop.TheVariants as stops
 use Rattle.yaml_base.specs.declared.errors.{yaml_error_t.yaml_error_t, yaml_error_t.TheVariants.Memory, yaml_error_t.TheVariants.ExpectedDocumentEnd}
 use Rattle.yaml_writer.proofs.GivenLemmas.{none_more, on_err, same_last}
 use Rattle.yaml_base.specs.declared.kinds.CollectionKind.{CollectionKind}
 use Rattle.yaml_writer.specs.Writing.{Failed}
-use Rattle.yaml_writer.proofs.Taken.{moves_add}
+use Rattle.yaml_writer.proofs.OpenLevels.{gave_end, gave_event}
+use Rattle.yaml_writer.specs.WasGiven.{GaveEvents, IsBare, levels_after_event}
 
 -- A consequence for a value, if there is one.
 pub if_some : {A : Type 0} {P Q : A → Type 0} (found : Option A) → ((value : A) → P value → Q value) → IfSome found P → IfSome found Q
@@ -21,6 +22,10 @@ if_some (Some value) follows held = follows value held
 whatever : {A : Type 0} {P : A → Type 0} (found : Option A) → ((value : A) → P value) → IfSome found P
 whatever None held = tt
 whatever (Some value) held = held value
+
+-- An allocation failed, and nothing changed; or this event was given, and the writer failed with this error.
+abbrev pub FailedAt : WriterState → Event → yaml_error_t → WriterState → Type 0
+FailedAt was event error now = ((error ≡ Memory) × (now ≡ was)) ⊎ FailedHaving was (event ∷ []) error now
 
 -- ---- answers
 
@@ -53,15 +58,15 @@ answered P Q now (Ok done) (Err stop) is held failed = absurd is
 answered P Q now (Err error) (Ok same) is held failed = absurd is
 answered P Q now (Err error) (Err stop) is held failed = (tt, never_by_text error stop is, told Q now error stop is failed.0 failed.1)
 
-code_at : (before after : WriterState) (event : Event) (error : yaml_error_t) → FailedGiving before event error after → CodeOf after error
+code_at : (before after : WriterState) (event : Event) (error : yaml_error_t) → FailedAt before event error after → CodeOf after error
 code_at before after event error (inl memory) = inl memory.0
 code_at before after event error (inr failed) = failed.is_error
 
 pub answered_at : (P : Type 0) (before after : WriterState) (event : Event) (answer : Result (Unit {0}) yaml_error_t) (result : Result (Unit {0}) Stop)
-    → IsWritersAnswer answer result → OnOk answer P → IfErr answer (λ error. FailedGiving before event error after)
-    → OnOk result P × (RefusesText result → ⊥) × IfSome (emitter_error_of after result) (λ error. FailedGiving before event error after)
+    → IsWritersAnswer answer result → OnOk answer P → IfErr answer (λ error. FailedAt before event error after)
+    → OnOk result P × (RefusesText result → ⊥) × IfSome (emitter_error_of after result) (λ error. FailedAt before event error after)
 answered_at P before after event answer result is held failed =
-    answered P (λ error. FailedGiving before event error after) after answer result is held
+    answered P (λ error. FailedAt before event error after) after answer result is held
     (on_err answer (λ error at. (code_at before after event error at, at)) failed)
 
 -- so of a collection's end
@@ -82,34 +87,36 @@ answered_end before after (Err error) (Err stop) is (inr end) = (
 
 -- ---- events
 
--- a call that was to give one event
-pub event_failed : (before after : WriterState) (event same : Event) (error : yaml_error_t) → event ≡ same → Failed before event error after
-    → FailedGiving before same error after
-event_failed before after event same error is (inl gave) = inr (record {
-  adds = subst (λ (e : Event). AddsEvents before.emitter (e ∷ []) after.emitter) is (moves_add gave.moves);
+-- a call that was to give one event, which opens no collection and closes none
+pub event_failed : (before after : WriterState) (event same : Event) (error : yaml_error_t) → event ≡ same
+    → levels_after_event same before.levels ≡ before.levels → Failed before event error after → FailedAt before same error after
+event_failed before after event same error is keeps (inl gave) = inr (record {
+  gave = subst (λ (e : Event). GaveEvents before (e ∷ []) after) is
+      (gave_event before before after event (Err error) refl refl (sym (ap (λ (e : Event). levels_after_event e before.levels) is ∙ keeps)) gave);
   is_error = inr (some_from_result after.emitter.error error gave.moves.answered);
 })
-event_failed before after event same error is (inr memory) = inl memory
+event_failed before after event same error is keeps (inr memory) = inl memory
 
 -- an end that failed
 pub end_failed : (outer : List CollectionKind) (kind : CollectionKind) (before after : WriterState) (error : yaml_error_t) → before.levels ≡ outer ++ kind ∷ []
-    → FailedAtEnd before error after → FailedWith before (end_event kind ∷ []) error after
-end_failed outer kind before after error levels (inl none) = absurd (none_more outer kind (sym levels ∙ none.0))
-end_failed outer kind before after error levels (inr end) =
+    → IsBare before → FailedAtEnd before error after → FailedHaving before (end_event kind ∷ []) error after
+end_failed outer kind before after error levels bare (inl none) = absurd (none_more outer kind (sym levels ∙ none.0))
+end_failed outer kind before after error levels bare (inr end) =
     let same = same_last end.outer outer end.kind kind (sym end.levels ∙ levels) in
     record {
-      adds = subst (λ (k : CollectionKind). AddsEvents before.emitter (end_event k ∷ []) after.emitter) same.1 (moves_add end.moves);
+      gave = gave_end outer kind before after (Err error) levels bare end same.1 same.0;
       is_error = inr (some_from_result after.emitter.error error end.moves.answered);
     }
 
 -- the start of a collection that failed
-pub start_failed : (kind : CollectionKind) (before after : WriterState) (event same : Event) (error : yaml_error_t) → event ≡ same
-    → GaveEvent (with_collection before kind) event (Err error) after ⊎ ((error ≡ Memory) × (after ≡ before)) → FailedGiving before same error after
-start_failed kind before after event same error is (inl gave) = inr (record {
-  adds = subst (λ (e : Event). AddsEvents before.emitter (e ∷ []) after.emitter) is (moves_add gave.moves);
+pub start_failed : (kind : CollectionKind) (before after : WriterState) (event : Event) (error : yaml_error_t)
+    → levels_after_event event before.levels ≡ before.levels ++ kind ∷ []
+    → GaveEvent (with_collection before kind) event (Err error) after ⊎ ((error ≡ Memory) × (after ≡ before)) → FailedAt before event error after
+start_failed kind before after event error opens (inl gave) = inr (record {
+  gave = gave_event before (with_collection before kind) after event (Err error) refl refl (sym opens) gave;
   is_error = inr (some_from_result after.emitter.error error gave.moves.answered);
 })
-start_failed kind before after event same error is (inr memory) = inl memory
+start_failed kind before after event error opens (inr memory) = inl memory
 
 -- ---- earlier output
 

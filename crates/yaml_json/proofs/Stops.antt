@@ -1,6 +1,7 @@
 -- The stops of the walk, turn by turn.
+use Rattle.yaml_writer.specs.WasGiven.{GaveEvents}
 use Rattle.yaml_json.proofs.Common.{ℕ, Bool, false, true, List, [], ◌++◌, ◌∷◌, ◌≡◌, ap, append-nil, subst, sym, ◌∙◌, Token, HoldsNames, AddsName, FitsNames}
-use Rattle.yaml_json.proofs.Common.{IfSome, failure_of, refl, WriterState, RefusesToken, RefusesFirst, WhyStopped, Refuses, tokens_events, AddsEvents, IsScalar}
+use Rattle.yaml_json.proofs.Common.{IfSome, failure_of, refl, WriterState, RefusesToken, RefusesFirst, WhyStopped, Refuses, tokens_events, IsScalar}
 use Rattle.yaml_json.proofs.Common.{LeavesOpen, KeepsNames}
 use Rattle.yaml_json.specs.{Refused.IsByText, Walk.GivesTaken, Walk.GaveTokens, Walk.ReadsNone, declared.names.Names.Names, declared.values.Stop.Stop}
 use Rattle.yaml_json.proofs.KeepingNames.{keeps_name, name_again, names_once}
@@ -81,11 +82,11 @@ pub first_stopped : (depth : ℕ) (levels : List CollectionKind) (ahead : List T
 first_stopped depth levels ahead token after first stop refuses = subst (λ (all : List Token). RefusesFirst depth levels all stop) (sym first) refuses
 
 -- nothing more was given
-pub adds_none : (in_flow : Bool) (levels : List CollectionKind) (before now : WriterState) → now ≡ before → (was : WriterState) (so : List Token)
-    → GaveTokens in_flow was so levels before → AddsEvents was.emitter (tokens_events was.canonical in_flow (so ++ [])) now.emitter
-adds_none in_flow levels before now same was so stood =
-    subst (λ (writer : WriterState). AddsEvents was.emitter (tokens_events was.canonical in_flow (so ++ [])) writer.emitter) (sym same)
-    (subst (λ (all : List Token). AddsEvents was.emitter (tokens_events was.canonical in_flow all) before.emitter) (sym (append-nil so)) stood.adds)
+pub gave_no_more : (in_flow : Bool) (levels : List CollectionKind) (before now : WriterState) → now ≡ before → (was : WriterState) (so : List Token)
+    → GaveTokens in_flow was so levels before → GaveEvents was (tokens_events was.canonical in_flow (so ++ [])) now
+gave_no_more in_flow levels before now same was so stood =
+    subst (GaveEvents was (tokens_events was.canonical in_flow (so ++ []))) (sym same)
+    (subst (λ (all : List Token). GaveEvents was (tokens_events was.canonical in_flow all) before) (sym (append-nil so)) stood.gave)
 
 module _ {A : Type 0} (depth : ℕ) (unique in_flow : Bool) (levels outer : List CollectionKind) (held : Names A) (fits : FitsNames unique levels held)
     (ahead : List Token) (before now : WriterState) where
@@ -100,7 +101,7 @@ module _ {A : Type 0} (depth : ℕ) (unique in_flow : Bool) (levels outer : List
           taken = [];
           parts = were;
           inside = inside;
-          adds = adds_none in_flow levels before now same;
+          gave = gave_no_more in_flow levels before now same;
           why = λ so stands kept. subst (λ (all : List Token). WhyStopped depth unique all last stop) (sym (append-nil so))
               (subst (λ (l : List Token). WhyStopped depth unique so l stop) (sym (were ∙ is)) (why so stands kept).0);
           place = λ so stands kept. subst (λ (all : List Token). WhereStopped depth unique all last stop) (sym (append-nil so))
@@ -208,9 +209,8 @@ module _ {A : Type 0} (depth : ℕ) (unique in_flow : Bool) (levels outer : List
           taken = Token.key name ∷ [];
           inside = inside_first depth levels inner stop refuses;
           parts = ap (λ (l : List Token). Token.key name ∷ l) were ∙ sym first;
-          adds = λ was so stood.
-              subst (λ (writer : WriterState). AddsEvents was.emitter (tokens_events was.canonical in_flow (so ++ Token.key name ∷ [])) writer.emitter)
-              (sym same) (gave was so stood).adds;
+          gave = λ was so stood.
+              subst (GaveEvents was (tokens_events was.canonical in_flow (so ++ Token.key name ∷ []))) (sym same) (gave was so stood).gave;
           why = λ so stands kept. subst (λ (l : List Token). WhyStopped depth unique (so ++ Token.key name ∷ []) l stop) (sym were)
               (first_refused depth unique (so ++ Token.key name ∷ []) levels inner stop
               (awaiting_named depth so levels outer name is stands inner) (once so kept) refuses);
@@ -221,9 +221,9 @@ module _ {A : Type 0} (depth : ℕ) (unique in_flow : Bool) (levels outer : List
 
 -- the first token of all
 pub first_stopped_writing : (depth : ℕ) (unique in_flow : Bool) (ahead last : List Token) → last ≡ ahead → (was now : WriterState) (stop : Stop)
-    → RefusesFirst depth [] ahead stop → AddsEvents was.emitter (tokens_events was.canonical in_flow []) now.emitter
+    → RefusesFirst depth [] ahead stop → GaveEvents was (tokens_events was.canonical in_flow []) now
     → TextStopsWriting depth unique in_flow ahead last was stop now
-first_stopped_writing depth unique in_flow ahead last were was now stop refuses adds =
+first_stopped_writing depth unique in_flow ahead last were was now stop refuses gave =
     record {
       taken = [];
       left = last;
@@ -233,5 +233,5 @@ first_stopped_writing depth unique in_flow ahead last were was now stop refuses 
       place = subst (λ (l : List Token). WhereStopped depth unique [] l stop) (sym were)
           (first_placed depth unique [] [] (λ token scalar. awaiting_whole depth (token ∷ [])) (λ wanted. tt) ahead stop refuses);
       were = all_left stop [] last (inside_first depth [] ahead stop refuses);
-      adds = adds;
+      gave = gave;
     }

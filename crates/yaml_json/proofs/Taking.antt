@@ -1,54 +1,83 @@
 -- The events that the writer was given in the walk over the tokens of a value.
 use Rattle.yaml_json.proofs.Common.{ℕ, ◌-◌, ◌<◌, length, take, Bool, List, [], ◌++◌, ◌∷◌, refl, ◌≡◌, append-nil, append_assoc, inl, inr, ap, subst, sym, ◌∙◌}
-use Rattle.yaml_json.proofs.Common.{arith, Token, Event, BeginsWithinDepth, FailedWith, FailedGiving, token_events, tokens_events, LeavesOpen, IsScalar, opener}
+use Rattle.yaml_json.proofs.Common.{arith, Token, Event, BeginsWithinDepth, FailedHaving, token_events, tokens_events, LeavesOpen, IsScalar, opener}
 use Rattle.yaml_json.proofs.Common.{closer, BeganValue, BeginFailed, BeganFirstValue, FirstFailed, IsBare, WroteEvent, start_event, IfSome, failure_of}
-use Rattle.yaml_json.proofs.Common.{WriterState, end_event, AddsEvents, GaveEvent, with_collection, Ok, EndsInnermost}
+use Rattle.yaml_json.proofs.Common.{WriterState, end_event, GaveEvent, with_collection, Ok, EndsInnermost}
 use Rattle.std.proofs.Math.Seq.{take-append_seam}
 use Rattle.yaml_base.specs.{declared.errors.yaml_error_t.yaml_error_t, declared.errors.yaml_error_t.TheVariants.Memory}
 use Rattle.yaml_base.specs.{declared.kinds.CollectionKind.CollectionKind}
-use Rattle.yaml_json.proofs.Stopping.{end_failed, if_some}
-use Rattle.yaml_json.proofs.Stops.{unread_memory, adds_none}
+use Rattle.yaml_json.proofs.Stopping.{FailedAt, end_failed, if_some}
+use Rattle.yaml_json.proofs.Stops.{unread_memory, gave_no_more}
 use Rattle.yaml_json.proofs.TokenLemmas.{some_then}
-use Rattle.yaml_writer.proofs.GivenLemmas.{adds_then, ended}
+use Rattle.yaml_writer.proofs.GivenLemmas.{ended}
 use Rattle.yaml_json.specs.{Failing.FailedAtEnd, declared.values.Stop.Stop}
 use Rattle.yaml_json.proofs.Walking.{longer, closed_stands, closes_value, value_begins, awaiting_item, awaiting_named, next_stands}
 use Rattle.yaml_json.specs.Walk.{ReadsNone, GaveTokens, GivesTaken, FailsGiving, WalkedOn, StepFailed}
 use Rattle.yaml_base.specs.declared.kinds.CollectionKind.TheVariants.{Mapping, Sequence}
-use Rattle.yaml_writer.proofs.Taken.{adds_nothing, moves_add}
+use Rattle.yaml_writer.proofs.OpenLevels.{gave_event, gave_events_then, gave_none, gave_same, levels_after-append, levels_after_end, levels_after_start}
+use Rattle.yaml_writer.specs.WasGiven.{GaveEvents, levels_after, levels_after_event}
 
 -- ---- the writer
 
 pub stood_nothing : (in_flow : Bool) (was : WriterState) → IsBare was → GaveTokens in_flow was [] [] was
-stood_nothing in_flow was bare =
-    record {
-      adds = adds_nothing was.emitter;
-      canonical = refl;
-      levels = sym (append-nil was.levels);
-      bare = bare;
-    }
+stood_nothing in_flow was bare = record { gave = gave_none was bare; opened = sym (append-nil was.levels) }
 
--- the events of one token more
+-- One token more has one event more.
+events_on : (canonical in_flow : Bool) (so : List Token) (token : Token) (event : Event) → token_events canonical in_flow token ≡ event ∷ []
+    → tokens_events canonical in_flow so ++ event ∷ [] ≡ tokens_events canonical in_flow (so ++ token ∷ [])
+events_on canonical in_flow so token event is =
+    ap (λ (events : List Event). tokens_events canonical in_flow so ++ (events ++ [])) (sym is) ∙ sym (some_then canonical in_flow so (token ∷ []))
+
 given_on : (in_flow : Bool) (was now later : WriterState) (so : List Token) (token : Token) (event : Event)
-    → AddsEvents was.emitter (tokens_events was.canonical in_flow so) now.emitter → token_events was.canonical in_flow token ≡ event ∷ []
-    → AddsEvents now.emitter (event ∷ []) later.emitter → AddsEvents was.emitter (tokens_events was.canonical in_flow (so ++ token ∷ [])) later.emitter
+    → GaveEvents was (tokens_events was.canonical in_flow so) now → token_events was.canonical in_flow token ≡ event ∷ []
+    → GaveEvents now (event ∷ []) later → GaveEvents was (tokens_events was.canonical in_flow (so ++ token ∷ [])) later
 given_on in_flow was now later so token event one is other =
-    subst (λ (events : List Event). AddsEvents was.emitter events later.emitter)
-    (ap (λ (events : List Event). tokens_events was.canonical in_flow so ++ events)
-    (sym (append-nil (event ∷ [])) ∙ ap (λ (events : List Event). events ++ []) (sym is))
-    ∙ sym (some_then was.canonical in_flow so (token ∷ [])))
-    (adds_then was.emitter now.emitter later.emitter (tokens_events was.canonical in_flow so) (event ∷ []) one other)
+    gave_same was later (tokens_events was.canonical in_flow so ++ event ∷ []) (tokens_events was.canonical in_flow (so ++ token ∷ []))
+    (events_on was.canonical in_flow so token event is)
+    (gave_events_then was now later (tokens_events was.canonical in_flow so) (event ∷ []) one other)
+
+open_on : (in_flow : Bool) (was : WriterState) (so : List Token) (token : Token) (event : Event) (levels opened : List CollectionKind)
+    → levels_after (tokens_events was.canonical in_flow so) was.levels ≡ was.levels ++ levels → token_events was.canonical in_flow token ≡ event ∷ []
+    → levels_after_event event (was.levels ++ levels) ≡ was.levels ++ opened
+    → levels_after (tokens_events was.canonical in_flow (so ++ token ∷ [])) was.levels ≡ was.levels ++ opened
+open_on in_flow was so token event levels opened one is next =
+    ap (λ (events : List Event). levels_after events was.levels) (sym (events_on was.canonical in_flow so token event is))
+    ∙ levels_after-append (tokens_events was.canonical in_flow so) (event ∷ []) was.levels ∙ ap (levels_after_event event) one ∙ next
+
+-- The token of a scalar or a key opens no collection and closes none.
+abbrev pub KeepsLevels : Token → Type 0
+KeepsLevels token = (canonical in_flow : Bool) (levels : List CollectionKind) → levels_after (token_events canonical in_flow token) levels ≡ levels
+
+pub scalar_keeps : (token : Token) → IsScalar token → KeepsLevels token
+scalar_keeps Token.begin_object is canonical in_flow levels = absurd is
+scalar_keeps Token.end_object is canonical in_flow levels = absurd is
+scalar_keeps Token.begin_array is canonical in_flow levels = absurd is
+scalar_keeps Token.end_array is canonical in_flow levels = absurd is
+scalar_keeps (Token.key text) is canonical in_flow levels = absurd is
+scalar_keeps (Token.string text) is canonical in_flow levels = refl
+scalar_keeps (Token.number text) is canonical in_flow levels = refl
+scalar_keeps (Token.boolean flag) is canonical in_flow levels = refl
+scalar_keeps Token.null is canonical in_flow levels = refl
+scalar_keeps Token.bad is canonical in_flow levels = absurd is
+
+pub event_keeps : (in_flow : Bool) (token : Token) (event : Bool → Event) → KeepsLevels token
+    → ((canonical : Bool) → token_events canonical in_flow token ≡ event canonical ∷ []) → (canonical : Bool) (levels : List CollectionKind)
+    → levels_after_event (event canonical) levels ≡ levels
+event_keeps in_flow token event keeps is canonical levels =
+    sym (ap (λ (events : List Event). levels_after events levels) (is canonical)) ∙ keeps canonical in_flow levels
 
 -- a scalar, or a key: its event depends on the writer by its form alone
-pub gives_scalar : (in_flow : Bool) (levels : List CollectionKind) (before after : WriterState) (token : Token) (event : Bool → Event)
+pub gives_scalar : (in_flow : Bool) (levels : List CollectionKind) (before after : WriterState) (token : Token) (event : Bool → Event) → KeepsLevels token
     → ((canonical : Bool) → token_events canonical in_flow token ≡ event canonical ∷ []) → WroteEvent before (event before.canonical) after
     → GivesTaken in_flow levels before (token ∷ []) levels after
-gives_scalar in_flow levels before after token event is wrote was so stood =
+gives_scalar in_flow levels before after token event keeps is wrote was so stood =
+    let e = event before.canonical in
+    let keeps_levels = event_keeps in_flow token event keeps is before.canonical in
+    let events = is was.canonical ∙ ap (λ c. event c ∷ []) (sym stood.gave.canonical) in
     record {
-      adds = given_on in_flow was before after so token (event before.canonical) stood.adds
-          (is was.canonical ∙ ap (λ c. event c ∷ []) (sym stood.canonical)) wrote.adds;
-      canonical = wrote.canonical ∙ stood.canonical;
-      levels = wrote.levels ∙ stood.levels;
-      bare = wrote.bare;
+      gave = given_on in_flow was before after so token e stood.gave events
+          (record { adds = wrote.adds; canonical = wrote.canonical; levels = wrote.levels ∙ sym (keeps_levels before.levels); bare = wrote.bare });
+      opened = open_on in_flow was so token e levels levels stood.opened events (keeps_levels (was.levels ++ levels));
     }
 
 -- a collection begins
@@ -60,12 +89,12 @@ pub gives_start : (in_flow : Bool) (levels : List CollectionKind) (before after 
     → GaveEvent (with_collection before kind) (start_event in_flow kind) (Ok tt) after
     → GivesTaken in_flow levels before (opener kind ∷ []) (levels ++ kind ∷ []) after
 gives_start in_flow levels before after kind gave was so stood =
+    let event = start_event in_flow kind in
     record {
-      adds = given_on in_flow was before after so (opener kind) (start_event in_flow kind) stood.adds (opener_events kind was.canonical in_flow)
-          (moves_add gave.moves);
-      canonical = gave.canonical ∙ stood.canonical;
-      levels = gave.levels ∙ ap (λ (all : List CollectionKind). all ++ kind ∷ []) stood.levels ∙ append_assoc was.levels levels (kind ∷ []);
-      bare = (gave.no_anchor, gave.no_tag);
+      gave = given_on in_flow was before after so (opener kind) event stood.gave (opener_events kind was.canonical in_flow)
+          (gave_event before (with_collection before kind) after event (Ok tt) refl refl (sym (levels_after_start in_flow kind before.levels)) gave);
+      opened = open_on in_flow was so (opener kind) event levels (levels ++ kind ∷ []) stood.opened (opener_events kind was.canonical in_flow)
+          (levels_after_start in_flow kind (was.levels ++ levels) ∙ append_assoc was.levels levels (kind ∷ []));
     }
 
 -- the innermost ends
@@ -73,48 +102,56 @@ closer_events : (kind : CollectionKind) (canonical in_flow : Bool) → token_eve
 closer_events Sequence canonical in_flow = refl
 closer_events Mapping canonical in_flow = refl
 
+-- these are open
+open_levels : (in_flow : Bool) (was now : WriterState) (so : List Token) (outer : List CollectionKind) (kind : CollectionKind)
+    → GaveTokens in_flow was so (outer ++ kind ∷ []) now → now.levels ≡ (was.levels ++ outer) ++ kind ∷ []
+open_levels in_flow was now so outer kind stood = stood.gave.levels ∙ stood.opened ∙ sym (append_assoc was.levels outer (kind ∷ []))
+
 pub gives_end : (in_flow : Bool) (outer : List CollectionKind) (before after : WriterState) (kind : CollectionKind)
     → EndsInnermost before (Ok tt) after → GivesTaken in_flow (outer ++ kind ∷ []) before (closer kind ∷ []) outer after
 gives_end in_flow outer before after kind ends was so stood =
-    let end = ended (was.levels ++ outer) kind before after (stood.levels ∙ sym (append_assoc was.levels outer (kind ∷ []))) stood.bare ends in
+    let inside = open_levels in_flow was before so outer kind stood in
+    let end = ended (was.levels ++ outer) kind before after inside stood.gave.bare ends in
+    let left : levels_after_event (end_event kind) before.levels ≡ was.levels ++ outer =
+    ap (levels_after_event (end_event kind)) inside ∙ levels_after_end kind (was.levels ++ outer) in
     record {
-      adds = given_on in_flow was before after so (closer kind) (end_event kind) stood.adds (closer_events kind was.canonical in_flow) end.adds;
-      canonical = end.canonical ∙ stood.canonical;
-      levels = end.levels;
-      bare = end.bare;
+      gave = given_on in_flow was before after so (closer kind) (end_event kind) stood.gave (closer_events kind was.canonical in_flow)
+          (record { adds = end.adds; canonical = end.canonical; levels = end.levels ∙ sym left; bare = end.bare });
+      opened = open_on in_flow was so (closer kind) (end_event kind) (outer ++ kind ∷ []) outer stood.opened (closer_events kind was.canonical in_flow)
+          (ap (levels_after_event (end_event kind)) (sym (append_assoc was.levels outer (kind ∷ []))) ∙ levels_after_end kind (was.levels ++ outer));
     }
 
 -- ---- the writer fails
 
 failed_on : (in_flow : Bool) (was now later : WriterState) (so : List Token) (token : Token) (event : Event) (error : yaml_error_t)
-    → AddsEvents was.emitter (tokens_events was.canonical in_flow so) now.emitter → token_events was.canonical in_flow token ≡ event ∷ []
-    → FailedWith now (event ∷ []) error later → FailedWith was (tokens_events was.canonical in_flow (so ++ token ∷ [])) error later
-failed_on in_flow was now later so token event error one is gave =
-    record { adds = given_on in_flow was now later so token event one is gave.adds; is_error = gave.is_error }
+    → GaveEvents was (tokens_events was.canonical in_flow so) now → token_events was.canonical in_flow token ≡ event ∷ []
+    → FailedHaving now (event ∷ []) error later → FailedHaving was (tokens_events was.canonical in_flow (so ++ token ∷ [])) error later
+failed_on in_flow was now later so token event error one is failed =
+    record { gave = given_on in_flow was now later so token event one is failed.gave; is_error = failed.is_error }
 
 pub fails_scalar : (in_flow : Bool) (levels : List CollectionKind) (before after : WriterState) (token : Token) (event : Bool → Event)
     (error : yaml_error_t) → ((canonical : Bool) → token_events canonical in_flow token ≡ event canonical ∷ [])
-    → FailedGiving before (event before.canonical) error after → FailsGiving in_flow levels before (token ∷ []) error after
+    → FailedAt before (event before.canonical) error after → FailsGiving in_flow levels before (token ∷ []) error after
 fails_scalar in_flow levels before after token event error is (inl memory) = inl memory
 fails_scalar in_flow levels before after token event error is (inr gave) =
     inr
-    (λ was so stood. failed_on in_flow was before after so token (event before.canonical) error stood.adds
-    (is was.canonical ∙ ap (λ c. event c ∷ []) (sym stood.canonical)) gave)
+    (λ was so stood. failed_on in_flow was before after so token (event before.canonical) error stood.gave
+    (is was.canonical ∙ ap (λ c. event c ∷ []) (sym stood.gave.canonical)) gave)
 
 pub fails_start : (in_flow : Bool) (levels : List CollectionKind) (before after : WriterState) (kind : CollectionKind) (error : yaml_error_t)
-    → FailedGiving before (start_event in_flow kind) error after → FailsGiving in_flow levels before (opener kind ∷ []) error after
+    → FailedAt before (start_event in_flow kind) error after → FailsGiving in_flow levels before (opener kind ∷ []) error after
 fails_start in_flow levels before after kind error (inl memory) = inl memory
 fails_start in_flow levels before after kind error (inr gave) =
     inr
-    (λ was so stood. failed_on in_flow was before after so (opener kind) (start_event in_flow kind) error stood.adds
+    (λ was so stood. failed_on in_flow was before after so (opener kind) (start_event in_flow kind) error stood.gave
     (opener_events kind was.canonical in_flow) gave)
 
 pub fails_end : (in_flow : Bool) (outer : List CollectionKind) (before after : WriterState) (kind : CollectionKind) (error : yaml_error_t)
     → FailedAtEnd before error after → (was : WriterState) (so : List Token) → GaveTokens in_flow was so (outer ++ kind ∷ []) before
-    → FailedWith was (tokens_events was.canonical in_flow (so ++ closer kind ∷ [])) error after
+    → FailedHaving was (tokens_events was.canonical in_flow (so ++ closer kind ∷ [])) error after
 fails_end in_flow outer before after kind error ends was so stood =
-    (failed_on in_flow was before after so (closer kind) (end_event kind) error stood.adds (closer_events kind was.canonical in_flow)
-    (end_failed (was.levels ++ outer) kind before after error (stood.levels ∙ sym (append_assoc was.levels outer (kind ∷ []))) ends))
+    failed_on in_flow was before after so (closer kind) (end_event kind) error stood.gave (closer_events kind was.canonical in_flow)
+    (end_failed (was.levels ++ outer) kind before after error (open_levels in_flow was before so outer kind stood) stood.gave.bare ends)
 
 -- ---- one token
 
@@ -123,9 +160,9 @@ module _ (depth : ℕ) (in_flow : Bool) (levels : List CollectionKind) (before a
   module _ (token : Token) (event : Bool → Event) (is : IsScalar token)
       (events : (canonical : Bool) → token_events canonical in_flow token ≡ event canonical ∷ []) where
     pub scalar_began : WroteEvent before (event before.canonical) after → BeganValue depth in_flow token levels before levels after
-    scalar_began wrote = record { begins = inl (is, refl); gives = gives_scalar in_flow levels before after token event events wrote }
+    scalar_began wrote = record { begins = inl (is, refl); gives = gives_scalar in_flow levels before after token event (scalar_keeps token is) events wrote }
 
-    pub scalar_failed : (error : yaml_error_t) → FailedGiving before (event before.canonical) error after
+    pub scalar_failed : (error : yaml_error_t) → FailedAt before (event before.canonical) error after
         → BeginFailed depth in_flow token levels before error after
     scalar_failed error failed =
         record {
@@ -144,7 +181,7 @@ module _ (depth : ℕ) (in_flow : Bool) (levels : List CollectionKind) (before a
             (gives_start in_flow levels before after kind starts);
       }
 
-  pub opener_failed : (kind : CollectionKind) → length levels < depth → (error : yaml_error_t) → FailedGiving before (start_event in_flow kind) error after
+  pub opener_failed : (kind : CollectionKind) → length levels < depth → (error : yaml_error_t) → FailedAt before (start_event in_flow kind) error after
       → BeginFailed depth in_flow (opener kind) levels before error after
   opener_failed kind fits error failed =
       record {
@@ -206,7 +243,7 @@ step_without_memory depth in_flow ahead levels before now same =
       taken = [];
       left = ahead;
       parts = refl;
-      fails = λ was so stood. record { adds = adds_none in_flow levels before now same was so stood; is_error = inl refl };
+      fails = λ was so stood. record { gave = gave_no_more in_flow levels before now same was so stood; is_error = inl refl };
       begins = λ so stands. subst (BeginsWithinDepth depth) (sym (append-nil so)) (value_begins depth so levels stands);
     }
 
@@ -291,8 +328,7 @@ module _ (depth : ℕ) (in_flow : Bool) (levels outer : List CollectionKind) (is
           left = inner;
           parts = sym first;
           fails = λ was so stood. record {
-            adds = subst (λ (w : WriterState). AddsEvents was.emitter (tokens_events was.canonical in_flow (so ++ Token.key key ∷ [])) w.emitter) (sym same)
-                (gave was so stood).adds;
+            gave = subst (GaveEvents was (tokens_events was.canonical in_flow (so ++ Token.key key ∷ []))) (sym same) (gave was so stood).gave;
             is_error = inl memory;
           };
           begins = named_begins;
@@ -309,7 +345,7 @@ module _ (depth : ℕ) (in_flow : Bool) (levels outer : List CollectionKind) (is
           left = after;
           parts = sym (first ∙ ap (λ (all : List Token). Token.key key ∷ all) next);
           fails = λ was so stood.
-              subst (λ (all : List Token). FailedWith was (tokens_events was.canonical in_flow all) error now)
+              subst (λ (all : List Token). FailedHaving was (tokens_events was.canonical in_flow all) error now)
               (append_assoc so (Token.key key ∷ []) (token ∷ [])) (fails was (so ++ Token.key key ∷ []) (gave was so stood));
           begins = λ so stands. subst (BeginsWithinDepth depth) (append_assoc so (Token.key key ∷ []) (token ∷ [])) (begins so stands);
         }

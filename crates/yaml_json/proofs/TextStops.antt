@@ -1,4 +1,7 @@
 -- The meaning of an error for a text, and for the writer that was given its first tokens.
+use Rattle.yaml_writer.proofs.OpenLevels.{usable_by}
+use Rattle.yaml_writer.specs.WasGiven.{GaveEvents}
+use Rattle.yaml_json.specs.TokenEvents.{tokens_events}
 use Rattle.yaml_json.proofs.Common.{ℕ, IfSome, Option, None, Some, Err, Bool, List, ◌≡◌, refl, inl, inr, subst, sym, unwrap_or, failure_of, FailedInText, ap}
 use Rattle.yaml_json.proofs.Common.{◌∙◌, ◌++◌, ◌⊎◌, WriterState, Token, ExplainsError, WhyStopped, ◌+◌, ◌≤◌, [], arith, length}
 use Rattle.yaml_base.specs.declared.errors.{yaml_error_t.yaml_error_t, yaml_error_t.TheVariants.Memory}
@@ -41,13 +44,21 @@ module _ (depth : ℕ) (unique in_flow : Bool) (text : List ℕ) (was now : Writ
         left = stopped.1.left;
         split = stopped.1.parts;
         why = why_returned stopped.1.taken stopped.1.left stop error same is stopped.1.why;
-        adds = stopped.1.adds;
+        adds = stopped.1.gave.adds;
+        usable = usable_by was now (tokens_events was.canonical in_flow stopped.1.taken) stopped.1.gave;
       }
 
   stopped_by_writer : (code returned : yaml_error_t) → FailedInText depth in_flow text was code now
       → StopsInText depth unique in_flow text was (errors.Emitter returned) now
   stopped_by_writer code returned failed =
-      record { taken = failed.0; left = failed.1.0.left; split = failed.1.0.parts; why = failed.1.1; adds = failed.1.0.gave.adds }
+      record {
+        taken = failed.0;
+        left = failed.1.0.left;
+        split = failed.1.0.parts;
+        why = failed.1.1;
+        adds = failed.1.0.gave.gave.adds;
+        usable = usable_by was now (tokens_events was.canonical in_flow failed.0) failed.1.0.gave.gave;
+      }
 
   -- An error has the same meaning as the stop.
   pub text_stopped : (stop : Stop) (error : JsonError) → MatchesStop text stop error
@@ -108,6 +119,11 @@ module _ (depth : ℕ) (unique in_flow : Bool) (text : List ℕ) (was now : Writ
   code_said code (inl memory) = inl memory.0
   code_said code (inr has) = inr has
 
+  given_by : {error : JsonError} → (stops : StopsInText depth unique in_flow text was error now)
+      → GaveEvents was (tokens_events was.canonical in_flow stops.taken) now
+  given_by stops =
+      record { adds = stops.adds; canonical = stops.usable.canonical; levels = stops.usable.levels; bare = stops.usable.bare }
+
   pub writer_failed : (error : JsonError) → StopsInText depth unique in_flow text was error now → HasErrorSaid was (writers_error error) now
       → IfSome (writers_error error) (λ code. FailedInText depth in_flow text was code now)
   writer_failed (errors.NotJson line column says) stops said = tt
@@ -116,7 +132,7 @@ module _ (depth : ℕ) (unique in_flow : Bool) (text : List ℕ) (was now : Writ
   writer_failed (errors.DuplicateName line column) stops said = tt
   writer_failed (errors.Emitter code) stops said = (
     stops.taken,
-    (record { left = stops.left; parts = stops.split; gave = record { adds = stops.adds; is_error = code_said code said } }, stops.why),
+    (record { left = stops.left; parts = stops.split; gave = record { gave = given_by stops; is_error = code_said code said } }, stops.why),
   )
 
 -- the emitter's error is the one that is said

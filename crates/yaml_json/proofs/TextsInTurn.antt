@@ -1,4 +1,7 @@
 -- JSON texts, one after another.
+use Rattle.yaml_writer.proofs.OpenLevels.{closed_then, usable_same}
+use Rattle.yaml_writer.specs.WasGiven.{StaysUsable}
+use Rattle.yaml_json.proofs.TokenLemmas.{texts_closed}
 use Rattle.json.proofs.Unique.Spelling.{value-json_tokens_back}
 use Rattle.yaml_json.proofs.Common.{ℕ, ◌<◌, ◌==◌, flat_map, Some, Result, Err, length, Bool, false, true, List, [], map, ◌++◌, ◌∷◌, refl, ◌≡◌, eqb-true}
 use Rattle.yaml_json.proofs.Common.{append-nil, append_assoc, inl, inr, ap, subst, sym, ◌∙◌, false≢true, flat_map-append, map-append, Json, value, tokens}
@@ -166,6 +169,7 @@ module _ (depth : ℕ) (in_flow unique : Bool) (text : List ℕ) (was : WriterSt
   pub next_failed : (after : WriterState) (error : yaml_error_t) → (more ≡ [] → ⊥) → PassedEvents given between (Err error) after
       → StopsInTexts depth unique in_flow text was (errors.Emitter error) after
   next_failed after error some passed =
+      let begins = next_begun given after (Err error) one.wrote.bare passed in
       let before = events_with_separators was.canonical in_flow so_far.parts in
       let all = events_with_separators was.canonical in_flow (so_far.parts ++ (first, one.json) ∷ []) in
       let events = json_events was.canonical in_flow one.json in
@@ -186,6 +190,13 @@ module _ (depth : ℕ) (in_flow unique : Bool) (text : List ℕ) (was : WriterSt
         adds = subst (λ (events : List Event). AddsEvents was.emitter events after.emitter) (started_more ∙ sym (append-nil all))
             (adds_then was.emitter now.emitter after.emitter before (events ++ between) so_far.wrote.adds
             (adds_then now.emitter given.emitter after.emitter events between events_given.adds (moves_add passed.moves)));
+        usable = usable_same was after all (all ++ []) (sym (append-nil all))
+            (record {
+              canonical = begins.canonical ∙ events_given.canonical ∙ so_far.wrote.canonical;
+              levels = begins.levels ∙ events_given.levels ∙ so_far.wrote.levels
+                  ∙ sym (texts_closed was.canonical in_flow (so_far.parts ++ (first, one.json) ∷ []) was.levels);
+              bare = begins.bare;
+            });
       }
 
   -- If nothing follows, all texts are given.
@@ -257,4 +268,7 @@ texts_stopped depth in_flow unique text was rest first more now later cuts so_fa
           (tokens_events was.canonical in_flow stops.taken) so_far.wrote.adds
           (subst (λ (canonical : Bool). AddsEvents now.emitter (tokens_events canonical in_flow stops.taken) later.emitter) so_far.wrote.canonical
           stops.adds);
+      usable = closed_then was now later (events_with_separators was.canonical in_flow so_far.parts) (tokens_events was.canonical in_flow stops.taken)
+          (texts_closed was.canonical in_flow so_far.parts was.levels) so_far.wrote.canonical so_far.wrote.levels
+          (subst (λ (canonical : Bool). StaysUsable now (tokens_events canonical in_flow stops.taken) later) so_far.wrote.canonical stops.usable);
     }

@@ -1,5 +1,10 @@
 -- The events of the tokens of a value are those of the value.
-use Rattle.yaml_json.proofs.Common.{Bool, List, [], ◌++◌, ◌∷◌, refl, ◌≡◌, append_assoc, ap, ap₂}
+use Rattle.yaml_base.specs.declared.kinds.CollectionKind.{CollectionKind}
+use Rattle.yaml_base.specs.declared.kinds.CollectionKind.TheVariants.{Mapping, Sequence}
+use Rattle.yaml_json.specs.Failing.{events_with_separators}
+use Rattle.yaml_writer.proofs.OpenLevels.{levels_after-append, levels_after_end}
+use Rattle.yaml_writer.specs.WasGiven.{between, levels_after, levels_after_event}
+use Rattle.yaml_json.proofs.Common.{ℕ, Bool, List, [], ◌++◌, ◌∷◌, refl, ◌≡◌, append_assoc, ap, ap₂}
 use Rattle.yaml_json.proofs.Common.{sym, ◌∙◌, flat_map-append, chars, Json, null, boolean, number, string, Items, array, Members, object, no_items}
 use Rattle.yaml_json.proofs.Common.{item, no_members, member, Token, json_tokens, items_tokens, members_tokens, Event}
 use Rattle.yaml_json.proofs.Common.{scalar, sequence_start, sequence_end, mapping_start, mapping_end, text_content, collection_in, json_events, items_events}
@@ -41,3 +46,43 @@ mutual
       ap (λ (events : List Event). scalar (text_content (chars key)) ∷ events)
       (ends_after canonical in_flow (json_tokens json) (members_tokens more) (json_events canonical in_flow json)
       (members_events canonical in_flow more) mapping_end (value_given json canonical in_flow) (members_given more canonical in_flow))
+
+-- ---- a value leaves open the collections that were open before it
+
+mutual
+  pub value_closed : (json : Json) (canonical in_flow : Bool) (levels : List CollectionKind) → levels_after (json_events canonical in_flow json) levels ≡ levels
+  value_closed null canonical in_flow levels = refl
+  value_closed (boolean flag) canonical in_flow levels = refl
+  value_closed (number text) canonical in_flow levels = refl
+  value_closed (string text) canonical in_flow levels = refl
+  value_closed (array inner) canonical in_flow levels =
+      levels_after-append (items_events canonical in_flow inner) (sequence_end ∷ []) (levels ++ Sequence ∷ [])
+      ∙ ap (levels_after_event sequence_end) (items_closed inner canonical in_flow (levels ++ Sequence ∷ [])) ∙ levels_after_end Sequence levels
+  value_closed (object inner) canonical in_flow levels =
+      levels_after-append (members_events canonical in_flow inner) (mapping_end ∷ []) (levels ++ Mapping ∷ [])
+      ∙ ap (levels_after_event mapping_end) (members_closed inner canonical in_flow (levels ++ Mapping ∷ [])) ∙ levels_after_end Mapping levels
+
+  items_closed : (inner : Items) (canonical in_flow : Bool) (levels : List CollectionKind) → levels_after (items_events canonical in_flow inner) levels ≡ levels
+  items_closed no_items canonical in_flow levels = refl
+  items_closed (item json more) canonical in_flow levels =
+      levels_after-append (json_events canonical in_flow json) (items_events canonical in_flow more) levels
+      ∙ ap (levels_after (items_events canonical in_flow more)) (value_closed json canonical in_flow levels) ∙ items_closed more canonical in_flow levels
+
+  members_closed : (inner : Members) (canonical in_flow : Bool) (levels : List CollectionKind)
+      → levels_after (members_events canonical in_flow inner) levels ≡ levels
+  members_closed no_members canonical in_flow levels = refl
+  members_closed (member key json more) canonical in_flow levels =
+      levels_after-append (json_events canonical in_flow json) (members_events canonical in_flow more) levels
+      ∙ ap (levels_after (members_events canonical in_flow more)) (value_closed json canonical in_flow levels) ∙ members_closed more canonical in_flow levels
+
+-- So do some texts, with a document begun after each.
+pub texts_closed : (canonical in_flow : Bool) (parts : List (List ℕ × Json)) (levels : List CollectionKind)
+    → levels_after (events_with_separators canonical in_flow parts) levels ≡ levels
+texts_closed canonical in_flow [] levels = refl
+texts_closed canonical in_flow (part ∷ parts) levels =
+    let one = json_events canonical in_flow part.1 in
+    levels_after-append (one ++ between) (events_with_separators canonical in_flow parts) levels
+    ∙ ap (levels_after (events_with_separators canonical in_flow parts)) (levels_after-append one between levels)
+    ∙ ap (λ (kinds : List CollectionKind). levels_after (events_with_separators canonical in_flow parts) (levels_after between kinds))
+    (value_closed part.1 canonical in_flow levels)
+    ∙ texts_closed canonical in_flow parts levels

@@ -1,6 +1,7 @@
 -- The calls of a walk over the tokens of a text, by the calls of its writer and its lists.
+use Rattle.yaml_writer.proofs.OpenLevels.{levels_after_start}
 use Rattle.yaml_json.proofs.Common.{suc, ℕ, ◌-◌, ◌<◌, IfSome, OnOk, Result, Ok, Err, length, take, Bool, true, List, [], ◌++◌, ◌∷◌, refl, ◌≡◌, inl, inr, ap}
-use Rattle.yaml_json.proofs.Common.{sym, ◌∙◌, arith, chars, Event, scalar, Token, token_events, HoldsNames, AddsName, text_content, failure_of, FailedGiving}
+use Rattle.yaml_json.proofs.Common.{sym, ◌∙◌, arith, chars, Event, scalar, Token, token_events, HoldsNames, AddsName, text_content, failure_of}
 use Rattle.yaml_json.proofs.Common.{emitter_error_of, RefusesText, IsScalar, opener, closer, KeepsNamesAfter, BeganValue, BeginFailed, RefusesToken, Refuses}
 use Rattle.yaml_json.proofs.Common.{append-nil, subst, Some, NamesOnce, IsBare, WroteEvent, start_event, WriterState, text_event, with_collection, GaveEvent}
 use Rattle.yaml_json.proofs.{Common.EndsInnermost, Reaching.one_read, Refusing.unrefused, Stopping.start_failed, Walking.longer}
@@ -9,10 +10,10 @@ use Rattle.yaml_base.specs.declared.kinds.CollectionKind.TheVariants.{Mapping, S
 use Rattle.yaml_writer.proofs.Taken.{begins_err, begins_ok, gives_err, gives_ok}
 use Rattle.yaml_writer.specs.Writing.{Begins, Gives}
 use Rattle.yaml_json.proofs.KeepingNames.{keeps_closer, keeps_name, keeps_scalar, keeps_then}
-use Rattle.yaml_json.proofs.Stopping.{answered_at, answered_end, event_failed, if_some, kept_end, kept_event, kept_memory, kept_same, kept_then, kept_unread}
+use Rattle.yaml_json.proofs.Stopping.{FailedAt, answered_at, answered_end, event_failed, if_some, kept_end, kept_event, kept_memory, kept_same, kept_then, kept_unread}
 use Rattle.yaml_json.proofs.Stops.{first_stopped, first_unread, item_stopped, named_stopped, unread, unread_memory}
-use Rattle.yaml_json.proofs.Taking.{fails_scalar, gives_scalar, innermost_gone, opener_began, opener_failed, opener_without_memory, scalar_began}
-use Rattle.yaml_json.proofs.Taking.{scalar_failed, step_closes, step_item, step_member, step_no_item, step_no_member, step_unclosed, step_unnamed}
+use Rattle.yaml_json.proofs.Taking.{event_keeps, fails_scalar, gives_scalar, innermost_gone, opener_began, opener_failed, opener_without_memory, scalar_began}
+use Rattle.yaml_json.proofs.Taking.{scalar_failed, scalar_keeps, step_closes, step_item, step_member, step_no_item, step_no_member, step_unclosed, step_unnamed}
 use Rattle.yaml_json.proofs.Taking.{step_unread, step_without_memory}
 use Rattle.yaml_writer.proofs.GivenLemmas.{on_err, on_ok, text_is, wrote_event}
 use Rattle.yaml_json.specs.Failing.{IsWritersAnswer, Kept}
@@ -55,7 +56,10 @@ scalar_step settings token event is events nest fits before after given same ans
     let err = gives_err before after given answer gives in
     let all = answered_at (WroteEvent before (event before.canonical) after) before after (event before.canonical) answer result answers
     (on_ok answer (wrote_event before after given (event before.canonical) same) ok)
-    (on_err answer (λ error. event_failed before after given (event before.canonical) error same) err) in
+    (on_err answer
+    (λ error. event_failed before after given (event before.canonical) error same
+    (event_keeps settings.flow token event (scalar_keeps token is) events before.canonical before.levels))
+    err) in
     unrefused_step settings token (at nest before) (at nest after) result
     (on_ok result (scalar_began settings.depth settings.flow nest.kinds.items before after token event is events) all.0) fits
     (keeps_scalar token nest.names is) all.1 (kept_event before after before refl given answer result answers ok err)
@@ -73,7 +77,7 @@ opener_step settings kind before after room opened fits names answer result answ
     let ok = begins_ok kind before.writer after.writer event answer begins in
     let err = begins_err kind before.writer after.writer event answer begins in
     let all = answered_at (GaveEvent (with_collection before.writer kind) event (Ok tt) after.writer) before.writer after.writer event answer result answers ok
-    (on_err answer (λ error. start_failed kind before.writer after.writer event event error refl) err) in
+    (on_err answer (λ error. start_failed kind before.writer after.writer event error (levels_after_start settings.flow kind before.writer.levels)) err) in
     unrefused_step settings (opener kind) before after result
     (on_ok result (opener_began settings.depth settings.flow levels before.writer after.writer after.nest.kinds.items kind room opened) all.0) fits names
     all.1 (kept_event before.writer after.writer (with_collection before.writer kind) refl event answer result answers ok err)
@@ -234,13 +238,13 @@ module _ (before after : WriterState) (key : List ℕ) (bare : IsBare before) (a
   key_event = scalar (text_content (chars key))
 
   pub key_wrote : OnOk result (WroteEvent before key_event after) × (RefusesText result → ⊥)
-      × IfSome (emitter_error_of after result) (λ error. FailedGiving before key_event error after)
+      × IfSome (emitter_error_of after result) (λ error. FailedAt before key_event error after)
   key_wrote =
       let given = text_event before (chars key) in
       let same = text_is before (chars key) bare in
       answered_at (WroteEvent before key_event after) before after key_event answer result answers
       (on_ok answer (wrote_event before after given key_event same) (gives_ok before after given answer gives))
-      (on_err answer (λ error. event_failed before after given key_event error same) (gives_err before after given answer gives))
+      (on_err answer (λ error. event_failed before after given key_event error same refl) (gives_err before after given answer gives))
 
   pub key_kept : Kept before result after
   key_kept =
@@ -252,7 +256,7 @@ module _ {A : Type 0} (settings : JsonSettings) (reader middle left : Reader) (b
     (first : reader.ahead ≡ Token.key key ∷ middle.ahead) (later : Names A) (named : WriterState) where
   -- at which the writer failed
   pub walk_unnamed : (stop : Stop) → (IsByText stop → ⊥) → Kept before.writer (Err stop) named
-      → IfSome (failure_of named stop) (λ error. FailedGiving before.writer (scalar (text_content (chars key))) error named)
+      → IfSome (failure_of named stop) (λ error. FailedAt before.writer (scalar (text_content (chars key))) error named)
       → WalkStep settings reader before (Err stop) middle (at (record before.nest { names = later }) named)
   walk_unnamed stop never kept failed =
       record {
@@ -273,7 +277,7 @@ module _ {A : Type 0} (settings : JsonSettings) (reader middle left : Reader) (b
       (fresh : new ≡ true) (wrote : WroteEvent before.writer (scalar (text_content (chars key))) named) (kept : Kept before.writer (Ok tt) named)
       (were : left.before ≡ middle.ahead) where
     gave : GivesTokens settings.flow before.nest.kinds.items before.writer (Token.key key ∷ []) before.nest.kinds.items named
-    gave = gives_scalar settings.flow before.nest.kinds.items before.writer named (Token.key key) (λ k. scalar (text_content (chars key))) (λ k. refl) wrote
+    gave = gives_scalar settings.flow before.nest.kinds.items before.writer named (Token.key key) (λ k. scalar (text_content (chars key))) (λ c f l. refl) (λ k. refl) wrote
 
     pub walk_member : (result : Result (Unit {0}) Stop)
         → FirstStep settings middle (at (record before.nest { names = later }) named) result left after → WalkStep settings reader before result left after

@@ -6,7 +6,7 @@ use Rattle.yaml_json.proofs.Common.{append_cancel_right, left_some, value, skip_
 use Rattle.yaml_json.proofs.Common.{KeepsNames, BeganFirstValue, FirstFailed, Refuses, WalkProgress, IsBare, WriterState, AddsEvents}
 use Rattle.yaml_base.specs.{declared.errors.yaml_error_t.yaml_error_t, declared.errors.yaml_error_t.TheVariants.Memory}
 use Rattle.yaml_base.specs.{declared.kinds.CollectionKind.CollectionKind}
-use Rattle.yaml_json.proofs.Stops.{adds_none, all_left}
+use Rattle.yaml_json.proofs.Stops.{gave_no_more, all_left}
 use Rattle.yaml_json.proofs.TokenLemmas.{value_given}
 use Rattle.yaml_json.specs.{Failing.FailedInValue, Wrote.WroteValue, declared.names.Names.Names, declared.values.Stop.Stop}
 use Rattle.yaml_json.proofs.Walking.{closes_value, value_begins, awaiting_whole, next_stands}
@@ -32,7 +32,7 @@ module _ (depth : ℕ) (in_flow : Bool) (start : List Token) (was : WriterState)
       record {
         left = start;
         parts = refl;
-        gave = record { adds = adds_none in_flow [] was now same was [] (stood_nothing in_flow was bare); is_error = inl memory };
+        gave = record { gave = gave_no_more in_flow [] was now same was [] (stood_nothing in_flow was bare); is_error = inl memory };
       },
       closes_value depth [] (awaiting_whole depth start).begins,
     ),
@@ -91,7 +91,7 @@ module _ (depth : ℕ) (in_flow : Bool) (start : List Token) (was : WriterState)
           why = refuses.why so_far.taken so_far.stands (subst (λ (all : List Token). KeepsNames all held) same names.kept);
           place = refuses.place so_far.taken so_far.stands (subst (λ (all : List Token). KeepsNames all held) same names.kept);
           were = all_left stop (so_far.taken ++ refuses.taken) left refuses.inside;
-          adds = refuses.adds was so_far.taken so_far.stood;
+          gave = refuses.gave was so_far.taken so_far.stood;
         }
 
     -- nothing is open: the value was given
@@ -106,9 +106,9 @@ module _ (depth : ℕ) (in_flow : Bool) (start : List Token) (was : WriterState)
           read = found.1;
           wrote = record {
             adds = subst (λ (events : List Event). AddsEvents was.emitter events now.emitter)
-                (ap (tokens_events was.canonical in_flow) same ∙ value_given found.0 was.canonical in_flow) stood.adds;
-            canonical = stood.canonical;
-            levels = stood.levels ∙ append-nil was.levels;
-            bare = stood.bare;
+                (ap (tokens_events was.canonical in_flow) same ∙ value_given found.0 was.canonical in_flow) stood.gave.adds;
+            canonical = stood.gave.canonical;
+            levels = stood.gave.levels ∙ stood.opened ∙ append-nil was.levels;
+            bare = stood.gave.bare;
           };
         }

@@ -108,7 +108,7 @@ module _ (given : Settings) (in_flow : Bool) (depth : ℕ) (text : List ℕ) whe
     pub text_failed : FailedInText depth in_flow text first error now → JsonFailsBy given in_flow depth text error
     text_failed (taken, (failed, begins)) =
         let stood = subst (λ (c : Bool). StandsTaken given (opening ++ tokens_events c in_flow taken) [] now.emitter) canonical
-        (moves_taken failed.gave.adds given opening [] stands) in
+        (moves_taken failed.gave.gave.adds given opening [] stands) in
         by_error failed.gave.is_error
         (λ is. failed_after taken failed.left failed.parts now.emitter stood.stands error is begins) where
           by_error : (error ≡ Memory) ⊎ (now.emitter.error ≡ Some error) → (now.emitter.error ≡ Some error → JsonFailsBy given in_flow depth text error)

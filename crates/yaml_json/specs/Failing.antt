@@ -11,7 +11,7 @@ use Rattle.yaml_base.specs.declared.errors.yaml_error_t.{yaml_error_t}
 use Rattle.yaml_base.specs.declared.errors.yaml_error_t.TheVariants.{Memory}
 use Rattle.yaml_pen.specs.Wrote.{Grows}
 use Rattle.yaml_emitter.specs.Uncut.{IsUncut}
-use Rattle.yaml_writer.specs.Failing.{FailedWith, HasErrorSaid, StaysSound}
+use Rattle.yaml_writer.specs.Failing.{FailedHaving, HasErrorSaid, StaysSound}
 use Rattle.yaml_writer.specs.Unfinished.{FailsBy, PassesLimit}
 use Rattle.yaml_writer.specs.WasGiven.{between}
 use Rattle.yaml_writer.specs.Writing.{EndedCollection, WriterState, closing, opening}
@@ -68,7 +68,7 @@ FailedAtEnd was error now = ((was.levels ≡ []) × (now ≡ was)) ⊎ EndedColl
 pub record FailedAfter (in_flow : Bool) (taken ahead : List Token) (was : WriterState) (error : yaml_error_t) (now : WriterState) : Type 0 where
   pub left : List Token
   pub parts : taken ++ left ≡ ahead
-  pub gave : FailedWith was (tokens_events was.canonical in_flow taken) error now
+  pub gave : FailedHaving was (tokens_events was.canonical in_flow taken) error now
 
 -- the events of the first of these tokens were given to the emitter, and some value nested at most `depth` deep begins with the
 -- tokens of these events; then an allocation failed, or the emitter has this error now

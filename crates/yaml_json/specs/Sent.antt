@@ -10,9 +10,9 @@ use Rattle.yaml_base.specs.Settings.{Settings}
 use Rattle.yaml_base.specs.declared.errors.yaml_error_t.{yaml_error_t}
 use Rattle.yaml_base.specs.declared.errors.yaml_error_t.TheVariants.{Memory}
 use Rattle.yaml_emitter.specs.State.{State}
-use Rattle.yaml_writer.specs.Failing.{FailedWith, HasErrorSaid}
-use Rattle.yaml_writer.specs.WasGiven.{AddsTaking, NextUnsent, IsAllTaken, WroteTaking, between}
-use Rattle.yaml_writer.specs.Writing.{AddsEvents, Finishes, StandsTaken, WriterState, opening}
+use Rattle.yaml_writer.specs.Failing.{FailedHaving, HasErrorSaid}
+use Rattle.yaml_writer.specs.WasGiven.{AddsTaking, GaveEvents, StaysUsable, NextUnsent, IsAllTaken, WroteTaking, between}
+use Rattle.yaml_writer.specs.Writing.{Finishes, StandsTaken, WriterState, opening}
 use Rattle.yaml_json.specs.Cuts.{HasScanned}
 use Rattle.yaml_json.specs.Failing.{events_with_separators, writers_error}
 use Rattle.yaml_json.specs.Places.{HasPlaceWithin, IsPlaceAfter}
@@ -73,7 +73,7 @@ Advances depth in_flow unique ahead before held left now holds =
 -- the writer failed at the start of the next document, and nothing was given to the sink; or the sink failed
 abbrev pub FailsNext : WriterState → Option (List ℕ) → StreamError → WriterState → Option (List ℕ) → Type 0
 FailsNext before held (faults.WriteFailed error) after holds = NextUnsent before held after holds
-FailsNext before held (faults.Refused (errors.Emitter error)) after holds = FailedWith before between error after × (holds ≡ held)
+FailsNext before held (faults.Refused (errors.Emitter error)) after holds = FailedHaving before between error after × (holds ≡ held)
 FailsNext before held _ after holds = ⊥
 
 -- ---- errors
@@ -116,7 +116,7 @@ pub record StopsInPart (depth : ℕ) (unique in_flow : Bool) (front text : List 
   pub split : taken ++ left ≡ tokens text
   pub why : StopsPartAt depth unique text taken left error
   pub place : HasPlaceWithin depth front text error
-  pub adds : AddsEvents was.emitter (tokens_events was.canonical in_flow taken) now.emitter
+  pub gave : GaveEvents was (tokens_events was.canonical in_flow taken) now
 
 -- The sink was given these bytes; if it failed, these and a beginning of the bytes that were offered to it then.
 abbrev pub GivesSink : StreamError → (old new : Option (List ℕ)) → (handed offered : List ℕ) → Type 0
@@ -162,6 +162,7 @@ pub record StopsSending (depth : ℕ) (unique in_flow : Bool) (text : List ℕ) 
   pub handed : List ℕ
   pub adds :
       AddsTaking was.emitter (events_with_separators was.canonical in_flow parts ++ tokens_events was.canonical in_flow taken) handed now.emitter
+  pub usable : StaysUsable was (events_with_separators was.canonical in_flow parts ++ tokens_events was.canonical in_flow taken) now
   pub documents : SentDocuments in_flow parts was before error handed after
 
 -- If the sending had these bytes ahead, which begin at this place, it stops.

@@ -3,6 +3,7 @@ use Rattle.std.specs.Prelude.{◌≡◌, ℕ, Bool, List, ◌∷◌, ◌++◌, f
 use Rattle.json.specs.Token.{Token}
 use Rattle.json.specs.Lex.{tokens}
 use Rattle.json.specs.Json.{Json}
+use Rattle.yaml_writer.specs.WasGiven.{StaysUsable}
 use Rattle.yaml_writer.specs.Writing.{AddsEvents, WriterState}
 use Rattle.yaml_json.specs.Failing.{events_with_separators}
 use Rattle.yaml_json.specs.Places.{HasPlaceAfter}
@@ -19,6 +20,7 @@ pub record StopsInText (depth : ℕ) (unique in_flow : Bool) (text : List ℕ) (
   pub split : taken ++ left ≡ tokens text
   pub why : TokensStopAt depth unique text taken left error
   pub adds : AddsEvents was.emitter (tokens_events was.canonical in_flow taken) now.emitter
+  pub usable : StaysUsable was (tokens_events was.canonical in_flow taken) now
 
 -- the first of the texts in a text are allowed, and the writer was given their events, with a document begun after each, and then those of
 -- the first tokens of the next text, and no more, for this reason, which has its place there
@@ -36,3 +38,4 @@ pub record StopsInTexts (depth : ℕ) (unique in_flow : Bool) (text : List ℕ) 
   pub place : HasPlaceAfter depth text (flat_map (λ part. part.0) parts) next error
   pub adds :
       AddsEvents was.emitter (events_with_separators was.canonical in_flow parts ++ tokens_events was.canonical in_flow taken) now.emitter
+  pub usable : StaysUsable was (events_with_separators was.canonical in_flow parts ++ tokens_events was.canonical in_flow taken) now

@@ -7,12 +7,12 @@ use Rattle.json.specs.Lex.{tokens}
 use Rattle.json.specs.Tree.{json_tokens}
 use Rattle.yaml_base.specs.declared.errors.yaml_error_t.{yaml_error_t}
 use Rattle.yaml_base.specs.declared.errors.yaml_error_t.TheVariants.{Memory}
-use Rattle.yaml_writer.specs.Writing.{AddsEvents, WriterState}
+use Rattle.yaml_writer.specs.Writing.{WriterState}
 use Rattle.yaml_base.specs.declared.kinds.CollectionKind.{CollectionKind}
 use Rattle.yaml_base.specs.declared.kinds.CollectionKind.TheVariants.{Mapping, Sequence}
 use Rattle.yaml_json.specs.Begins.{BeginsAllowed, BeginsSome, BeginsWithinDepth}
-use Rattle.yaml_writer.specs.Failing.{FailedWith}
-use Rattle.yaml_writer.specs.WasGiven.{GivenLeaving}
+use Rattle.yaml_writer.specs.Failing.{FailedHaving}
+use Rattle.yaml_writer.specs.WasGiven.{GaveEvents, levels_after}
 use Rattle.yaml_json.specs.Refused.{TokensBreakAt, NamesTwiceAt, OpensTooDeepAt, is_marked}
 use Rattle.yaml_json.specs.HeldNames.{HaveNames, HoldsNames}
 use Rattle.yaml_json.specs.Names.{NamesOnce, all_names_after, outer_names}
@@ -101,8 +101,9 @@ BeginsValueBy depth levels token now =
 -- ---- the writer
 
 -- the events of these tokens were given, and these collections are open within those that were
-abbrev pub GaveTokens : (in_flow : Bool) → WriterState → List Token → List CollectionKind → WriterState → Type 0
-GaveTokens in_flow was taken levels now = GivenLeaving was (tokens_events was.canonical in_flow taken) (was.levels ++ levels) now
+pub record GaveTokens (in_flow : Bool) (was : WriterState) (taken : List Token) (levels : List CollectionKind) (now : WriterState) : Type 0 where
+  pub gave : GaveEvents was (tokens_events was.canonical in_flow taken) now
+  pub opened : levels_after (tokens_events was.canonical in_flow taken) was.levels ≡ was.levels ++ levels
 
 -- After the tokens that were given before, the events of these tokens were given.
 abbrev pub GivesTaken : (in_flow : Bool) → List CollectionKind → WriterState → List Token → List CollectionKind → WriterState → Type 0
@@ -115,7 +116,7 @@ abbrev pub FailsGiving : (in_flow : Bool) → List CollectionKind → WriterStat
 FailsGiving in_flow levels before taken error after =
     ((error ≡ Memory) × (after ≡ before))
     ⊎ ((was : WriterState) (so : List Token) → GaveTokens in_flow was so levels before
-    → FailedWith was (tokens_events was.canonical in_flow (so ++ taken)) error after)
+    → FailedHaving was (tokens_events was.canonical in_flow (so ++ taken)) error after)
 
 -- ---- the names
 
@@ -251,7 +252,7 @@ pub record StepFailed (depth : ℕ) (in_flow : Bool) (ahead : List Token) (level
   pub parts : taken ++ left ≡ ahead
   pub fails :
       (was : WriterState) (so : List Token) → GaveTokens in_flow was so levels before
-      → FailedWith was (tokens_events was.canonical in_flow (so ++ taken)) error now
+      → FailedHaving was (tokens_events was.canonical in_flow (so ++ taken)) error now
   pub begins : (so : List Token) → LeavesOpen depth so levels → BeginsWithinDepth depth (so ++ taken)
 
 -- why the text stops the writing after these tokens, with those ahead
@@ -343,9 +344,9 @@ pub record Refuses {A : Type 0} (depth : ℕ) (unique in_flow : Bool) (levels : 
   pub taken : List Token
   pub parts : taken ++ left ≡ ahead
   pub inside : StopsInside stop
-  pub adds :
+  pub gave :
       (was : WriterState) (so : List Token) → GaveTokens in_flow was so levels before
-      → AddsEvents was.emitter (tokens_events was.canonical in_flow (so ++ taken)) now.emitter
+      → GaveEvents was (tokens_events was.canonical in_flow (so ++ taken)) now
   pub why : (so : List Token) → LeavesOpen depth so levels → KeepsNames so held → WhyStopped depth unique (so ++ taken) left stop
   pub place : (so : List Token) → LeavesOpen depth so levels → KeepsNames so held → WhereStopped depth unique (so ++ taken) left stop
 
@@ -358,7 +359,7 @@ pub record TextStopsWriting (depth : ℕ) (unique in_flow : Bool) (all before : 
   pub why : WhyStopped depth unique taken left stop
   pub place : WhereStopped depth unique taken left stop
   pub were : WereLeft stop taken left before
-  pub adds : AddsEvents was.emitter (tokens_events was.canonical in_flow taken) now.emitter
+  pub gave : GaveEvents was (tokens_events was.canonical in_flow taken) now
 
 -- so of the tokens of a text
 abbrev pub StopsText : (depth : ℕ) → (unique in_flow : Bool) → (text : List ℕ) → WriterState → Stop → WriterState → Type 0

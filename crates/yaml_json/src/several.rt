@@ -25,7 +25,8 @@ use yaml_writer::Writer;
 /// `NotJson`, `Marked`, `TooDeep` and `DuplicateName` as by `write_json`, if one of the texts is refused; those before it are JSON.
 /// `Emitter` with the error of the writer's emitter, which has it now, or with `Memory` if an allocation fails. After an
 /// error the writer was given the documents of the texts before, and exactly the events of the tokens before of the text that is
-/// refused; its emitter has no error that it hadn't before, unless it is the one that is returned.
+/// refused; its emitter has no error that it hadn't before, unless it is the one that is returned. The writer can be used further, as
+/// after an error of `write_json`.
 pub fn write_json_texts<A: Allocator + Copy>(
     alloc: A,
     writer: &mut Writer<A>,

@@ -275,7 +275,7 @@ fn write_last<A: Allocator + Copy>(
 ///
 /// `Refused` as by `write_json_texts`; `NotText` if a text isn't UTF-8; `ReadFailed` and `WriteFailed`. Until then the sink was
 /// given whole documents, those of the texts before the one that is refused. A sink that failed has a beginning of their bytes, and
-/// the writer still has the bytes that were offered to it last.
+/// the writer still has the bytes that were offered to it last. The writer can be used further, as after an error of `write_json`.
 pub fn send_json_texts<A: Allocator + Copy, R: Read, W: Write>(
     alloc: A,
     writer: &mut Writer<A>,

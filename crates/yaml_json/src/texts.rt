@@ -137,7 +137,8 @@ pub(crate) fn write_text_by<A: Allocator + Copy>(
 /// `TooDeep` if the text is JSON up to an array or an object that opens too deep, `DuplicateName` if it is JSON up to a key
 /// that its object has already and may have once. `Emitter` with the error of the writer's
 /// emitter, which has it now, or with `Memory` if an allocation fails. After an error the writer was given exactly the events of the
-/// tokens before, and its emitter has no error that it hadn't before, unless it is the one that is returned.
+/// tokens before, and its emitter has no error that it hadn't before, unless it is the one that is returned. The writer can be used
+/// further: the collections are open that these events leave open, and the next node has no anchor and no tag.
 pub fn write_json<A: Allocator + Copy>(
     alloc: A,
     writer: &mut Writer<A>,

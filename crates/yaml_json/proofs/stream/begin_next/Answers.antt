@@ -12,7 +12,7 @@ returns-in-Err g c =
     let before = c.args.writer.now in
     let passed = c.in-Err.ensures.passed (bare_awaits_none before c.requires) in
     record {
-      failed = (begun_not before c.next_document.new.self c.in-Err.error passed, refl);
+      failed = (begun_not before c.next_document.new.self c.in-Err.error c.requires passed, refl);
       grew = grew_failing before c.next_document.new.self between c.in-Err.error passed;
     }
 
@@ -35,6 +35,6 @@ returns-in-Err-send g c =
     let left = c.in-Err-send.ensures.left in
     record {
       failed = subst (λ (w : WriterState). NextUnsent before (g.W.Write.contents c.args.sink.now) w (g.W.Write.contents c.send.new.sink)) (sym left)
-          (begun_unsent before middle (g.W.Write.contents c.args.sink.now) (g.W.Write.contents c.send.new.sink) passed c.in-Err-send.ensures.first);
+          (begun_unsent before middle (g.W.Write.contents c.args.sink.now) (g.W.Write.contents c.send.new.sink) c.requires passed c.in-Err-send.ensures.first);
       grew = subst (λ (w : WriterState). Grew before None w) (sym left) (grew_passed before middle between passed);
     }

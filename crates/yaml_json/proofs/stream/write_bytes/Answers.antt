@@ -22,7 +22,7 @@ returns-in-Err g c =
           place = placed_no_text c.args.settings.now.depth c.args.bytes.now c.valid_up_to.result c.place_of-line.result.0 c.place_of-line.result.1
               (c.place_of-line.ensures.line, c.place_of-line.ensures.column)
               (subst (IsValidUpTo c.args.bytes.now) (sym c.valid_up_to.ensures) c.in-Err.ensures.cases.1);
-          adds = (wrote_nothing writer c.requires.bare).adds;
+          gave = wrote_nothing writer c.requires.bare;
         };
         grew = grew_itself writer;
       };

@@ -1,8 +1,9 @@
-use Rattle.yaml_json.proofs.Common.{ℕ, Bool, true, Err, List, [], ◌∷◌, ◌++◌, refl, ◌≡◌, append_assoc, append_cancel_right, subst, sym, ◌∙◌, json_tokens}
+use Rattle.yaml_json.proofs.Common.{ℕ, Bool, true, Err, List, [], ◌∷◌, ◌++◌, refl, ◌≡◌, append_assoc, append_cancel_right, sym, ◌∙◌, json_tokens}
+use Rattle.yaml_writer.proofs.OpenLevels.{gave_same}
 use Rattle.json.proofs.Unique.Spelling.{value-json_tokens_back}
-use Rattle.yaml_json.proofs.Common.{Event, AddsEvents, NamesOnce, Token, WriterState}
+use Rattle.yaml_json.proofs.Common.{NamesOnce, json_events, tokens_events, Token, WriterState}
 use Rattle.yaml_json.proofs.{Refusing.past_refused, Refusing.value_names, Stopping.kept_same, Stopping.kept_then}
-use Rattle.yaml_json.proofs.{TokenLemmas.value_given}
+use Rattle.yaml_json.proofs.{TokenLemmas.value_closed, TokenLemmas.value_given}
 use Rattle.yaml_json.proofs.WalkCalls.{only_value}
 use Rattle.yaml_json.specs.{Walk.TextStopsWriting, WalkSteps.at, Wrote.WroteValue, declared.values.Spot.TheVariants.PastValue}
 use Rattle.yaml_json.specs.declared.values.Stop.TheVariants as stops
@@ -32,8 +33,14 @@ past_stopped (token ∷ after) depth unique flow start before front last was now
           ),
         ),
       );
-      adds = subst (λ (events : List Event). AddsEvents was.emitter events now.emitter)
-          (sym (value_given wrote.json was.canonical flow)) wrote.wrote.adds;
+      gave = gave_same was now (json_events was.canonical flow wrote.json) (tokens_events was.canonical flow (json_tokens wrote.json))
+          (sym (value_given wrote.json was.canonical flow))
+          (record {
+            adds = wrote.wrote.adds;
+            canonical = wrote.wrote.canonical;
+            levels = wrote.wrote.levels ∙ sym (value_closed wrote.json was.canonical flow was.levels);
+            bare = wrote.wrote.bare;
+          });
     }
 
 pub returns-else-is_at_end-clause-steps : goal.returns-else-is_at_end-clause-steps

@@ -1,6 +1,6 @@
 use Rattle.yaml_json.proofs.Common.{IfSome, Err, Ok, List, [], ◌≡◌, ◌∙◌, ap, length, subst, arith, failure_of, BeganFirstValue, FirstFailed, RefusesFirst}
 use Rattle.yaml_json.proofs.{KeepingNames.names_begin, KeepingNames.names_done, KeepingNames.names_on, Stopping.if_some, Stopping.kept_then}
-use Rattle.yaml_json.proofs.{Stops.adds_none, Stops.first_stopped_writing}
+use Rattle.yaml_json.proofs.{Stops.gave_no_more, Stops.first_stopped_writing}
 use Rattle.yaml_json.proofs.{HeldNameLemmas.no_item, Taking.stood_nothing, Reaching.last_on}
 use Rattle.yaml_json.proofs.WholeWalk.{all_written, first_failed, first_so_far, step_failed, step_stopped, steps_on}
 use Rattle.yaml_base.specs.declared.kinds.CollectionKind.{CollectionKind}
@@ -17,7 +17,7 @@ returns-in-Err-clause-steps g c =
     record {
       refused = λ by_text. first_stopped_writing s.depth s.unique_names s.flow a.reader.now.ahead c.write_first.new.reader.before
           c.in-Err.ensures.before a.writer.now now stop refuses
-          (adds_none s.flow [] a.writer.now now (step.same by_text) a.writer.now [] (stood_nothing s.flow a.writer.now c.requires.bare));
+          (gave_no_more s.flow [] a.writer.now now (step.same by_text) a.writer.now [] (stood_nothing s.flow a.writer.now c.requires.bare));
       kept = step.kept;
       failed = if_some (failure_of now stop)
           (λ error. first_failed s.depth s.flow a.reader.now.ahead a.writer.now error now c.requires.bare)
