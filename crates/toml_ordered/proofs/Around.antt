@@ -7,17 +7,19 @@ use Rattle.toml_parser.specs.Reading.{key_view}
 use Rattle.toml_parser.specs.Strings.{Key}
 use Rattle.toml.specs.Parse.{after_element, key_equals}
 use Rattle.toml_ordered.proofs.Conflicts.{knows_more_pairs, knows_no_pairs, more_pairs, pairs_conflict, reason_in}
+use Rattle.toml_ordered.proofs.Blaming.{IsBlamed, array_unblamed, braces_unblamed, keyval_nameless, keyval_none, neither, none_some, read_unblamed, same_pair}
+use Rattle.toml_ordered.proofs.Blaming.{same_rest, unblamed}
 use Rattle.toml_ordered.proofs.Depths.{blank_within, ends_within, more_items}
 use Rattle.toml_ordered.proofs.Endings.{after_element_ends, end_left, ends_drop, ends_self, ends_then, item_left, key_equals_ends, pair_left}
 use Rattle.toml_ordered.proofs.Endings.{start_ends, value_ends}
 use Rattle.toml_ordered.proofs.Turns.{items_turn, keyval_is, members_turn, val_array, val_table}
 use Rattle.toml_ordered.specs.Data.{Items, TomlNode, TomlNodes, array, no_items, no_nodes, push_item, table}
 use Rattle.toml_ordered.specs.Keys.{table_view}
-use Rattle.toml_ordered.specs.Firsts.{AddsFirsts, IsAgain, keys_firsts, table_firsts}
+use Rattle.toml_ordered.specs.Firsts.{AddsFirsts, IsAgain, NeitherTells, keys_firsts, table_firsts}
 use Rattle.toml_ordered.specs.Grammar.{val}
 use Rattle.toml_ordered.specs.Inside.{ArrayUpTo, BracesUpTo, FindsHere, GoesOnInside, IsFoundHere, IsNextInside, IsValueRead, IsValueRefused, NextPair}
-use Rattle.toml_ordered.specs.Nesting.{ClashesIn, ItemAt, NestsPast}
-use Rattle.toml_ordered.specs.Places.{EndsWith, IsShutInBraces, PairAt, PairsClash, key_parts}
+use Rattle.toml_ordered.specs.Nesting.{ClashesIn, ItemAt, NestsPast, next_item}
+use Rattle.toml_ordered.specs.Places.{EndsWith, IsShutInBraces, PairAt, key_parts}
 use Rattle.toml_ordered.specs.Reading.{IsMemory}
 use Rattle.toml_ordered.specs.Tables.{put}
 use Rattle.toml_ordered.specs.declared.tree.Table.{Table as CodeTable}
@@ -73,6 +75,11 @@ module _ (depth : ℕ) (text : List ℕ) (found : Items) (rest : List ℕ) (know
         read = more_items depth known.count (drop 1 text) rest x after next known.read read element;
       }
 
+  -- an array whose next item, or the end of it, is refused, for no other reason
+  pub array_neither : next_item depth rest ≡ None → (IsBlamed depth (skip_blank rest) → ⊥)
+      → NeitherTells (λ key one two. ClashesIn (suc depth) key one two text) (λ left. NestsPast (suc depth) left text)
+  array_neither stops none = neither (suc depth) text (array_unblamed depth text rest known.count known.opens known.read stops none)
+
 -- ---- tables in braces
 
 pub braces_begin : (depth : ℕ) (text : List ℕ) (found : CodeTable) (rest : List ℕ) → (first text == 91) ≡ false → (first text == 123) ≡ true
@@ -121,10 +128,9 @@ module _ (depth : ℕ) (text : List ℕ) (found : CodeTable) (rest : List ℕ) (
             λ real.
                 known.value
                 ∙ rw (members_turn (val depth) known.room (table_view found) rest (omega (arith, known.enough)), other, named, read, denies real),
-            (reason_in refused (PairsClash depth (drop 1 text)) (λ name one two. ClashesIn (suc depth) name one two text) (λ left. NestsPast (suc depth) left text)
-                (λ left. NestsPast (suc depth) left text) (λ name one two clash. inr (known.opens, inl clash)) (λ left deep. deep)
-                (pairs_conflict depth (drop 1 text) rest (table_view found) key here (table_firsts found) refused known.knows pair_at within x after
-                (keyval_is (val depth) (skip_blank rest) key at after x named read) denies again (λ left. NestsPast (suc depth) left text))),
+            pairs_conflict depth (drop 1 text) rest (table_view found) key here (table_firsts found) refused known.knows pair_at within x after
+                (keyval_is (val depth) (skip_blank rest) key at after x named read) denies again (λ name one two. ClashesIn (suc depth) name one two text)
+                (λ name one two clash. inr (known.opens, inl clash)) (λ left. NestsPast (suc depth) left text),
           )
 
           pub braces_more : (new : CodeTable) (next : List ℕ) → length after < length at → put key x (table_view found) ≡ Some (table_view new)
@@ -147,6 +153,41 @@ module _ (depth : ℕ) (text : List ℕ) (found : CodeTable) (rest : List ℕ) (
                 read = more_pairs depth known.count (drop 1 text) (table_view found) (table_view new) rest key x after next known.read
                     (keyval_is (val depth) (skip_blank rest) key at after x named read) defined element;
               }
+
+-- a table in braces whose next pair, or the end of it, is refused, for no other reason
+module _ (depth : ℕ) (text : List ℕ) (found : CodeTable) (rest : List ℕ) (known : BracesUpTo depth text found rest) where
+  abbrev NoReason : Type 0
+  NoReason = NeitherTells (λ key one two. ClashesIn (suc depth) key one two text) (λ left. NestsPast (suc depth) left text)
+
+  pub braces_unnamed : key_equals (skip_blank rest) ≡ None → NoReason
+  braces_unnamed none =
+      neither (suc depth) text
+      (braces_unblamed depth text rest (table_view found) known.count known.opens known.read (rw none)
+      (λ name value after pair refused. none_some (sym (keyval_nameless (val depth) (skip_blank rest) none) ∙ pair))
+      (λ name after named blamed. none_some (sym none ∙ named)))
+
+  module _ (key : Key) (at : List ℕ) (named : key_equals (skip_blank rest) ≡ Some (key, at)) where
+    pub braces_refused : val depth at ≡ None → (IsBlamed depth at → ⊥) → NoReason
+    braces_refused unread none =
+        let no_pair = keyval_none (val depth) (skip_blank rest) key at named unread in
+        neither (suc depth) text
+        (braces_unblamed depth text rest (table_view found) known.count known.opens known.read (rw no_pair)
+        (λ name value after pair refused. none_some (sym no_pair ∙ pair))
+        (λ name after also blamed. none (subst (IsBlamed depth) (same_rest (name, after) (key, at) (sym also ∙ named)) blamed)))
+
+    pub braces_parted : (x : TomlNode) (after : List ℕ) → val depth at ≡ Some (x, after) → (more : TomlNodes) → put key x (table_view found) ≡ Some more
+        → after_element 125 after ≡ None → NoReason
+    braces_parted x after read more defined element =
+        let whole = keyval_is (val depth) (skip_blank rest) key at after x named read in
+        neither (suc depth) text
+        (braces_unblamed depth text rest (table_view found) known.count known.opens known.read (rw (whole, defined, element))
+        (λ name value end pair refused. none_some (sym (same_put (name, value) (key, x) (same_pair ((name, value), end) ((key, x), after) (sym pair ∙ whole))
+        refused) ∙ defined))
+        (λ name end also blamed. read_unblamed depth at (x, after) read
+        (subst (IsBlamed depth) (same_rest (name, end) (key, at) (sym also ∙ named)) blamed)))
+      where
+        same_put : (p q : Key × TomlNode) → p ≡ q → put p.0 p.1 (table_view found) ≡ None → put q.0 q.1 (table_view found) ≡ None
+        same_put p q is = subst (λ (r : Key × TomlNode). put r.0 r.1 (table_view found) ≡ None) is
 
 -- the finding of `next_pair`, at the beginning of a table in braces, and after a pair
 pub pair_begins : (depth less : ℕ) (text from : List ℕ) (found : CodeTable) (r : Result (Found × Bor (List ℕ)) Fault) → suc less ≡ depth
@@ -173,7 +214,10 @@ inside_refused depth text (Array found) at fault (rest, known, other, is) refuse
       λ real. array_bad depth text _ rest known other (rw is at refused.0 real),
       reason_in fault (λ key one two. ClashesIn depth key one two at) (λ key one two. ClashesIn (suc depth) key one two text) (λ left. NestsPast depth left at)
           (λ left. NestsPast (suc depth) left text) (λ key one two clash. inl (known.opens, (at, item, clash)))
-          (λ left deep. inl (known.opens, (at, item, deep))) refused.1,
+          (λ left deep. inl (known.opens, (at, item, deep)))
+          (λ real none. array_neither depth text _ rest known
+          (rw (subst (λ (i : List ℕ). val depth i ≡ None) is (refused.0 real)))
+          (subst (λ (i : List ℕ). IsBlamed depth i → ⊥) is (unblamed depth at none))) refused.1,
     )
 inside_refused depth text (Braces found) at fault (rest, known, other, named, is) refused =
     let pair : PairAt depth (drop 1 text) (table_view found.table) (key_view found.key) (length (skip_blank rest)) = record { rest = rest; after = at; ends = known.ends; count = known.count; read = known.read; begins = named; here = refl } in
@@ -183,7 +227,8 @@ inside_refused depth text (Braces found) at fault (rest, known, other, named, is
       λ real. braces_bad depth text found.table rest known other name at named (refused.0 real),
       reason_in fault (λ key one two. ClashesIn depth key one two at) (λ key one two. ClashesIn (suc depth) key one two text) (λ left. NestsPast depth left at)
           (λ left. NestsPast (suc depth) left text) (λ key one two clash. inr (known.opens, inr (keys, name, here, pair, clash)))
-          (λ left deep. inr (known.opens, (keys, name, here, pair, deep))) refused.1,
+          (λ left deep. inr (known.opens, (keys, name, here, pair, deep)))
+          (λ real none. braces_refused depth text found.table rest known name at named (refused.0 real) (unblamed depth at none)) refused.1,
     )
 
 -- The open arrays and tables, from the outermost on, begin the text, and the value inside of all begins here and may nest so deep.

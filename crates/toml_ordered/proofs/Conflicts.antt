@@ -7,8 +7,9 @@ use Rattle.toml_ordered.specs.declared.fault.Fault.{Fault}
 use Rattle.toml_ordered.specs.declared.fault.Fault.TheVariants as fault
 use Rattle.toml_ordered.proofs.Depths.{blank_within, ends_within, pair_nests_within}
 use Rattle.toml_ordered.proofs.Endings.{end_left, ends_drop, key_equals_ends, value_ends}
+use Rattle.toml_ordered.proofs.Blaming.{neither_document}
 use Rattle.toml_ordered.specs.Data.{TomlNode, TomlNodes}
-use Rattle.toml_ordered.specs.Firsts.{Firsts, no_firsts, HasFirst, AddsFirsts, IsAgain, IsOther, FaultTells}
+use Rattle.toml_ordered.specs.Firsts.{Firsts, no_firsts, HasFirst, AddsFirsts, IsAgain, IsOther, FaultTells, NeitherTells}
 use Rattle.toml_ordered.specs.Grammar.{keyval, line, val}
 use Rattle.toml_ordered.specs.Inside.{KnowsPairs}
 use Rattle.toml_ordered.specs.Places.{after_pairs, ReadsUpTo, ExpressionAt, FirstDefines, IsShutFor, IsShutInBraces, PairAt, PairsClash}
@@ -19,11 +20,15 @@ use Rattle.toml_ordered.specs.Tables.{TomlDocument, Expression, define, put}
 
 -- ---- faults of another kind
 
-pub other_than : (again : List ℕ → ℕ → ℕ → Type 0) (deep : ℕ → Type 0) (found : Fault) → IsOther found → FaultTells found again deep
-other_than again deep fault.Memory none = tt
-other_than again deep (fault.NotToml left) none = tt
-other_than again deep (fault.TooDeep left) none = absurd none
-other_than again deep (fault.DefinedAgain key first second) none = absurd none
+pub other_than : (again : List ℕ → ℕ → ℕ → Type 0) (deep : ℕ → Type 0) (found : Fault) → ((IsMemory found → ⊥) → NeitherTells again deep) → IsOther found
+    → FaultTells found again deep
+other_than again deep fault.Memory neither none = tt
+other_than again deep (fault.NotToml left) neither none = neither (λ m. other left m)
+  where
+    other : (left : ℕ) → fault.NotToml left ≡ fault.Memory → ⊥
+    other left m = cc
+other_than again deep (fault.TooDeep left) neither none = absurd none
+other_than again deep (fault.DefinedAgain key first second) neither none = absurd none
 
 -- ---- how far a text is read
 
@@ -58,15 +63,16 @@ pub pairs_conflict : (depth : ℕ) (text rest : List ℕ) (found : TomlNodes) (n
     → KnowsPairs depth text old rest → (at : PairAt depth text found name here) → here ≤ length rest
     → (value : TomlNode) (after : List ℕ) → keyval (val depth) (skip_blank at.rest) ≡ Some ((name, value), after)
     → ((IsMemory refused → ⊥) → put name value found ≡ None) → IsAgain (key_parts name) here old (IsShutInBraces found name value) refused
-    → (deep : ℕ → Type 0) → FaultTells refused (PairsClash depth text) deep
-pairs_conflict depth text rest found name here old fault.Memory knows at within value after pair denies again deep = tt
-pairs_conflict depth text rest found name here old (fault.NotToml left) knows at within value after pair denies again deep = tt
-pairs_conflict depth text rest found name here old (fault.TooDeep left) knows at within value after pair denies again deep = absurd again
-pairs_conflict depth text rest found name here old (fault.DefinedAgain key first second) knows at within value after pair denies again deep =
+    → (Says : List ℕ → ℕ → ℕ → Type 0) → ((key : List ℕ) (one two : ℕ) → PairsClash depth text key one two → Says key one two) → (deep : ℕ → Type 0)
+    → FaultTells refused Says deep
+pairs_conflict depth text rest found name here old fault.Memory knows at within value after pair denies again Says says deep = tt
+pairs_conflict depth text rest found name here old (fault.NotToml left) knows at within value after pair denies again Says says deep = absurd again
+pairs_conflict depth text rest found name here old (fault.TooDeep left) knows at within value after pair denies again Says says deep = absurd again
+pairs_conflict depth text rest found name here old (fault.DefinedAgain key first second) knows at within value after pair denies again Says says deep =
     let known = knows again.1 _ first again.2 in
     let past = known.1 in
     let is = again.0 in
-    record {
+    says (string_bytes key) first second record {
       path = again.1;
       before = known.0;
       found = found;
@@ -87,11 +93,14 @@ pairs_conflict depth text rest found name here old (fault.DefinedAgain key first
 -- the reasons of a value, told of the text around it
 pub reason_in : (refused : Fault) (inner outer : List ℕ → ℕ → ℕ → Type 0) (low high : ℕ → Type 0)
     → ((key : List ℕ) (one two : ℕ) → inner key one two → outer key one two) → ((left : ℕ) → low left → high left)
-    → FaultTells refused inner low → FaultTells refused outer high
-reason_in fault.Memory inner outer low high clash deeper tells = tt
-reason_in (fault.NotToml left) inner outer low high clash deeper tells = tt
-reason_in (fault.TooDeep left) inner outer low high clash deeper tells = deeper left tells
-reason_in (fault.DefinedAgain key first second) inner outer low high clash deeper tells = clash (string_bytes key) first second tells
+    → ((IsMemory refused → ⊥) → NeitherTells inner low → NeitherTells outer high) → FaultTells refused inner low → FaultTells refused outer high
+reason_in fault.Memory inner outer low high clash deeper neither tells = tt
+reason_in (fault.NotToml left) inner outer low high clash deeper neither tells = neither (λ m. other left m) tells
+  where
+    other : (left : ℕ) → fault.NotToml left ≡ fault.Memory → ⊥
+    other left m = cc
+reason_in (fault.TooDeep left) inner outer low high clash deeper neither tells = deeper left tells
+reason_in (fault.DefinedAgain key first second) inner outer low high clash deeper neither tells = clash (string_bytes key) first second tells
 
 pair_within : (depth : ℕ) (text : List ℕ) (found : TomlNodes) (name : Key) (left : ℕ) → PairAt depth text found name left → left ≤ length text
 pair_within depth text found name left at =
@@ -160,7 +169,7 @@ expressions_conflict text rest doc e here old refused moved knows at within deni
     by : (f : Fault) → ((IsMemory f → ⊥) → define doc e ≡ None) → IsAgain (whole_path doc e.0 e.1) here old (IsShutFor doc e.0 e.1) f
         → HasReason text (moved_to here f)
     by fault.Memory denies found = tt
-    by (fault.NotToml left) denies found = tt
+    by (fault.NotToml left) denies found = absurd found
     by (fault.TooDeep left) denies found = absurd found
     by (fault.DefinedAgain key first second) denies found =
         let known = knows found.1 _ first found.2 in
@@ -182,19 +191,23 @@ expressions_conflict text rest doc e here old refused moved knows at within deni
 
 -- an expression in which a value is refused
 pub value_reason : (text rest : List ℕ) (doc : TomlDocument) (refused moved : Fault) → ReadsUpTo text doc rest
+    → ((IsMemory refused → ⊥) → line (skip_blank rest) ≡ None)
     → FaultTells refused (PairClashes (skip_blank rest)) (PairNestsPast (skip_blank rest)) → moved ≡ moved_within (length (skip_blank rest)) refused
     → HasReason text moved
-value_reason text rest doc refused moved read pairs is = subst (HasReason text) (sym is) (by refused pairs)
+value_reason text rest doc refused moved read unread pairs is = subst (HasReason text) (sym is) (by refused unread pairs)
   where
-    by : (f : Fault) → FaultTells f (PairClashes (skip_blank rest)) (PairNestsPast (skip_blank rest))
+    by : (f : Fault) → ((IsMemory f → ⊥) → line (skip_blank rest) ≡ None) → FaultTells f (PairClashes (skip_blank rest)) (PairNestsPast (skip_blank rest))
         → HasReason text (moved_within (length (skip_blank rest)) f)
-    by fault.Memory found = tt
-    by (fault.NotToml left) found = tt
-    by (fault.TooDeep left) found =
+    by fault.Memory none found = tt
+    by (fault.NotToml left) none found = neither_document text rest doc read (none (λ m. other left m)) found
+      where
+        other : (left : ℕ) → fault.NotToml left ≡ fault.Memory → ⊥
+        other left m = cc
+    by (fault.TooDeep left) none found =
         let within = pair_nests_within (skip_blank rest) left found in
         let same : min left (length (skip_blank rest)) ≡ left = omega (arith, within) in
         record { doc = doc; rest = rest; read = read; nests = subst (PairNestsPast (skip_blank rest)) (sym same) found }
-    by (fault.DefinedAgain key first second) found =
+    by (fault.DefinedAgain key first second) none found =
         let within = pair_clashes_within (skip_blank rest) (string_bytes key) first second found in
         let same : min second (length (skip_blank rest)) ≡ second = omega (arith, within) in
         inr record {

@@ -187,7 +187,7 @@ again_memory whole here old Shut fault is = subst (IsAgain whole here old Shut) 
 pub again_nothing : (whole all : Path) (here : ℕ) (old : Firsts) (Inner Shut : Keys) (found : Fault) → IsAgain whole here no_firsts Inner found
     → IsAgain all here old Shut found
 again_nothing whole all here old Inner Shut fault.Memory again = tt
-again_nothing whole all here old Inner Shut (fault.NotToml left) again = tt
+again_nothing whole all here old Inner Shut (fault.NotToml left) again = again
 again_nothing whole all here old Inner Shut (fault.TooDeep left) again = again
 again_nothing whole all here old Inner Shut (fault.DefinedAgain key first second) again = absurd again.2
 
@@ -195,7 +195,7 @@ again_nothing whole all here old Inner Shut (fault.DefinedAgain key first second
 pub again_here : (k : List ℕ) (rest : Path) (here : ℕ) (at : ℕ) (es : List Entry) (e : Entry) (Shut : Keys) (found : Fault) → HasKey k at es
     → get_or es at e ≡ e → IsPassed (string_bytes e.0) e.2 here found → ((IsMemory found → ⊥) → Shut [] k) → IsAgain (k ∷ rest) here (keys_firsts es) Shut found
 again_here k rest here at es e Shut fault.Memory has is_e passed shut = tt
-again_here k rest here at es e Shut (fault.NotToml left) has is_e passed shut = tt
+again_here k rest here at es e Shut (fault.NotToml left) has is_e passed shut = passed
 again_here k rest here at es e Shut (fault.TooDeep left) has is_e passed shut = passed
 again_here k rest here at es e Shut (fault.DefinedAgain key first second) has is_e passed shut =
     let is_key : string_bytes key ≡ k = passed.0 ∙ ap (λ (d : Entry). string_bytes d.0) (sym is_e) ∙ sym (name_is k at es e has) in
@@ -216,7 +216,7 @@ pub again_inside : (k : List ℕ) (whole : Path) (here : ℕ) (at : ℕ) (es : L
     → ((path : Path) (key : List ℕ) → Inner path key → Shut (k ∷ path) key) → (found : Fault) → HasKey k at es → get_or es at e ≡ e
     → IsAgain whole here (node_firsts e.1) Inner found → IsAgain (k ∷ whole) here (keys_firsts es) Shut found
 again_inside k whole here at es e Inner Shut outwards fault.Memory has is_e again = tt
-again_inside k whole here at es e Inner Shut outwards (fault.NotToml left) has is_e again = tt
+again_inside k whole here at es e Inner Shut outwards (fault.NotToml left) has is_e again = again
 again_inside k whole here at es e Inner Shut outwards (fault.TooDeep left) has is_e again = again
 again_inside k whole here at es e Inner Shut outwards (fault.DefinedAgain key first second) has is_e again = (
   again.0,

@@ -15,7 +15,7 @@ use Rattle.toml_ordered.specs.Data.{TomlNode, node_view, string}
 use Rattle.toml_ordered.specs.Keys.{sealed}
 use Rattle.toml_ordered.specs.Grammar.{atom, expression, key_before, line, val}
 use Rattle.toml_ordered.specs.Tables.{Expression, array_table, key_value, std_table}
-use Rattle.toml_ordered.specs.Firsts.{FaultTells, IsOther}
+use Rattle.toml_ordered.specs.Firsts.{FaultTells, IsOther, NeitherTells}
 use Rattle.toml_ordered.specs.Reading.{IsGrammarRefusal, ReadsExpected, fault_of}
 use Rattle.toml_ordered.specs.declared.fault.Fault.{Fault}
 use Rattle.toml_ordered.specs.declared.tree.Node.{Text, the_lemmas}
@@ -32,14 +32,16 @@ no_token error found expected is none = subst (IsGrammarRefusal expected IsOther
 
 -- a reader that tells more
 pub reads_tells : {A B : Type 0} (f : A → B) (text : List ℕ) (expected : Read B) (again : List ℕ → ℕ → ℕ → Type 0) (deep : ℕ → Type 0)
-    → (r : Result (A × Bor (List ℕ)) Fault) → ReadsExpected f text expected IsOther r → ReadsExpected f text expected (λ found. FaultTells found again deep) r
-reads_tells f text expected again deep (Ok p) read = read
-reads_tells f text expected again deep (Err found) refused = (refused.0, other_than again deep found refused.1)
+    → (r : Result (A × Bor (List ℕ)) Fault) → NeitherTells again deep → ReadsExpected f text expected IsOther r
+    → ReadsExpected f text expected (λ found. FaultTells found again deep) r
+reads_tells f text expected again deep (Ok p) neither read = read
+reads_tells f text expected again deep (Err found) neither refused = (refused.0, other_than again deep found (λ _. neither) refused.1)
 
 -- no text of the grammar goes on here, and more is told
 pub ends_text : {B : Type 0} (left : ℕ) (found : Fault) (expected : Option B) (again : List ℕ → ℕ → ℕ → Type 0) (deep : ℕ → Type 0)
-    → found ≡ fault.NotToml left → expected ≡ None → IsGrammarRefusal expected (λ f. FaultTells f again deep) found
-ends_text left found expected again deep is none = subst (IsGrammarRefusal expected (λ f. FaultTells f again deep)) (sym is) (λ real. none, tt)
+    → found ≡ fault.NotToml left → expected ≡ None → NeitherTells again deep → IsGrammarRefusal expected (λ f. FaultTells f again deep) found
+ends_text left found expected again deep is none neither =
+    subst (IsGrammarRefusal expected (λ f. FaultTells f again deep)) (sym is) (λ real. none, neither)
 
 -- no text of the grammar goes on here
 pub no_text : {B : Type 0} (left : ℕ) (found : Fault) (expected : Option B) → found ≡ fault.NotToml left → expected ≡ None

@@ -10,6 +10,7 @@ pub mod Conflicts
 pub mod Turns
 pub mod Heads
 pub mod Marks
+pub mod Blaming
 pub mod Around
 pub mod Stopping
 pub mod SortedKeys

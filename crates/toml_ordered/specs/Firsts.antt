@@ -80,20 +80,30 @@ AddsFirsts whole here keys old new =
     (path : List (List ℕ)) (key : List ℕ) (left : ℕ) → HasFirst new path key left
     → HasFirst old path key left ⊎ ((left ≡ here) × IsNewKey whole keys path key)
 
--- The statement of a fault: `again` of a key that is defined again, `deep` of a value that nests too deep. Any other fault states nothing.
+-- True if no key is defined again so, and no value nests too deep so.
+abbrev pub NeitherTells : (again : List ℕ → (first second : ℕ) → Type 0) → (deep : (left : ℕ) → Type 0) → Type 0
+NeitherTells again deep = ((key : List ℕ) (first second : ℕ) → again key first second → ⊥) × ((left : ℕ) → deep left → ⊥)
+
+-- The statement of a fault: `again` of a key that is defined again, `deep` of a value that nests too deep; neither of any other text that isn't
+-- TOML.
 abbrev pub FaultTells : Fault → (again : List ℕ → (first second : ℕ) → Type 0) → (deep : (left : ℕ) → Type 0) → Type 0
 FaultTells fault.Memory again deep = Unit {0}
-FaultTells (fault.NotToml left) again deep = Unit {0}
+FaultTells (fault.NotToml left) again deep = NeitherTells again deep
 FaultTells (fault.TooDeep left) again deep = deep left
 FaultTells (fault.DefinedAgain key first second) again deep = again (string_bytes key) first second
 
--- the same of a fault that a key is defined again; none that a value nests too deep
+-- the statement of a fault that a key is defined again, unless an allocation failed
 abbrev pub IfAgain : Fault → (List ℕ → (first second : ℕ) → Type 0) → Type 0
-IfAgain found holds = FaultTells found holds (λ _. ⊥)
+IfAgain fault.Memory holds = Unit {0}
+IfAgain (fault.NotToml left) holds = ⊥
+IfAgain (fault.TooDeep left) holds = ⊥
+IfAgain (fault.DefinedAgain key first second) holds = holds (string_bytes key) first second
 
--- no fault that a key is defined again
+-- True of a fault that is neither that a key is defined again, nor that a value nests too deep.
 abbrev pub IsOther : Fault → Type 0
-IsOther found = IfAgain found (λ _ _ _. ⊥)
+IsOther fault.Memory = Unit {0}
+IsOther (fault.NotToml left) = Unit {0}
+IsOther found = ⊥
 
 -- True of a fault that a definition along the whole path, here, meets a key that was first defined before and is shut.
 abbrev pub IsAgain : (whole : List (List ℕ)) → (here : ℕ) → (old : Firsts) → (Shut : (path : List (List ℕ)) → (key : List ℕ) → Type 0) → Fault → Type 0

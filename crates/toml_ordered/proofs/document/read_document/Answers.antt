@@ -93,7 +93,7 @@ pub returns-in-Err-clause-reason : goal.returns-in-Err-clause-reason
 returns-in-Err-clause-reason c =
     let start_is = c.skip_blank-start.ensures.rest in
     value_reason c.args.text.now c.lines.rest.now (document_view c.lines.read) c.in-Err.fault c.here_or_behind.result
-    c.lines.invariant.4
+    c.lines.invariant.4 (rw start_is at c.in-Err.ensures.0)
     (rw start_is at c.in-Err.ensures.1) (rw start_is at c.here_or_behind.ensures)
 
 pub returns-in-Err-define-clause-reason : goal.returns-in-Err-define-clause-reason

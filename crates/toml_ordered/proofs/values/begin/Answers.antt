@@ -4,6 +4,7 @@ use Rattle.std.proofs.lemmas.Grind.{common_steps}
 use Rattle.std.specs.Prelude.{◌⊎◌}
 use Rattle.toml_parser.specs.Lexical.{first}
 use Rattle.toml_ordered.proofs.Around.{array_begins, braces_begin, pair_begins}
+use Rattle.toml_ordered.proofs.Blaming.{atom_unblamed, neither}
 use Rattle.toml_ordered.proofs.Conflicts.{other_than}
 use Rattle.toml_ordered.proofs.Depths.{nests_here}
 use Rattle.toml_ordered.proofs.Heads.{val_opens}
@@ -25,7 +26,7 @@ returns-in-Err c =
     let s = c.args.s.now in
     let a : (first s == 91) ≡ false = rw (← c.first-byte.ensures) (ne_eqb c.first-byte.result 91 c.if-byte-ne91.true) in
     let b : (first s == 123) ≡ false = rw (← c.first-byte.ensures) (ne_eqb c.first-byte.result 123 c.if-byte-ne123.true) in
-    (λ real. rw (val_atom s a b c.args.depth) (c.in-Err.ensures.0 real), other_than _ _ c.in-Err.refused c.in-Err.ensures.1)
+    (λ real. rw (val_atom s a b c.args.depth) (c.in-Err.ensures.0 real), other_than _ _ c.in-Err.refused (λ real. neither c.args.depth s (atom_unblamed c.args.depth s a b)) c.in-Err.ensures.1)
 
 pub returns-then-depth-eq0 : goal.returns-then-depth-eq0
 returns-then-depth-eq0 c =

@@ -1,5 +1,5 @@
 use Rattle.std.proofs.Common.{refl, ap, length, ◌∙◌, arith}
-use Rattle.toml_ordered.proofs.Around.{braces_end, braces_nameless, inside_ends}
+use Rattle.toml_ordered.proofs.Around.{braces_end, braces_nameless, braces_unnamed, inside_ends}
 use Rattle.toml_ordered.proofs.Conflicts.{other_than}
 use Rattle.toml_ordered.proofs.Depths.{ends_within}
 use Rattle.toml_ordered.proofs.Heads.{closes, closes_not}
@@ -40,5 +40,5 @@ returns-in-Err c depth text known =
     let blank = c.skip_blank-start.ensures.rest in
     let other = closes_not 125 s c.skip_blank-start.result.now blank c.first.result c.first.ensures c.if-first-eq125.false in (
       (λ real. braces_nameless depth text c.args.table s known other (rw blank at (c.in-Err.ensures.0 real))),
-      other_than _ _ c.in-Err.fault c.in-Err.ensures.1,
+      other_than _ _ c.in-Err.fault (λ real. braces_unnamed depth text c.args.table s known (rw blank at (c.in-Err.ensures.0 real))) c.in-Err.ensures.1,
     )

@@ -1,7 +1,7 @@
 use Rattle.std.proofs.Common.{◌≡◌}
 use Rattle.toml_parser.specs.Reading.{key_view}
 use Rattle.toml_parser.specs.Strings.{Key}
-use Rattle.toml_ordered.proofs.Around.{braces_again, braces_more, braces_unended, pair_goes_on}
+use Rattle.toml_ordered.proofs.Around.{braces_again, braces_more, braces_parted, braces_unended, pair_goes_on}
 use Rattle.toml_ordered.proofs.Conflicts.{other_than}
 use Rattle.toml_ordered.proofs.Turns.{val_sealed}
 use Rattle.toml_ordered.specs.Data.{TomlNode, node_view}
@@ -35,5 +35,7 @@ returns c depth text at (rest, known, other, named, is) read =
     let same : sealed member ≡ member = val_sealed depth at member c.args.s.now read.0 in (
       (λ real. braces_unended depth text c.args.braces.table rest known other key at named member c.args.s.now read.0 _
           (rw same at c.in_default.ensures.0) (c.in-Err-past_element.ensures.0 real)),
-      other_than _ _ c.in-Err-past_element.fault c.in-Err-past_element.ensures.1,
+      other_than _ _ c.in-Err-past_element.fault
+          (λ real. braces_parted depth text c.args.braces.table rest known key at named member c.args.s.now read.0 _
+          (rw same at c.in_default.ensures.0) (c.in-Err-past_element.ensures.0 real)) c.in-Err-past_element.ensures.1,
     )
