@@ -1,4 +1,4 @@
--- What the bytes of directives say of their characters.
+-- The characters of directives, by their bytes.
 use Rattle.yaml_mark.proofs.Common.{ℕ, IsUtf8, bytes_eq, string_bytes, encode_utf8_all as encodes, ◌||◌, List, [], map, ◌∷◌, refl, ◌≡◌, ap, sym, ◌∙◌}
 use Rattle.yaml_mark.proofs.Common.{same_from_decides, bytes_eq-Decides, encodes-chars, IsUtf8-string_bytes, list_any, chars, seen_directive, gives_handle}
 use Rattle.yaml_base.specs.declared.directives.yaml_tag_directive_t.{yaml_tag_directive_t}
@@ -6,7 +6,7 @@ use Rattle.yaml_base.specs.declared.directives.yaml_tag_directive_t.{yaml_tag_di
 same_characters : (xs ys : List ℕ) → IsUtf8 xs → IsUtf8 ys → chars xs ≡ chars ys → xs ≡ ys
 same_characters xs ys u v e = sym (encodes-chars xs u) ∙ ap encodes e ∙ encodes-chars ys v
 
--- texts are equal by their bytes just where they are by their characters
+-- texts are equal by their bytes exactly if they are by their characters
 pub bytes_eq-chars : (xs ys : List ℕ) → IsUtf8 xs → IsUtf8 ys → bytes_eq xs ys ≡ bytes_eq (chars xs) (chars ys)
 bytes_eq-chars xs ys u v =
     let whole = bytes_eq-Decides (chars xs) (chars ys) in

@@ -77,7 +77,7 @@ module _ (portable : Bool) where
   pub escaped_by_bytes : (bytes : List ℕ) → IsUtf8 bytes → flat_map (byte_written portable) bytes ≡ suffix_escaped portable (chars bytes)
   escaped_by_bytes bytes u = ap (flat_map (byte_written portable)) (sym (encodes-chars bytes u)) ∙ text_by_bytes (chars bytes)
 
--- one more byte, and what is left after it
+-- one more byte, and the rest after it
 pub written_more : (f : ℕ → Text) (bytes : List ℕ) (n : ℕ) → n < length bytes
     → flat_map f (take (n + 1) bytes) ≡ flat_map f (take n bytes) ++ f (get_or bytes n 0)
 written_more f bytes n h =
@@ -119,7 +119,7 @@ form_is byte high low h e f =
     let once : byte / 16 ≡ byte / 16 % 16 = omega arith in
     ap (λ x. 0x25 ∷ x ∷ low ∷ []) (e ∙ ap hex_digit once) ∙ ap (λ x. 0x25 ∷ hex_digit (byte / 16 % 16) ∷ x ∷ []) f
 
--- A text after a space where one is needed.
+-- A text after a space if one is needed.
 
 abbrev pub content : Bool → Text → Cursor → Rendered
 content need text cursor = render_name (space_if need cursor ++ text) cursor
@@ -163,9 +163,9 @@ module _ (f : ℕ → Text) where
       → Wrote (render_text (flat_map f given)) before after answer → Wrote (render_text (flat_map f bytes)) before after answer
   same_bytes {given} {bytes} {before} {after} {answer} is wrote = subst (λ (l : List ℕ). Wrote (render_text (flat_map f l)) before after answer) is wrote
 
--- Runs of bytes that stand as themselves, and of those that don't.
+-- Runs of bytes that stay as they are, and of those that don't.
 
--- the first that pass
+-- the first bytes that pass
 passing : (p : ℕ → Bool) (xs : List ℕ) → list_all p (take (prefix_len p xs) xs) ≡ true
 passing p [] = refl
 passing p (x ∷ xs) = by (p x) refl (passing p xs)
@@ -180,11 +180,11 @@ tag_character_is_no_break : (c : ℕ) → is_tag_character c ≡ true → is_bre
 tag_character_is_no_break c h = grind (arith, nat_tests)
 
 module _ (portable : Bool) where
-  -- where a run ends
+  -- the end of a run
   abbrev run_end : List ℕ → ℕ
   run_end bytes = prefix_len (is_suffix_character portable) bytes
 
-  -- where the next begins
+  -- the beginning of the next
   abbrev next_run : List ℕ → ℕ
   next_run bytes = position_or_len (is_suffix_character portable) bytes
 
@@ -252,7 +252,7 @@ module _ (portable : Bool) where
       ∙ ap (λ x. x ++ suffix_escaped portable (chars (drop (next_run bytes) bytes)))
       (escaped_bytes portable _ (passing (λ b. not (is_suffix_character portable b)) bytes))
 
-  -- a text is cut behind its first run
+  -- a text is cut after its first run
   pub record IsRunCut (bytes run others : List ℕ) : Type 0 where
     pub parts : suffix_escaped portable (chars bytes) ≡ chars run ++ suffix_escaped portable (chars others)
     pub unbroken : list_any is_break (chars run) ≡ false
@@ -288,7 +288,7 @@ module _ (portable : Bool) where
         is_text = subst (λ (l : List ℕ). IsUtf8 l) (sym rest) (IsUtf8-drop bytes end u (next_boundary bytes));
       }
 
-  -- both are something, where something is left
+  -- both are nonempty, if something is left
   moves_by : (bytes : List ℕ) → (length bytes == 0) ≡ false → 0 < run_end bytes + next_run (drop (run_end bytes) bytes)
   moves_by [] some = absurd (true≢false some)
   moves_by (b ∷ bytes) some = by (is_suffix_character portable b) refl
@@ -306,7 +306,7 @@ module _ (portable : Bool) where
 
 -- A prefix by its bytes.
 
--- a prefix is written as a tag is, portably too where no `!` begins it
+-- a prefix is written as a tag is, in portable mode too unless a `!` begins it
 pub prefix_markerless : (bytes : List ℕ) → IsUtf8 bytes → ((rest : List ℕ) → bytes ≢ exclamation_mark ∷ rest)
     → prefix_escaped true (chars bytes) ≡ percent_escaped (chars bytes)
 prefix_markerless bytes u h = by (chars bytes) (encodes-chars bytes u)
@@ -320,13 +320,13 @@ prefix_markerless bytes u h = by (chars bytes) (encodes-chars bytes u)
     by [] e = refl
     by (c ∷ text) e = rw (other c text e) refl
 
--- and where one does, the `!` stands raw
+-- and if one does, the `!` stays raw
 pub prefix_marked : (bytes rest : List ℕ) → IsUtf8 bytes → bytes ≡ exclamation_mark ∷ rest
     → prefix_escaped true (chars bytes) ≡ exclamation_mark ∷ percent_escaped (chars rest)
 prefix_marked bytes rest u e =
     ap (prefix_escaped true) (chars_past_char bytes rest exclamation_mark u (e ∙ ap (λ x. x ++ rest) (sym (encode_ascii exclamation_mark (lit< tt)))))
 
--- so it is by what stands after a `!` that begins it
+-- its form depends on the text after a `!` that begins it
 pub prefix_answer : (bytes : List ℕ) (portable : Bool) (answer : Option (Bor (List ℕ))) → portable ≡ true → IsUtf8 bytes
     → MatchOption answer ((rest : List ℕ) → bytes ≢ exclamation_mark ∷ rest) (λ rest. bytes ≡ exclamation_mark ∷ rest.now)
     → MatchOption answer (prefix_escaped portable (chars bytes) ≡ percent_escaped (chars bytes))

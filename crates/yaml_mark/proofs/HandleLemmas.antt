@@ -1,4 +1,4 @@
--- What a text's bytes say of the refusals of names and handles, which go by its characters.
+-- The refusals of names and handles, which are defined by characters, follow from a text's bytes.
 use Rattle.yaml_mark.proofs.Common.{ℕ, ◌<◌, ◌==◌, IsUtf8, Option, None, Some, length, slice_index_or as get_or, encode_utf8 as encode, Bool, cond, false, true}
 use Rattle.yaml_mark.proofs.Common.{encode_utf8_all as encodes, List, [], ◌++◌, ◌∷◌, ◌≢◌, refl, ◌≡◌, eqb-true, ne_eqb, lit<, length-append, ap, subst, sym, ◌∙◌}
 use Rattle.yaml_mark.proofs.Common.{arith, take-append_seam, chars-nil, encode_ascii, encodes-append, IsCharBoundary-before_ascii, IsUtf8-past_char, list_all}
@@ -129,7 +129,7 @@ empty_prefix bytes h = rw (no_characters bytes h) refl
 pub good_prefix : (bytes : List ℕ) → IsUtf8 bytes → (length bytes == 0) ≡ false → None ≡ prefix_fault (chars bytes)
 good_prefix bytes u h = rw (characters_begin bytes u h).2 refl
 
--- a directive with a good handle is refused for its prefix alone; its texts are those that a reader of it got
+-- a directive with a good handle is refused for its prefix alone; its texts are those that were read from it
 pub by_prefix : (handle prefix handle_got prefix_got : List ℕ) (fault : Option yaml_error_t) → handle_got ≡ handle → prefix_got ≡ prefix
     → None ≡ handle_fault (chars handle_got) → fault ≡ prefix_fault (chars prefix_got)
     → fault ≡ option_or (handle_fault (chars handle)) (prefix_fault (chars prefix))

@@ -1,4 +1,4 @@
--- The first that passes a test, and what an index finds.
+-- The first element that passes a test, and the element that an index finds.
 use Rattle.yaml_mark.proofs.Common.{suc, ℕ, ◌+◌, ◌<◌, ◌==◌, bytes_eq, Option, None, Some, drop, length, slice_index_or as get_or, take, Bool, cond, false, true}
 use Rattle.yaml_mark.proofs.Common.{◌||◌, List, [], ◌++◌, ◌∷◌, refl, ◌≡◌, ap, sym, subst, ◌∙◌, arith, and_parts, and_from, same_from_decides, bytes_eq-Decides}
 use Rattle.yaml_mark.proofs.Common.{list_all, list_any, length-append, take-append-drop, IsUtf8, IsUtf8-string_bytes, IsCharBoundary, string_bytes, position}
@@ -183,7 +183,7 @@ module _ {A : Type 0} where
   found_by_length tag n index list h finds =
       finds.prefixes (take n tag) ∙ position-alike (has_prefix (take n tag)) (fits_by tag n) (λ d. by_length tag (string_bytes d.prefix) n h) list
 
-  -- where a tag can't be cut, no prefix of that length begins it
+  -- if a tag can't be cut, no prefix of that length begins it
   pub none_by_length : (tag : List ℕ) (n : ℕ) → IsUtf8 tag → (n < length tag → IsCharBoundary tag n → ⊥) → (list : List (yaml_tag_directive_t A))
       → None ≡ position (fits_by tag n) list
   none_by_length tag n u uncut list = position-none (fits_by tag n) (λ d. never d (fits_by tag n d) refl) list
@@ -228,7 +228,7 @@ module _ {A : Type 0} where
       ∙ ap (λ b. b && begins_and_is_shorter (string_bytes d.prefix) tag) has)
       list finds.lengths
 
--- The first directives, and those behind them.
+-- The first directives, and those after them.
 
 pub any_split : {X : Type 0} (p : X → Bool) (n : ℕ) (xs : List X) → list_any p (take n xs) || list_any p (drop n xs) ≡ list_any p xs
 any_split p n xs = sym (list_any-append p (take n xs) (drop n xs)) ∙ ap (list_any p) (take-append-drop n xs)
@@ -240,7 +240,7 @@ position_split p n xs h =
     ∙ position-append p (take n xs) (drop n xs)
     ∙ ap (λ m. option_or (position p (take n xs)) (option_map (λ i. m + i) (position p (drop n xs)))) (length-take-le n xs h)
 
--- What is added to a field of an index.
+-- Elements that are added to a field of an index.
 
 pub or_last : (added kept : Bool) → cond added true kept ≡ kept || added
 or_last true true = refl
@@ -276,7 +276,7 @@ any_again number test (x ∷ xs) h = by (x == number) refl (any_again number tes
         (twice (test x) (list_any test xs))
     by false e again rest = stays (test x) (list_any test xs) (test number) (again rest)
 
--- The index behind the first directives of a list.
+-- The index of the first directives of a list.
 
 module _ {A : Type 0} where
   -- one more after enough of them

@@ -1,4 +1,4 @@
--- What a tag's bytes say of its spelling, which goes by characters.
+-- The spelling of a tag, which is defined by characters, follows from its bytes.
 use Rattle.yaml_mark.proofs.Common.{suc, ℕ, ◌+◌, ◌<◌, ◌==◌, slice_get, position, MatchOption, IsUtf8, bytes_eq, Option, None, Some, string_bytes, drop}
 use Rattle.yaml_mark.proofs.Common.{length, slice_index_or as get_or, take, encode_utf8 as encode, encode_utf8_all as encodes, Bool, cond, false, not, true}
 use Rattle.yaml_mark.proofs.Common.{List, [], map, ◌++◌, ◌∷◌, refl, ◌≡◌, length-append, take-append-drop, ⊎_elim, ap, subst, sym, ◌∙◌, arith}
@@ -41,7 +41,7 @@ by_bytes prefix tag = (
       and_from _ _ (lt-ltb _ _ shorter) ((bytes_eq-Decides prefix (take (length prefix) tag)).1 head)),
 )
 
--- what follows a text in a text is one
+-- the text after a text in a text is one
 text_past : (head : Text) (rest : List ℕ) → IsUtf8 (encodes head ++ rest) → IsUtf8 rest
 text_past [] rest u = u
 text_past (c ∷ head) rest u =
@@ -135,7 +135,7 @@ first_by_bytes tag u list =
     (λ d. fits_by_bytes (string_bytes d.prefix) tag (IsUtf8-string_bytes d.prefix) u) list
     ∙ sym (position-first (fits tag) (map seen_directive list))
 
--- how a tag is spelled, given the number of the first directive that fits
+-- the spelling of a tag, given the number of the first directive that fits
 abbrev SpelledAt : List TagDirective → Text → Option ℕ → Spelling → Type 0
 SpelledAt directives tag number spelled_as =
     MatchOption number

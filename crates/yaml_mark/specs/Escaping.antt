@@ -12,11 +12,11 @@ abbrev pub are_escaped : FlowIndicators → Bool
 are_escaped Raw = false
 are_escaped Escaped = true
 
--- a byte of a text's UTF-8 stands as itself
+-- true of a byte of a text's UTF-8 that stays as it is
 abbrev pub stays_raw : FlowIndicators → ℕ → Bool
 stays_raw indicators byte = is_suffix_character (are_escaped indicators) byte
 
--- so many bytes of a prefix stand as themselves, and the rest is written as a tag is
+-- that many bytes of a prefix stay as they are, and the rest is written as a tag is
 pub record IsPrefixRun (portable : Bool) (prefix : List ℕ) (size : ℕ) : Type 0 where
   pub boundary : IsCharBoundary prefix size
   pub run : IsAscii (take size prefix)

@@ -14,7 +14,7 @@ use Rattle.yaml_base.specs.reading.CanonicalReader.{read_tag}
 abbrev pub EscapedTextReads : Text → Type 0
 EscapedTextReads text = all_scalars text ≡ true → percent_read (percent_escaped text) ≡ Some text
 
--- so it does after a handle, and in a prefix
+-- and also after a handle, and in a prefix
 abbrev pub EscapedSuffixReads : (portable : Bool) → Text → Type 0
 EscapedSuffixReads portable text = all_scalars text ≡ true → percent_read (suffix_escaped portable text) ≡ Some text
 
@@ -22,7 +22,7 @@ EscapedSuffixReads portable text = all_scalars text ≡ true → percent_read (s
 abbrev pub EscapedPrefixReads : (portable : Bool) → Text → Type 0
 EscapedPrefixReads portable text = all_scalars text ≡ true → percent_read (prefix_escaped portable text) ≡ Some text
 
--- in portable mode no flow indicator stands after a handle
+-- in portable mode no flow indicator follows a handle
 abbrev pub PortableSuffixHoldsNoFlowIndicator : Text → Type 0
 PortableSuffixHoldsNoFlowIndicator text = list_any (is_among (codes ",[]")) (suffix_escaped true text) ≡ false
 
@@ -35,7 +35,7 @@ abbrev pub WrittenTagReads : (portable : Bool) → List TagDirective → Text �
 WrittenTagReads portable own tag =
     directives_fault own ≡ None → all_scalars tag ≡ true → read_tag own (written_tag portable own tag) ≡ Some (name_parsed tag)
 
--- escaped text has nothing that could end it, or that has a meaning in a tag
+-- escaped text holds no character that could end it or that has a meaning in a tag
 abbrev pub EscapedTextSeparatesNothing : Text → Type 0
 EscapedTextSeparatesNothing text =
     list_any (λ c. is_blank c || is_break c || is_among (codes "!<>") c) (percent_escaped text) ≡ false

@@ -1,4 +1,4 @@
--- What is refused in names.
+-- The refusals of names.
 use Rattle.std.specs.Prelude.{Option}
 use Rattle.yaml_base.specs.Characters.{Text}
 use Rattle.yaml_base.specs.Tags.{name_fault}

@@ -16,7 +16,7 @@ use std::alloc::{AllocError, Allocator};
 use std::marker::Model;
 use yaml_base::{yaml_error_t, yaml_tag_directive_t};
 
-/// So many directives are compared one after another; those after them are found by an index.
+/// The number of directives that are compared one after another; later ones are found by an index.
 const SCANNED: usize = 8;
 
 /// Tag directives in order, each with a text of its own.
@@ -40,7 +40,7 @@ impl<A: Allocator> Model for Directives<A> {
     ghost invariant = { λ d. IsIndexed 8 d.index d.list.items };
 }
 
-// By hand, so that who owns one has one call for all parts.
+// Written by hand, so that an owner has one call for all parts.
 impl<A: Allocator> Drop for Directives<A> {
     fn drop(self) {
         let Directives { list: _, index: _ } = self;
@@ -58,9 +58,9 @@ impl<A: Allocator> Directives<A> {
         }
     }
 
-    /// Adds a copy of a directive at the end. Where its handle is there already, nothing is added, and the answer is
-    /// `DuplicateDirective`, or `Ok` if duplicates are allowed. `Memory` where a growth was refused; then nothing is
-    /// added either.
+    /// Adds a copy of a directive at the end. If its handle is there already, nothing is added, and the answer is
+    /// `DuplicateDirective`, or `Ok` if duplicates are allowed. If a growth is refused, nothing is added either, and
+    /// the answer is `Memory`.
     pub fn append(
         &mut self,
         directive: &yaml_tag_directive_t<A>,
@@ -127,7 +127,7 @@ impl<A: Allocator> Directives<A> {
         some_handle_is(self.list.as_slice(), &self.index, handle)
     }
 
-    /// Adds a copy of a directive. Where a growth is refused, nothing is added, and the index is given up.
+    /// Adds a copy of a directive. If a growth is refused, nothing is added, and the index is given up.
     fn push_copy(&mut self, directive: &yaml_tag_directive_t<A>) -> Result<(), AllocError>
     where
         A: Copy,

@@ -37,7 +37,7 @@ impl<A: Allocator> Index<A> {
         }
     }
 
-    /// Adds a directive at this place, which is the number of those added before it.
+    /// Adds a directive at this place, which is the number of directives before it.
     pub(crate) fn add(
         &mut self,
         directive: &yaml_tag_directive_t<A>,
@@ -125,7 +125,7 @@ fn add_length<A: Allocator>(lengths: &mut Vec<usize, A>, length: usize) -> Resul
     Ok(())
 }
 
-/// Returns the smaller of two numbers, where both are there.
+/// Returns the smaller of two numbers if both are there, else the one that is.
 fn earlier(first: Option<usize>, second: Option<usize>) -> Option<usize>
     ensures { result ≡ earlier first second }
 {

@@ -14,12 +14,12 @@ pub fn escaped_text_reads()
     ensures prefix { (portable : Bool) (text : Text) → EscapedPrefixReads portable text }
 {}
 
-/// States that in portable mode no flow indicator, at which readers end a tag, stands after a handle.
+/// States that in portable mode no flow indicator follows a handle; readers would end a tag there.
 pub fn portable_suffix_holds_no_flow_indicator()
     ensures { (text : Text) → PortableSuffixHoldsNoFlowIndicator text }
 {}
 
-/// States that the written form of a tag, read with the document's directives and the defaults, is the tag, where the
+/// States that the written form of a tag, read with the document's directives and the defaults, is the tag, if the
 /// directives are well-formed and give each handle once.
 pub fn written_tag_reads()
     ensures { (portable : Bool) (own : List TagDirective) (tag : Text) → WrittenTagReads portable own tag }

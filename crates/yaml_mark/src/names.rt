@@ -1,4 +1,4 @@
-//! Anchors, aliases, versions and tag directives: what is refused in them (YAML 1.1, sections 7.1, 8.1 and 8.4).
+//! Anchors, aliases, versions and tag directives: their refusals (YAML 1.1, sections 7.1, 8.1 and 8.4).
 ghost use Rattle.std.specs.Prelude.{◌≡◌, ◌==◌, length, chars, if◌then◌else◌};
 ghost use Rattle.std.specs.List.{list_all};
 ghost use Rattle.yaml_base.specs.Characters as class;
@@ -20,12 +20,12 @@ pub fn analyze_version(version: yaml_version_directive_t) -> Result<(), yaml_err
     }
 }
 
-/// The kind of a name, by what it is given to.
+/// The kind of a name.
 #[derive(Clone, Copy, PartialEq, Eq, Debug)]
 pub enum Name {
-    /// A node.
+    /// The name of a node.
     Anchor,
-    /// An alias of one.
+    /// The name in an alias.
     Alias,
 }
 

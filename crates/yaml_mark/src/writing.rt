@@ -17,7 +17,7 @@ use yaml_pen::{Indicator, Pen};
 /// The treatment of the flow indicators `,` `[` `]` in a tag.
 #[derive(Clone, Copy)]
 enum FlowIndicators {
-    /// They stand as themselves.
+    /// They stay as they are.
     Raw,
     /// They are escaped, since readers end a tag at them.
     Escaped,
@@ -32,8 +32,8 @@ pub fn write_anchor<A: Allocator>(pen: &mut Pen<A>, anchor: &str) -> Result<(), 
     pen.put_indicator(&Indicator::tight(anchor))
 }
 
-/// Writes a tag's handle, or the bare tag, and a space before it where none stands there. `WriteError` and `Memory` as
-/// the pen returns them.
+/// Writes a tag's handle, or the bare tag, and a space before it unless white space precedes. `WriteError` and `Memory`
+/// as the pen returns them.
 pub fn write_tag_handle<A: Allocator>(pen: &mut Pen<A>, handle: &str) -> Result<(), yaml_error_t>
     requires ready { IsReady pen.old }
     requires no_break { list_any is_break (chars handle.now) ≡ false }
@@ -42,8 +42,8 @@ pub fn write_tag_handle<A: Allocator>(pen: &mut Pen<A>, handle: &str) -> Result<
     pen.put_indicator(&Indicator::spaced(handle))
 }
 
-/// Writes a tag: what may not stand in one is escaped by percent forms. A space comes before it where one is asked for
-/// and none stands there. `WriteError` and `Memory` as the pen returns them.
+/// Writes a tag. Percent forms escape the characters that it may not hold. A space comes before it if one is asked for
+/// and no white space precedes. `WriteError` and `Memory` as the pen returns them.
 pub fn write_tag_content<A: Allocator>(
     pen: &mut Pen<A>,
     content: &str,
@@ -56,7 +56,7 @@ pub fn write_tag_content<A: Allocator>(
     write_escaped(pen, content, FlowIndicators::Raw)
 }
 
-/// Writes what stands after a tag's handle, escaped as a tag is; `portable` escapes the flow indicators `,` `[` `]` too,
+/// Writes the text after a tag's handle, escaped as a tag is. `portable` also escapes the flow indicators `,` `[` `]`,
 /// at which readers end a tag. `WriteError` and `Memory` as the pen returns them.
 pub fn write_tag_suffix<A: Allocator>(
     pen: &mut Pen<A>,
@@ -73,8 +73,9 @@ pub fn write_tag_suffix<A: Allocator>(
     write_escaped(pen, suffix, FlowIndicators::Raw)
 }
 
-/// Writes the prefix of a directive, escaped as a tag is, and a space before it where none stands there; `portable`
-/// leaves a `!` that begins it, by which readers know a local prefix. `WriteError` and `Memory` as the pen returns them.
+/// Writes the prefix of a directive, escaped as a tag is, and a space before it unless white space precedes. `portable`
+/// leaves a `!` that begins it, by which readers know a local prefix. `WriteError` and `Memory` as the pen returns
+/// them.
 pub fn write_tag_prefix<A: Allocator>(
     pen: &mut Pen<A>,
     prefix: &str,
@@ -89,8 +90,7 @@ pub fn write_tag_prefix<A: Allocator>(
     write_escaped(pen, rest, FlowIndicators::Raw)
 }
 
-// What stands before a tag: a space where one is asked for and none stands there. What follows ends white space and
-// indentation.
+// Writes the space before a tag, if one is asked for and no white space precedes, and turns the cursor's flags off.
 fn begin_tag<A: Allocator>(pen: &mut Pen<A>, need_whitespace: bool) -> Result<(), yaml_error_t>
     requires ready { IsReady pen.old }
     ensures { Wrote (indicator [] need_whitespace false false) pen.old pen.new result }
@@ -98,7 +98,7 @@ fn begin_tag<A: Allocator>(pen: &mut Pen<A>, need_whitespace: bool) -> Result<()
     pen.write_indicator("", need_whitespace, false, false)
 }
 
-// How many bytes of a prefix stand as themselves before the first that doesn't.
+// Returns how many bytes of a prefix stay as they are before the first that doesn't.
 fn prefix_run_length(prefix: &str, portable: bool) -> usize
     ensures { IsPrefixRun portable prefix.now result }
 {
@@ -111,7 +111,7 @@ fn prefix_run_length(prefix: &str, portable: bool) -> usize
     }
 }
 
-// What follows the `!` of a prefix whose `!` stands raw.
+// Writes the text after the `!` of a prefix whose `!` stays raw.
 fn after_raw_exclamation(prefix: &str, portable: bool) -> Option<&str>
     ensures { MatchOption result (percent.prefix_escaped portable (chars prefix.now) ≡ percent.percent_escaped (chars prefix.now))
         (λ rest. (prefix.now ≡ exclamation_mark ∷ rest.now)
@@ -124,7 +124,7 @@ fn after_raw_exclamation(prefix: &str, portable: bool) -> Option<&str>
     }
 }
 
-// Each longest run of characters that stand as themselves, and the percent forms of the bytes up to the next.
+// Writes each longest run of characters that stay as they are, and the percent forms of the bytes up to the next.
 fn write_escaped<A: Allocator>(
     pen: &mut Pen<A>,
     text: &str,
@@ -145,7 +145,7 @@ fn write_escaped<A: Allocator>(
     Ok(())
 }
 
-// The percent forms of a text's bytes.
+// Writes the percent forms of a text's bytes.
 fn write_forms<A: Allocator>(pen: &mut Pen<A>, text: &str) -> Result<(), yaml_error_t>
     requires ready { IsReady pen.old }
     ensures { Wrote (render_text (flat_map percent.byte_escaped text.now)) pen.old pen.new result }
@@ -158,7 +158,7 @@ fn write_forms<A: Allocator>(pen: &mut Pen<A>, text: &str) -> Result<(), yaml_er
     Ok(())
 }
 
-// The percent form of a byte.
+// Writes the percent form of a byte.
 fn write_form<A: Allocator>(pen: &mut Pen<A>, byte: u8) -> Result<(), yaml_error_t>
     requires ready { IsReady pen.old }
     ensures { Wrote (render_text (percent.byte_escaped byte)) pen.old pen.new result }
@@ -168,7 +168,7 @@ fn write_form<A: Allocator>(pen: &mut Pen<A>, byte: u8) -> Result<(), yaml_error
     pen.put(hex_digit(byte % 16))
 }
 
-// How many of the first bytes stand as themselves.
+// Returns how many of the first bytes stay as they are.
 fn run_length(text: &str, indicators: FlowIndicators) -> usize
     ensures { result ≡ prefix_len (stays_raw indicators) text.now }
 {
@@ -178,7 +178,7 @@ fn run_length(text: &str, indicators: FlowIndicators) -> usize
         .count()
 }
 
-// How many of the first bytes are escaped.
+// Returns how many of the first bytes are escaped.
 fn escaped_length(text: &str, indicators: FlowIndicators) -> usize
     ensures { result ≡ position_or_len (stays_raw indicators) text.now }
 {
@@ -202,7 +202,7 @@ fn is_tag_character(byte: u8) -> bool
 {
     matches!(
         byte,
-        b'0'..=b'9' | b'A'..=b'Z' | b'a'..=b'z' | b'_' | b'-' | b';' | b'/' | b'?' | b':' | b'@'
+        b'A'..=b'Z' | b'a'..=b'z' | b'0'..=b'9' | b'_' | b'-' | b';' | b'/' | b'?' | b':' | b'@'
             | b'&' | b'=' | b'+' | b'$' | b',' | b'.' | b'~' | b'*' | b'\'' | b'(' | b')' | b'[' | b']'
     )
 }
