@@ -11,7 +11,6 @@ use Rattle.toml_ordered.proofs.Blaming.{IsBlamed, array_unblamed, braces_unblame
 use Rattle.toml_ordered.proofs.Blaming.{same_rest, unblamed}
 use Rattle.toml_ordered.proofs.Depths.{blank_within, ends_within, more_items}
 use Rattle.toml_ordered.proofs.Endings.{after_element_ends, end_left, ends_drop, ends_self, ends_then, item_left, key_equals_ends, pair_left}
-use Rattle.toml_ordered.proofs.Endings.{start_ends, value_ends}
 use Rattle.toml_ordered.proofs.Turns.{items_turn, keyval_is, members_turn, val_array, val_table}
 use Rattle.toml_ordered.specs.Data.{Items, TomlNode, TomlNodes, array, no_items, no_nodes, push_item, table}
 use Rattle.toml_ordered.specs.Keys.{table_view}

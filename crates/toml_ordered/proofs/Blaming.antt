@@ -13,7 +13,7 @@ use Rattle.toml_ordered.specs.Firsts.{NeitherTells}
 use Rattle.toml_ordered.specs.Grammar.{atom, expression, items, keyval, line, members, val}
 use Rattle.toml_ordered.specs.Nesting.{ClashesIn, Conflict, ItemAt, NestsPast, NestsTooDeep, PairClashes, PairNestsPast, after_items, next_item}
 use Rattle.toml_ordered.specs.Places.{PairAt, PairsClash, ReadsUpTo, after_lines, after_pairs, next_expression, next_pair}
-use Rattle.toml_ordered.specs.Tables.{Expression, TomlDocument, define, put}
+use Rattle.toml_ordered.specs.Tables.{Expression, TomlDocument, put}
 use Rattle.toml_ordered.specs.declared.tree.Origin.TheVariants.{Closed}
 
 pub none_some : {A : Type 0} {x : A} → ◌≡◌ {A = Option A} None (Some x) → ⊥

@@ -12,7 +12,7 @@ use toml_parser::{ErrorKind, ParseError};
 pub enum Fault {
     /// An allocation failed.
     Memory,
-    /// The text can't go on here.
+    /// The text can't go on here, and neither of the other reasons below holds of it.
     NotToml {
         left: usize,
     },
