@@ -1,5 +1,6 @@
 -- The places at which errors say that a text is refused.
 use Rattle.std.specs.Prelude.{ℕ, ◌-◌, List, length, string_bytes}
+use Rattle.toml_ordered.specs.Firsts.{NeitherTells}
 use Rattle.toml_ordered.specs.Nesting.{Conflict, NestsTooDeep}
 use Rattle.toml_ordered.specs.Places.{StopsAtExpression}
 use Rattle.yaml_writer.specs.Places.{AreOf}
@@ -20,10 +21,12 @@ abbrev pub HasTomlPlace : (text : List ℕ) → TomlError → Type 0
 HasTomlPlace text error = DeniesToml error → (left : ℕ) × StopsAtExpression text left × IsBeforeLeft text left error
 
 -- If an error says that a key is defined again, the text defines this key at both places of the error, and the key takes no more; if it says
--- that nothing is read that deep, a value in the text nests so deep at its place.
+-- that nothing is read that deep, a value in the text nests so deep at its place. If it says only that the text isn't TOML, the text does
+-- neither.
 abbrev pub HasTomlReason : (text : List ℕ) → TomlError → Type 0
 HasTomlReason text (errors.TooDeepToRead line column) = (left : ℕ) × NestsTooDeep text left × AreOf text (length text - left) line column
 HasTomlReason text (errors.DefinedAgain key first_line first_column line column) =
     (first : ℕ) × (second : ℕ) × Conflict text (string_bytes key) first second
     × AreOf text (length text - first) first_line first_column × AreOf text (length text - second) line column
+HasTomlReason text (errors.NotToml line column) = NeitherTells (Conflict text) (NestsTooDeep text)
 HasTomlReason text _ = Unit {0}

@@ -6,7 +6,8 @@ use yaml_writer::yaml_error_t;
 /// The reason why a text isn't written as YAML. Lines end with LF, and lines and columns count from 1, columns in characters.
 #[derive(Debug, Drop, Error)]
 pub enum TomlError {
-    /// The text is no TOML: it can't go on here. A key of more than 80 parts counts as no TOML.
+    /// The text is no TOML: it can't go on here, and it is neither `DefinedAgain` nor `TooDeepToRead`. A key of more than 80 parts counts as no
+    /// TOML.
     #[error("line {line}, column {column}: not TOML")]
     NotToml {
         line: usize,
