@@ -1,12 +1,15 @@
 //! TOML: what only a caller sees. (`tests/toml/run` has the grammar, the order of keys, what is refused, and where.)
 use super::check_printed;
-use crate::tests::equal;
+use crate::tests::{equal, same};
 use std::alloc::Global;
 use std::process::Abort;
 use toml_ordered::{Node, read_document};
-use yaml_toml::TomlError;
+use yaml_toml::{
+    TomlError, TomlSettings, Writer, value_settings, write_toml, yaml_error_t, yaml_from_toml,
+};
+use yaml_writer::YAML_BLOCK_SEQUENCE_STYLE;
 
-/// A document of one key, and its value as the text has it: a decimal behind `#`, or a date or a time. YAML shows other digits, and texts in
+/// A document of one key, and its value as the text has it: a decimal after `#`, or a date or a time. YAML shows other digits, and texts in
 /// place of these dates and times.
 const VALUES: &[(&str, &str)] = &[
     ("n = +1.0", "#+1.0"),
@@ -20,7 +23,7 @@ const VALUES: &[(&str, &str)] = &[
     ("d = 07:32", "07:32"),
 ];
 
-/// Checks how a value stands in the text.
+/// Checks that a value is the one in the text.
 fn check_value(rt: &impl Abort, alloc: Global, value: &Node, wanted: &str) {
     match value {
         Node::Decimal(digits) => equal(rt, &Some(digits.as_str()), &wanted.strip_prefix("#")),
@@ -29,7 +32,7 @@ fn check_value(rt: &impl Abort, alloc: Global, value: &Node, wanted: &str) {
     }
 }
 
-/// Checks how the first value of a document stands there.
+/// Checks that the first value of a document is the one in the text.
 fn check_first(rt: &impl Abort, alloc: Global, text: &str, wanted: &str) {
     let root = read_document(alloc, text).ok().expect(rt, "not TOML");
     let (_, value, _) = root.live_keys().split_first().expect(rt, "no key");
@@ -50,19 +53,73 @@ fn errors_print_their_place(rt: HostRuntime) {
     let error = TomlError::TooDeepToRead { line: 2, column: 5 };
     let words = "line 2, column 5: arrays and tables nest too deep";
     check_printed(&rt, rt.alloc(), &error, words);
-    let error = TomlError::DefinedAgain {
-        key: String::from_str(rt.alloc(), "a").expect(&rt, "no memory"),
-        first_line: 1,
-        first_column: 1,
-        line: 3,
-        column: 1,
-    };
-    let words = "line 3, column 1: a is defined at line 1, column 1, and takes no more";
-    check_printed(&rt, rt.alloc(), &error, words);
     check_printed(
         &rt,
         rt.alloc(),
         &TomlError::TooDeep,
         "arrays and tables nest too deep",
     );
+}
+
+/// A key as TOML writes it, and as a message names it: in quotes, escaped, and of more than 80 characters both ends.
+const KEYS: &[(&str, &str)] = &[
+    ("a", "\"a\""),
+    ("'a b'", "\"a b\""),
+    ("\"\"", "\"\""),
+    ("\"\u{e9}\"", "\"\u{e9}\""),
+    ("'\"\\'", "\"\\\"\\\\\""),
+    (
+        "\"a\\nb: not TOML\\nother.toml:1:1\"",
+        "\"a\\nb: not TOML\\nother.toml:1:1\"",
+    ),
+    ("\"\\u001b[31m\"", "\"\\u{1b}[31m\""),
+    (
+        "k2345678901234567890123456789012345678901234567890123456789012345678901234567890",
+        "\"k2345678901234567890123456789012345678901234567890123456789012345678901234567890\"",
+    ),
+    (
+        "k2345678901234567890123456789012345678901234567890123456789012345678901234567890_",
+        "\"k234567890123456789012345678901234567890\"..\"234567890123456789012345678901234567890_\"",
+    ),
+];
+
+/// Checks how the message names a key that is defined twice.
+fn check_named(rt: &impl Abort, alloc: Global, key: &str, name: &str) {
+    let text = format!(in alloc; "{key} = 1\n{key} = 2\n").expect(rt, "no memory");
+    let error = yaml_from_toml(alloc, text.as_str(), TomlSettings::default()).err();
+    let error = error.expect(rt, "defined once");
+    let words = format!(in alloc;
+        "line 2, column 1: {name} is defined at line 1, column 1, and takes no more"
+    );
+    let words = words.expect(rt, "no memory");
+    check_printed(rt, alloc, &error, words.as_str());
+}
+
+#[test]
+fn keys_are_quoted_in_messages(rt: HostRuntime) {
+    for (key, name) in KEYS {
+        check_named(&rt, rt.alloc(), key, name);
+    }
+}
+
+/// Writes a text and a document, as the items of a sequence.
+fn write_both(alloc: Global, text: &str, document: &str) -> Result<Vec<u8>, TomlError> {
+    let mut writer = Writer::new(alloc, value_settings())?;
+    writer.begin_sequence(YAML_BLOCK_SEQUENCE_STYLE)?;
+    writer.text(text)?;
+    write_toml(alloc, &mut writer, document, TomlSettings::default())?;
+    writer.end()?;
+    Ok(writer.finish()?)
+}
+
+#[test]
+fn errors_of_a_writer_become_errors_of_toml(rt: HostRuntime) {
+    let both = write_both(rt.alloc(), "a", "b = 1\n");
+    same(
+        &rt,
+        both.ok().expect(&rt, "TOML").as_slice(),
+        "---\n- a\n- b: 1\n",
+    );
+    let error = TomlError::from(yaml_error_t::WriteError);
+    check_printed(&rt, rt.alloc(), &error, "write error");
 }
