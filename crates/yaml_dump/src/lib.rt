@@ -40,6 +40,7 @@ pub use yaml_emitter::Indicator;
 pub use yaml_emitter::Name;
 pub use yaml_emitter::NodeNumber;
 pub use yaml_emitter::Pen;
+pub use yaml_emitter::Quoted;
 pub use yaml_emitter::Quotes;
 pub use yaml_emitter::ScalarAnswer;
 pub use yaml_emitter::ScalarContent;

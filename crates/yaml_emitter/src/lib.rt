@@ -60,6 +60,7 @@ pub use writing::ScalarContent;
 pub use writing::borrowed_text;
 pub use yaml_base::CollectionKind;
 pub use yaml_base::NodeNumber;
+pub use yaml_base::Quoted;
 pub use yaml_base::YAML_ALIAS_EVENT;
 pub use yaml_base::YAML_ANY_BREAK;
 pub use yaml_base::YAML_ANY_ENCODING;
