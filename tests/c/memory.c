@@ -299,6 +299,46 @@ static void refuse_each_of_kept(int flushes, const uint8_t *whole, size_t length
     }
 }
 
+/* Expects that an emitter has failed for good: each call tells it. */
+static void expect_failed(struct yaml_c_emitter *kept) {
+    const char *name = "yaml_c_emitter_emit_json, after a refusal within the text";
+    if (yaml_c_emitter_emit_json(kept, (const uint8_t *)"1", 1, NULL, &result) != YAML_NO_MEMORY || result.error != YAML_EMITTER_NO_MEMORY)
+        fail(name, "another text is taken");
+    if (give_kind(kept, YAML_C_DOCUMENT_END) != YAML_NO_MEMORY || result.error != YAML_EMITTER_NO_MEMORY) fail(name, "an event is taken");
+    if (yaml_c_emitter_flush(kept, &result) != YAML_NO_MEMORY || result.error != YAML_EMITTER_NO_MEMORY) fail(name, "it is flushed");
+    if (yaml_c_emitter_take_output(kept, out, sizeof out, &result) != YAML_DONE || result.length != 0) fail(name, "there is output");
+}
+
+/* Refuses each growth of a call with a text in turn. Without an error the text is given again, and written; with one the emitter has failed. */
+static void refuse_each_of_text(void) {
+    static const char text[] = "[\"a\\u0041\", {\"b\": [1, \"c\\u0041\"]}]";
+    const char *name = "yaml_c_emitter_emit_json, given again";
+    struct yaml_c_settings settings = yaml_c_value_settings();
+    struct yaml_c_emitter kept;
+    int again = 0, failed = 0;
+    for (refused_at = 1;; refused_at++) {
+        growths = 0;
+        if (yaml_c_emitter_new(&settings, &kept) != YAML_DONE) continue;
+        if (give_kind(&kept, YAML_C_STREAM_START) == YAML_DONE && give_kind(&kept, YAML_C_DOCUMENT_START) == YAML_DONE) {
+            int32_t status = yaml_c_emitter_emit_json(&kept, (const uint8_t *)text, sizeof text - 1, NULL, &result);
+            if (status == YAML_NO_MEMORY && result.error == 0) {
+                again++;
+                status = yaml_c_emitter_emit_json(&kept, (const uint8_t *)text, sizeof text - 1, NULL, &result);
+            }
+            if (status == YAML_NO_MEMORY) {
+                failed++;
+                expect_failed(&kept);
+            } else if (status != YAML_DONE || give_kind(&kept, YAML_C_DOCUMENT_END) != YAML_DONE) {
+                if (growths < refused_at || result.error != YAML_EMITTER_NO_MEMORY) fail(name, "another status");
+            }
+        }
+        yaml_c_emitter_delete(&kept);
+        if (blocks != 0) fail(name, "a block is left");
+        if (growths < refused_at) break;
+    }
+    if (!again || !failed) fail(name, "no growth is refused before the text, or none within it");
+}
+
 int main(void) {
     static uint8_t whole[sizeof out];
     size_t length;
@@ -313,6 +353,7 @@ int main(void) {
     refuse_each("yaml_from_toml", from_toml);
     refuse_each("yaml_canonical_from_json", canonical_from_json);
     refuse_each("yaml_c_emitter_emit_json", json_in_stream);
+    refuse_each_of_text();
     if (!refused_new || !refused_texts || !refused_events || !refused_flushes)
         printf("refused: %d new, %d texts, %d events, %d flushes\n", refused_new, refused_texts, refused_events, refused_flushes);
     printf("each allocation refused in turn: %d times not as written\n", failures);

@@ -1,4 +1,4 @@
--- The settings that the options ask for, and what a sink is given of the texts of several files.
+-- The settings that the options ask for, and the YAML of the texts of several files, which a sink is given.
 use Rattle.std.specs.Prelude.{◌≡◌, ℕ, List, ◌++◌, codes, flat_map, map}
 use Rattle.clap.specs.declared.parser.matches.ArgMatches.{ArgMatches}
 use Rattle.json.specs.Json.{Json}
@@ -19,7 +19,7 @@ pub record AreJsonSettings (matches : ArgMatches) (settings : JsonSettings) : Ty
   pub names : IsOff (value_of matches (codes "allow-duplicates")) settings.unique_names
   pub depth : IsCountOf (value_of matches (codes "depth")) 1000 settings.depth
 
--- ---- what a sink is given
+-- ---- the bytes that a sink is given
 
 -- True if the texts of this file were sent.
 abbrev pub SentJsonFile : JsonSettings → Sending

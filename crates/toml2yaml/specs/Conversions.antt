@@ -1,4 +1,4 @@
--- The settings that the options ask for, and what a sink is given of several files of TOML.
+-- The settings that the options ask for, and the YAML of several files of TOML, which a sink is given.
 use Rattle.std.specs.Prelude.{◌≡◌, ℕ, Some, List, [], ◌∷◌, ◌++◌, codes, map, Bool, IsUtf8}
 use Rattle.clap.specs.declared.parser.matches.ArgMatches.{ArgMatches}
 use Rattle.toml_ordered.specs.Data.{TomlNodes, table}
@@ -21,7 +21,7 @@ pub record AreTomlSettings (matches : ArgMatches) (settings : TomlSettings) : Ty
   pub flow : IsOn (value_of matches (codes "flow")) settings.flow
   pub depth : IsCountOf (value_of matches (codes "depth")) 1000 settings.depth
 
--- ---- what a sink is given
+-- ---- the bytes that a sink is given
 
 -- True if each of some texts is UTF-8 and a document of TOML whose root table is beside it, and nests at most `depth` deep.
 abbrev pub AreToml : (depth : ℕ) → List (List ℕ × TomlNodes) → Type 0

@@ -1,9 +1,9 @@
 -- The results of a call that gives an emitter the events of a JSON text, and the emitter after it.
-use Rattle.std.specs.Prelude.{◌≡◌, ◌⊎◌, ℕ, ℤ, pos, Bool, None, Some, List, [], Result, Ok, Err, IsUtf8}
+use Rattle.std.specs.Prelude.{◌≡◌, ◌⊎◌, ℕ, ℤ, pos, Bool, true, false, ◌&&◌, None, Some, List, [], Result, Ok, Err, IsUtf8, is_none, if◌then◌else◌}
 use Rattle.std.specs.Str.{IsValidUpTo}
 use Rattle.json.specs.Json.{Json, value}
 use Rattle.json.specs.Lex.{tokens}
-use Rattle.yaml_base.specs.declared.errors.yaml_error_t.TheVariants.{Memory}
+use Rattle.yaml_base.specs.declared.errors.yaml_error_t.{yaml_error_t}
 use Rattle.yaml_base.specs.values.LinesAndColumns.{column_of, line_of}
 use Rattle.yaml_emitter.specs.State.{State}
 use Rattle.yaml_pen.specs.Wrote.{Grows}
@@ -17,7 +17,9 @@ use Rattle.yaml_json.specs.declared.error.JsonError.{JsonError}
 use Rattle.yaml_json.specs.declared.expecting.Expected.TheVariants.{Utf8}
 use Rattle.yaml_json.specs.declared.error.JsonError.TheVariants as errors
 use Rattle.yaml_c.specs.Answers.{at_place, nothing_reported}
-use Rattle.yaml_c.specs.Kept.{report_of, error_status}
+use Rattle.yaml_c.specs.Kept.{TellsError, lasting_error}
+use Rattle.yaml_c.specs.declared.json_events.TextGiving.{TextGiving}
+use Rattle.yaml_c.specs.declared.json_events.TextGiving.TheVariants.{Answered, NoMemory}
 use Rattle.yaml_c.specs.declared.results.CallResult.{CallResult}
 
 -- True if the text is JSON nested at most `depth` deep, with each name once in its object if that is asked for, and its events were given.
@@ -45,26 +47,49 @@ pub record IsNoUtf8 (text : List ℕ) (error : JsonError) : Type 0 where
   pub valid : IsValidUpTo text offset
   pub place : error ≡ errors.NotJson (line_of text offset) (column_of text offset) Utf8
 
--- True if nothing was given, since the text isn't UTF-8 or memory ran out.
+-- True if the error is the one that the emitter had before.
+abbrev pub HadError : State → JsonError → Type 0
+HadError before error = (code : yaml_error_t) × (before.error ≡ Some code) × (error ≡ errors.Emitter code)
+
+-- True if nothing was given, since the emitter had failed before or the text isn't UTF-8.
 abbrev pub GaveNothing : List ℕ → State → JsonError → State → Type 0
-GaveNothing text before error after = (after ≡ before) × ((error ≡ errors.Emitter Memory) ⊎ IsNoUtf8 text error)
+GaveNothing text before error after = (after ≡ before) × (HadError before error ⊎ IsNoUtf8 text error)
 
--- True if the text was given with this result.
-abbrev pub GaveJson : (depth : ℕ) → (unique in_flow : Bool) → List ℕ → Result (Unit {0}) JsonError → State → State → Type 0
-GaveJson depth unique in_flow text (Ok done) before after = GaveText depth unique in_flow text before after
-GaveJson depth unique in_flow text (Err error) before after =
-    GaveNothing text before error after ⊎ StoppedInText depth unique in_flow text before error after
+-- True of an error of the emitter or of memory.
+abbrev pub is_writers_error : Result (Unit {0}) JsonError → Bool
+is_writers_error (Err (errors.Emitter code)) = true
+is_writers_error result = false
 
--- True if the status and the report are those of the result: 0 for a text that was given, 5 if it isn't JSON, 6 if it nests too deep, 7 if an
--- object gives a name twice; 3 or 1 by the emitter's error.
-abbrev pub TellsJson : Result (Unit {0}) JsonError → (status : ℤ) → CallResult → Type 0
-TellsJson (Ok done) status report = (status ≡ pos 0) × (report ≡ nothing_reported)
-TellsJson (Err (errors.NotJson line column says)) status report = (status ≡ pos 5) × (report ≡ at_place line column)
-TellsJson (Err (errors.Marked line column)) status report = (status ≡ pos 5) × (report ≡ at_place line column)
-TellsJson (Err (errors.TooDeep line column)) status report = (status ≡ pos 6) × (report ≡ at_place line column)
-TellsJson (Err (errors.DuplicateName line column)) status report = (status ≡ pos 7) × (report ≡ at_place line column)
-TellsJson (Err (errors.Emitter error)) status report = (status ≡ error_status (Some error)) × (report ≡ report_of (Some error))
+-- The emitter after a text was given with this result. It is closed if memory ran out that wasn't the emitter's.
+abbrev pub closed_after : Result (Unit {0}) JsonError → State → State
+closed_after result state = if is_writers_error result && is_none state.error then record state { closed = true } else state
+
+-- True if the events of the text's first tokens were given, and no more, for this reason. If it is the emitter's error, or memory that ran
+-- out, each later call tells it.
+pub record FailedInText (depth : ℕ) (unique in_flow : Bool) (text : List ℕ) (before : State) (error : JsonError) (after : State) : Type 0 where
+  pub stopped : State
+  pub stops : StoppedInText depth unique in_flow text before error stopped
+  pub closes : after ≡ closed_after (Err error) stopped
+  pub lasts : (code : yaml_error_t) → error ≡ errors.Emitter code → lasting_error after ≡ Some code
+
+-- True if the text was given with this outcome.
+abbrev pub GaveJson : (depth : ℕ) → (unique in_flow : Bool) → List ℕ → TextGiving → State → State → Type 0
+GaveJson depth unique in_flow text (Answered (Ok done)) before after = GaveText depth unique in_flow text before after
+GaveJson depth unique in_flow text (Answered (Err error)) before after =
+    GaveNothing text before error after ⊎ FailedInText depth unique in_flow text before error after
+GaveJson depth unique in_flow text NoMemory before after = after ≡ before
+
+-- True if the status and the report are those of the outcome: 0 for a text that was given, 5 if it isn't JSON, 6 if it nests too deep, 7 if
+-- an object gives a name twice; 3 or 1 by the emitter's error; 3 and no error if memory ran out before anything was given.
+abbrev pub TellsJson : TextGiving → (status : ℤ) → CallResult → Type 0
+TellsJson (Answered (Ok done)) status report = (status ≡ pos 0) × (report ≡ nothing_reported)
+TellsJson (Answered (Err (errors.NotJson line column says))) status report = (status ≡ pos 5) × (report ≡ at_place line column)
+TellsJson (Answered (Err (errors.Marked line column))) status report = (status ≡ pos 5) × (report ≡ at_place line column)
+TellsJson (Answered (Err (errors.TooDeep line column))) status report = (status ≡ pos 6) × (report ≡ at_place line column)
+TellsJson (Answered (Err (errors.DuplicateName line column))) status report = (status ≡ pos 7) × (report ≡ at_place line column)
+TellsJson (Answered (Err (errors.Emitter error))) status report = TellsError (Some error) status report
+TellsJson NoMemory status report = (status ≡ pos 3) × (report ≡ nothing_reported)
 
 abbrev pub GivesJson : (depth : ℕ) → (unique in_flow : Bool) → List ℕ → (status : ℤ) → CallResult → State → State → Type 0
 GivesJson depth unique in_flow text status report before after =
-    (answer : Result (Unit {0}) JsonError) × GaveJson depth unique in_flow text answer before after × TellsJson answer status report
+    (giving : TextGiving) × GaveJson depth unique in_flow text giving before after × TellsJson giving status report

@@ -1,5 +1,5 @@
 -- The results of the calls over an emitter that a C program keeps, and the emitter after them.
-use Rattle.std.specs.Prelude.{◌≡◌, ℕ, ℤ, pos, true, Option, None, Some, IsSome, List, [], ◌∷◌, ◌++◌, length, nat_le, if◌then◌else◌}
+use Rattle.std.specs.Prelude.{◌≡◌, ℕ, ℤ, pos, true, false, Option, None, Some, IsSome, List, [], ◌∷◌, ◌++◌, length, nat_le, if◌then◌else◌}
 use Rattle.yaml_base.specs.Event.{Event}
 use Rattle.yaml_base.specs.Ready.{written}
 use Rattle.yaml_base.specs.Settings.{Settings}
@@ -36,9 +36,18 @@ abbrev pub report_of : Option yaml_error_t → CallResult
 report_of None = nothing_reported
 report_of (Some error) = record nothing_reported { error = error_number error }
 
--- True if the status and the report are those of the emitter's error.
+-- True if the status and the report are those of an error, or of none.
 abbrev pub TellsError : Option yaml_error_t → (status : ℤ) → CallResult → Type 0
 TellsError error status report = (status ≡ error_status error) × (report ≡ report_of error)
+
+-- The error that each later call tells: that memory ran out within a JSON text, after which the emitter is closed, or else the emitter's.
+abbrev pub lasting_error : State → Option yaml_error_t
+lasting_error state = if state.closed then Some Memory else state.error
+
+-- True if a call over a closed emitter tells that memory ran out, and changes nothing, and if a call over another does this.
+abbrev pub UnlessClosed : (status : ℤ) → CallResult → (State → State → Type 0) → State → State → Type 0
+UnlessClosed status report relation before after =
+    (before.closed ≡ true → TellsError (Some Memory) status report × (after ≡ before)) × (before.closed ≡ false → relation before after)
 
 -- ---- the calls
 
@@ -46,6 +55,7 @@ TellsError error status report = (status ≡ error_status error) × (report ≡ 
 pub record IsNew (given : Settings) (state : State) : Type 0 where
   pub stands : StandsAfter given [] state
   pub has_output : state.has_output ≡ true
+  pub unclosed : state.closed ≡ false
   pub no_error : state.error ≡ None
   pub nothing : state.page.output ≡ []
   pub untaken : state.page.taken ≡ 0

@@ -1,5 +1,5 @@
 //! Emitters that a C program keeps from call to call.
-ghost use Rattle.std.specs.Prelude.{◌≡◌, List, Option, None, Some, true, length, nat_le, if◌then◌else◌};
+ghost use Rattle.std.specs.Prelude.{◌≡◌, IfNone, IfSome, List, Option, None, Some, true, false, length, nat_le, if◌then◌else◌};
 ghost use Rattle.yaml_base.specs.Event.{Event};
 ghost use Rattle.yaml_base.specs.Settings.{Settings};
 ghost use Rattle.yaml_base.specs.declared.errors.yaml_error_t.{yaml_error_t};
@@ -11,7 +11,8 @@ ghost use Rattle.yaml_c.specs.Answers.{CopiesToCaller, results_done};
 ghost use Rattle.yaml_c.specs.EventRecords as meaning;
 ghost use Rattle.yaml_c.specs.GivenSettings.{settings_given};
 ghost use Rattle.yaml_c.specs.Giving.{GaveRecord};
-ghost use Rattle.yaml_c.specs.Kept.{Changes, Flushes, GivesRecord, IsOpenEmitter, MakesEmitter, TakesOutput, TellsError, error_status};
+ghost use Rattle.yaml_base.specs.declared.errors.yaml_error_t.TheVariants.{Memory};
+ghost use Rattle.yaml_c.specs.Kept.{Changes, Flushes, GivesRecord, IsOpenEmitter, MakesEmitter, TakesOutput, TellsError, UnlessClosed, error_status};
 
 use crate::events::number_of;
 use crate::giving::{Giving, give_record};
@@ -60,12 +61,16 @@ pub extern "C" fn yaml_c_emitter_emit(
     report: &mut CallResult,
 ) -> i32
     requires is_open { IsOpenEmitter emitter.old.state }
-    ensures { Changes (GivesRecord (meaning.event_recorded texts.now directives.now event.now) result report.new) emitter.old.state emitter.new.state }
+    ensures { Changes (UnlessClosed result report.new (GivesRecord (meaning.event_recorded texts.now directives.now event.now) result report.new))
+        emitter.old.state emitter.new.state }
 {
     let mut boxed = emitter.take(alloc);
-    let giving = give_record(alloc, &mut *boxed, texts, directives, event);
+    let giving = give_unless_closed(alloc, &mut *boxed, texts, directives, event);
     emitter.put(boxed);
-    tell_giving(giving, report)
+    match giving {
+        Some(giving) => tell_giving(giving, report),
+        None => tell_closed(report),
+    }
 }
 
 /// Flushes all that an emitter has written. See the header.
@@ -76,7 +81,7 @@ pub extern "C" fn yaml_c_emitter_flush(
     report: &mut CallResult,
 ) -> i32
     requires is_open { IsOpenEmitter emitter.old.state }
-    ensures { Changes (Flushes result report.new) emitter.old.state emitter.new.state }
+    ensures { Changes (UnlessClosed result report.new (Flushes result report.new)) emitter.old.state emitter.new.state }
 {
     let mut boxed = emitter.take(alloc);
     let status = flush(&mut *boxed, report);
@@ -110,12 +115,43 @@ pub extern "C" fn yaml_c_emitter_delete(alloc: Global, emitter: &mut EmitterHand
     emitter.take(alloc).drop();
 }
 
-fn flush<A: Allocator + Copy>(emitter: &mut yaml_emitter_t<A>, report: &mut CallResult) -> i32
+/// Gives an emitter the event of a record, or returns `None` if the emitter is closed.
+fn give_unless_closed<A: Allocator + Copy>(
+    alloc: A,
+    emitter: &mut yaml_emitter_t<A>,
+    arena: &[u8],
+    directives: &[DirectiveRecord],
+    event: &EventRecord,
+) -> Option<Giving>
     requires output { emitter.old.has_output ≡ true }
-    ensures flushed { Flushes result report.new emitter.old emitter.new }
+    ensures closed { IfNone result ((emitter.old.closed ≡ true) × (emitter.new ≡ emitter.old)) }
+    ensures gave { IfSome result (λ giving. (emitter.old.closed ≡ false)
+        × GaveRecord (meaning.event_recorded arena.now directives.now event.now) giving emitter.old emitter.new) }
     ensures output { emitter.new.has_output ≡ true }
 {
+    if emitter.is_closed() {
+        return None;
+    }
+    Some(give_record(alloc, emitter, arena, directives, event))
+}
+
+/// Flushes an emitter that isn't closed, and reports its error, if any.
+fn flush<A: Allocator + Copy>(emitter: &mut yaml_emitter_t<A>, report: &mut CallResult) -> i32
+    requires output { emitter.old.has_output ≡ true }
+    ensures flushed { UnlessClosed result report.new (Flushes result report.new) emitter.old emitter.new }
+    ensures output { emitter.new.has_output ≡ true }
+{
+    if emitter.is_closed() {
+        return tell_closed(report);
+    }
     tell(yaml_emitter_flush(emitter), report)
+}
+
+/// Reports that memory ran out within a JSON text, and returns the status.
+pub(crate) fn tell_closed(report: &mut CallResult) -> i32
+    ensures { TellsError (Some Memory) result report.new }
+{
+    tell(Err(yaml_error_t::Memory), report)
 }
 
 /// Moves the flushed bytes not yet taken to the caller's buffer, if they fit.

@@ -1,21 +1,30 @@
 //! JSON texts as events for an emitter that a C program keeps.
-ghost use Rattle.std.specs.Prelude.{◌≡◌, true};
+ghost use Rattle.std.specs.Prelude.{◌≡◌, false, true};
 ghost use Rattle.yaml_c.specs.JsonAnswers.{depth_given};
 ghost use Rattle.yaml_c.specs.Arena.{is_off, is_on};
-ghost use Rattle.yaml_c.specs.Kept.{Changes, IsOpenEmitter};
-ghost use Rattle.yaml_c.specs.JsonEvents.{GaveJson, GivesJson, TellsJson};
+ghost use Rattle.yaml_c.specs.Kept.{Changes, IsOpenEmitter, UnlessClosed};
+ghost use Rattle.yaml_c.specs.JsonEvents.{GaveJson, GivesJson, TellsJson, closed_after};
+ghost use Rattle.yaml_c.specs.JsonEvents as meaning;
 
-use crate::emitters::status_of;
+use crate::emitters::{status_of, tell_closed};
 use crate::events::number_of;
 use crate::handle::EmitterHandle;
 use crate::json_texts::{JsonOptions, json_settings_from};
 use crate::results::CallResult;
-use crate::statuses::{DONE, DUPLICATE_NAME, NOT_JSON, TOO_DEEP};
+use crate::statuses::{DONE, DUPLICATE_NAME, NO_MEMORY, NOT_JSON, TOO_DEEP};
 use std::alloc::{Allocator, Global};
 use std::mem::replace;
-use yaml_base::yaml_error_t;
 use yaml_emitter::{yaml_emitter_initialize, yaml_emitter_t};
 use yaml_json::{Expected, JsonError, JsonSettings, Writer, place_of, write_json};
+
+/// The outcome of giving a JSON text to an emitter.
+#[derive(Clone, Copy)]
+pub(crate) enum TextGiving {
+    /// The text was given up to its end or to an error.
+    Answered(Result<(), JsonError>),
+    /// An allocation failed before anything was given: nothing changed.
+    NoMemory,
+}
 
 /// Gives an emitter the events of a JSON text, which are those of a node. See the header.
 #[unsafe(no_mangle)]
@@ -27,35 +36,60 @@ pub extern "C" fn yaml_c_emitter_emit_json(
     report: &mut CallResult,
 ) -> i32
     requires is_open { IsOpenEmitter emitter.old.state }
-    ensures { Changes (GivesJson (depth_given options.now.depth) (is_off options.now.allow_duplicates) (is_on options.now.flow) text.now result
-        report.new) emitter.old.state emitter.new.state }
+    ensures { Changes (UnlessClosed result report.new (GivesJson (depth_given options.now.depth) (is_off options.now.allow_duplicates) (is_on options.now.flow)
+        text.now result report.new)) emitter.old.state emitter.new.state }
 {
     let mut boxed = emitter.take(alloc);
-    let answer = give_bytes(alloc, &mut *boxed, text, json_settings_from(options));
+    let status = give_and_tell(alloc, &mut *boxed, text, options, report);
     emitter.put(boxed);
-    tell_json(&answer, report)
+    status
 }
 
-/// Gives an emitter the events of a JSON text, if the bytes are UTF-8.
+/// Gives an emitter that isn't closed the events of a JSON text, reports the outcome, and returns the status.
+fn give_and_tell<A: Allocator + Copy>(
+    alloc: A,
+    emitter: &mut yaml_emitter_t<A>,
+    text: &[u8],
+    options: &JsonOptions,
+    report: &mut CallResult,
+) -> i32
+    requires output { emitter.old.has_output ≡ true }
+    ensures gave { UnlessClosed result report.new (GivesJson (depth_given options.now.depth) (is_off options.now.allow_duplicates) (is_on options.now.flow)
+        text.now result report.new) emitter.old emitter.new }
+    ensures output { emitter.new.has_output ≡ true }
+{
+    if emitter.is_closed() {
+        return tell_closed(report);
+    }
+    let giving = give_bytes(alloc, emitter, text, json_settings_from(options));
+    tell_json(&giving, report)
+}
+
+/// Gives an emitter the events of a JSON text, if the bytes are UTF-8 and the emitter has no error.
 fn give_bytes<A: Allocator + Copy>(
     alloc: A,
     emitter: &mut yaml_emitter_t<A>,
     text: &[u8],
     settings: JsonSettings,
-) -> Result<(), JsonError>
+) -> TextGiving
     requires output { emitter.old.has_output ≡ true }
+    requires unclosed { emitter.old.closed ≡ false }
     ensures gave { GaveJson settings.depth settings.unique_names settings.flow text.now result emitter.old emitter.new }
     ensures output { emitter.new.has_output ≡ true }
 {
+    match emitter.error() {
+        Some(error) => return TextGiving::Answered(Err(JsonError::Emitter(error))),
+        None => {}
+    }
     match std::str::from_utf8(text) {
         Ok(content) => give_text(alloc, emitter, content, settings),
         Err(error) => {
             let (line, column) = place_of(text, error.valid_up_to());
-            Err(JsonError::NotJson {
+            TextGiving::Answered(Err(JsonError::NotJson {
                 line,
                 column,
                 expected: Expected::Utf8,
-            })
+            }))
         }
     }
 }
@@ -66,42 +100,65 @@ fn give_text<A: Allocator + Copy>(
     emitter: &mut yaml_emitter_t<A>,
     text: &str,
     settings: JsonSettings,
-) -> Result<(), JsonError>
+) -> TextGiving
     requires output { emitter.old.has_output ≡ true }
+    requires unclosed { emitter.old.closed ≡ false }
+    requires sound { emitter.old.error ≡ None }
     ensures gave { GaveJson settings.depth settings.unique_names settings.flow text.now result emitter.old emitter.new }
     ensures output { emitter.new.has_output ≡ true }
 {
     let Ok(spare) = yaml_emitter_initialize(alloc) else {
-        return Err(JsonError::Emitter(yaml_error_t::Memory));
+        return TextGiving::NoMemory;
     };
     let mut writer = Writer::over(alloc, replace(emitter, spare));
     let answer = write_json(alloc, &mut writer, text, settings);
     *emitter = writer.into_emitter();
-    answer
+    close_after(emitter, &answer);
+    TextGiving::Answered(answer)
+}
+
+/// Closes an emitter if memory ran out within a text that wasn't the emitter's: the node stays without its end.
+fn close_after<A: Allocator + Copy>(emitter: &mut yaml_emitter_t<A>, answer: &Result<(), JsonError>)
+    ensures closes { emitter.new ≡ closed_after answer.now emitter.old }
+    ensures output { emitter.new.has_output ≡ emitter.old.has_output }
+{
+    if is_writers_error(answer) && emitter.error().is_none() {
+        emitter.mark_closed();
+    }
+}
+
+/// Returns whether an answer is an error of the emitter or of memory.
+fn is_writers_error(answer: &Result<(), JsonError>) -> bool
+    ensures { result ≡ meaning.is_writers_error answer.now }
+{
+    matches!(answer, Err(JsonError::Emitter(_)))
 }
 
 /// Reports how a text was given, and returns the status that goes with it.
-fn tell_json(answer: &Result<(), JsonError>, report: &mut CallResult) -> i32
-    ensures { TellsJson answer.now result report.new }
+fn tell_json(giving: &TextGiving, report: &mut CallResult) -> i32
+    ensures { TellsJson giving.now result report.new }
 {
     *report = CallResult::nothing();
-    match *answer {
-        Ok(()) => DONE,
-        Err(JsonError::NotJson { line, column, .. } | JsonError::Marked { line, column }) => {
+    match *giving {
+        TextGiving::Answered(Ok(())) => DONE,
+        TextGiving::Answered(
+            Err(JsonError::NotJson { line, column, .. } | JsonError::Marked { line, column }),
+        ) => {
             *report = CallResult::at_place(line, column);
             NOT_JSON
         }
-        Err(JsonError::TooDeep { line, column }) => {
+        TextGiving::Answered(Err(JsonError::TooDeep { line, column })) => {
             *report = CallResult::at_place(line, column);
             TOO_DEEP
         }
-        Err(JsonError::DuplicateName { line, column }) => {
+        TextGiving::Answered(Err(JsonError::DuplicateName { line, column })) => {
             *report = CallResult::at_place(line, column);
             DUPLICATE_NAME
         }
-        Err(JsonError::Emitter(error)) => {
+        TextGiving::Answered(Err(JsonError::Emitter(error))) => {
             report.error = number_of(error);
             status_of(error)
         }
+        TextGiving::NoMemory => NO_MEMORY,
     }
 }

@@ -18,7 +18,7 @@ pub record IsAskedBy {F : Type 0} (matches : ArgMatches) (conversion : Conversio
   pub output : option_map (λ name. name.now) conversion.output ≡ first_value (found_of matches) (codes "output")
   pub files : map (λ name. name.now) conversion.files.items ≡ files_named matches
 
--- The names of what is read: the given ones, or that of standard input if none is given.
+-- The names that are read: the given ones, or that of standard input if none is given.
 abbrev pub names_read : List (List ℕ) → List (List ℕ)
 names_read [] = codes "-" ∷ []
 names_read (name ∷ names) = name ∷ names
@@ -47,7 +47,7 @@ heading_bytes (Some text) = encode_utf8_all (comment_lines (chars text))
 abbrev pub heading_of : {F : Type 0} → Conversion F → Option (List ℕ)
 heading_of conversion = option_map (λ text. text.now) conversion.heading
 
--- ---- what a sink is given
+-- ---- the bytes that a sink is given
 
 -- True if the sink was given the stream of these files.
 abbrev pub WroteStream : (IsYaml : List (List ℕ) → List ℕ → Type 0) → List (List ℕ) → Option (List ℕ) → Option (List ℕ) → Type 0
@@ -83,7 +83,7 @@ WroteToStream is_yaml bytes_of conversion before after =
 abbrev pub HaveYaml : (IsYaml : List (List ℕ) → List ℕ → Type 0) → List (List ℕ) → Type 0
 HaveYaml IsYaml files = (bytes : List ℕ) × IsYaml files bytes
 
--- ---- what is done
+-- ---- the effect of a conversion
 
 -- True if the bytes of what has this name, if they are known, are the heading's lines and the stream of the files that are read.
 abbrev pub IsThere : (List ℕ → Option (List ℕ)) → (IsYaml : List (List ℕ) → List ℕ → Type 0) → (heading : Option (List ℕ)) → List (List ℕ)

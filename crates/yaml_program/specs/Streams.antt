@@ -1,4 +1,4 @@
--- What a sink is given of several files, one after another.
+-- The YAML of several files, which a sink is given one after another.
 use Rattle.std.specs.Prelude.{◌≡◌, ℕ, Option, Ok, List, [], ◌∷◌, true}
 use Rattle.std.specs.Io.KnownBytes.{Appends}
 use Rattle.yaml_base.specs.Event.{document_end}

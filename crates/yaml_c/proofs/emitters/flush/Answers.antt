@@ -1,5 +1,8 @@
 use Rattle.std.specs.Prelude.{Result, List, OnOk}
 use Rattle.yaml_c.proofs.Common.{◌≡◌, rules, ◌∙◌, ap, subst, w32, of_z, to_z}
+use Rattle.std.proofs.Common.{false}
+use Rattle.yaml_c.proofs.KeptLemmas.{while_open}
+use Rattle.yaml_c.specs.Kept.{Flushes}
 use Rattle.yaml_base.specs.{Event.Event, Settings.Settings, declared.errors.yaml_error_t.yaml_error_t}
 use Rattle.yaml_pen.specs.Page.{result_of_error}
 use Rattle.yaml_emitter.{proofs.standing.Moving.moved_nowhere, specs.Promises.HasAllBytes, specs.StandsAfter.StandsAfter}
@@ -13,7 +16,11 @@ returns-clause-flushed g c =
     let moves = flush.moves in
     let fits : to_z w32 (of_z w32 c.tell.result) ≡ c.tell.result = search rules in
     let returned = c.tell.ensures after.error moves.answered in
-    record {
+    let status = to_z w32 (of_z w32 c.tell.result) in
+    let report = c.tell.new.report in
+    let unclosed : before.closed ≡ false = search rules in
+    while_open status report (Flushes status report) before after unclosed
+    (record {
       tells = (fits ∙ returned.0, returned.1);
       stands = λ given all stands. (moved_nowhere moves given all stands).0;
       promised = λ given all stands. (moved_nowhere moves given all stands).1;
@@ -34,4 +41,4 @@ returns-clause-flushed g c =
         closed = moves.set.closed;
         taken = moves.set.taken;
       };
-    }
+    })
