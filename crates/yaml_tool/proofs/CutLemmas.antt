@@ -3,10 +3,10 @@ use Rattle.yaml_tool.proofs.Common.{ℕ, ◌==◌, None, Bool, false, true, ◌|
 use Rattle.yaml_tool.proofs.Common.{version_of, IsFree, IsCut, cut_at}
 use Rattle.yaml_base.proofs.Common.{cond}
 
--- neither of two tests
-pub neither : (a b : Bool) → (a || b) ≡ false → (a ≡ false) × (b ≡ false)
-neither false b h = (refl, h)
-neither true b h = cc
+-- a character that isn't the delimiter, and a rest without it
+pub free_parts : (is_here is_later : Bool) → (is_here || is_later) ≡ false → (is_here ≡ false) × (is_later ≡ false)
+free_parts true is_later free = cc
+free_parts false is_later free = (refl, free)
 
 one_cut : ℕ → List Text → Bool → List Text
 one_cut c pieces is = cond is ([] ∷ pieces) (onto_first c pieces)
@@ -16,7 +16,7 @@ cut_prefix : (delimiter : ℕ) (prefix : Text) (back : List Text) (text : Text) 
 unfolding one_cut
 cut_prefix delimiter [] back text free is = is
 cut_prefix delimiter (c ∷ prefix) back text free is =
-    let both = neither (c == delimiter) _ free in
+    let both = free_parts (c == delimiter) _ free in
     ap (one_cut c (cut_at delimiter (prefix ++ text))) both.0 ∙ ap (onto_first c) (cut_prefix delimiter prefix back text both.1 is)
 
 at_delimiter : (delimiter : ℕ) → (delimiter == delimiter) ≡ true
@@ -27,7 +27,7 @@ pub cut_free : (delimiter : ℕ) (text : Text) → IsFree delimiter text → cut
 unfolding one_cut
 cut_free delimiter [] free = refl
 cut_free delimiter (c ∷ rest) free =
-    let both = neither (c == delimiter) _ free in
+    let both = free_parts (c == delimiter) _ free in
     ap (one_cut c (cut_at delimiter rest)) both.0 ∙ ap (onto_first c) (cut_free delimiter rest both.1)
 
 -- the prefix is the first piece, and the back gives the others

@@ -5,7 +5,7 @@ use Rattle.yaml_tool.proofs.Common.{fields_read, IsFree, prefix_of, SkipsTo, pre
 use Rattle.std.specs.{Borrow.Bor, Option.is_some}
 use Rattle.yaml_base.specs.scripts.Script.{inside, escaped, state_after, cut_before, read_fields}
 use Rattle.yaml_tool.proofs.CharacterLemmas.{ends_in_itself, PassedEvents, passed_to, empty_prefix, run_passed, run_prefix}
-use Rattle.yaml_tool.proofs.CutLemmas.{neither}
+use Rattle.yaml_tool.proofs.CutLemmas.{free_parts}
 use Rattle.yaml_base.specs.scripts.Script as notation
 
 attached_one : (prefix : Text) (c : ℕ) (pieces : List Text)
@@ -59,8 +59,8 @@ pub run_outside : (prefix rest : Text) → IsFree 0x20 prefix → IsFree 0x22 pr
     → pieces_from outside (prefix ++ rest) ≡ prepend_to_first_piece prefix (pieces_from outside rest)
 run_outside [] rest no_space no_exclamation = refl
 run_outside (c ∷ prefix) rest no_space no_exclamation =
-    let space = neither (c == 0x20) _ no_space in
-    let quotation = neither (c == 0x22) _ no_exclamation in
+    let space = free_parts (c == 0x20) _ no_space in
+    let quotation = free_parts (c == 0x22) _ no_exclamation in
     ap (λ (b : Bool). cut_before b c (pieces_from (state_after outside c) (prefix ++ rest))) space.0
     ∙ ap (λ (b : Bool). onto_first c (pieces_from (if b then inside else outside) (prefix ++ rest))) quotation.0
     ∙ ap (onto_first c) (run_outside prefix rest space.1 quotation.1)
@@ -70,8 +70,8 @@ pub run_inside : (prefix rest : Text) → IsFree 0x22 prefix → IsFree 0x5C pre
     → pieces_from inside (prefix ++ rest) ≡ prepend_to_first_piece prefix (pieces_from inside rest)
 run_inside [] rest no_exclamation no_backslash = refl
 run_inside (c ∷ prefix) rest no_exclamation no_backslash =
-    let quotation = neither (c == 0x22) _ no_exclamation in
-    let backslash = neither (c == 0x5C) _ no_backslash in
+    let quotation = free_parts (c == 0x22) _ no_exclamation in
+    let backslash = free_parts (c == 0x5C) _ no_backslash in
     ap (λ (b : Bool). onto_first c (pieces_from (if b then outside else (if c == 0x5C then escaped else inside)) (prefix ++ rest))) quotation.0
     ∙ ap (λ (b : Bool). onto_first c (pieces_from (if b then escaped else inside) (prefix ++ rest))) backslash.0
     ∙ ap (onto_first c) (run_inside prefix rest quotation.1 backslash.1)

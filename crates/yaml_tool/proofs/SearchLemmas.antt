@@ -6,7 +6,7 @@ use Rattle.yaml_base.proofs.Common.{zero, slice_index, eqb-true, false≢true}
 use Rattle.std.proofs.{Common.le_refl, Common.take_all, Math.Seq.drop-cons, lemmas.List.take_rest, lemmas.List.Folds.list_any_more}
 use Rattle.std.proofs.lemmas.Str.{IsUtf8-drop, encode_ascii, IsCharBoundary-before_ascii, IsUtf8-nil}
 use Rattle.memchr.specs.Find.{is_byte}
-use Rattle.yaml_tool.proofs.{CharacterLemmas.take_seam, CharacterLemmas.ends_at_seam, CutLemmas.neither}
+use Rattle.yaml_tool.proofs.{CharacterLemmas.take_seam, CharacterLemmas.ends_at_seam, CutLemmas.free_parts}
 
 not_true : (b : Bool) → ¬ (b ≡ true) → b ≡ false
 not_true true h = absurd (h refl)
@@ -41,7 +41,7 @@ free_characters : (test : ℕ → Bool) (delimiter : ℕ) (text : List ℕ) → 
     → IsFree delimiter text
 free_characters test delimiter [] ascii passes none = refl
 free_characters test delimiter (c ∷ text) ascii passes none =
-    let both = neither (list_any test (encode_utf8 c)) (list_any test (encode_utf8_all text))
+    let both = free_parts (list_any test (encode_utf8 c)) (list_any test (encode_utf8_all text))
     (sym (list_any-append test (encode_utf8 c) (encode_utf8_all text)) ∙ none) in
     let first : (c == delimiter) ≡ false = not_true (c == delimiter) (λ yes. byte_passes (eqb-true c delimiter yes) both.0) in
     ap (λ (b : Bool). b || list_any (λ d. d == delimiter) text) first ∙ free_characters test delimiter text ascii passes both.1

@@ -6,7 +6,7 @@ use Rattle.yaml_tool.proofs.Common.{IsFree, IsCut, prefix_of, SkipsTo}
 use Rattle.std.specs.Prelude.{String}
 use Rattle.yaml_base.specs.scripts.Script.{quotation_mark, backslash, at_escape, at_brace, at_digits, goes_on, stands_for, ends, fails, numbered_step}
 use Rattle.yaml_base.specs.scripts.Script.{text_step}
-use Rattle.yaml_tool.{proofs.CharacterLemmas.passed_to, proofs.CutLemmas.neither, specs.Texts.ReadsPrefix}
+use Rattle.yaml_tool.{proofs.CharacterLemmas.passed_to, proofs.CutLemmas.free_parts, specs.Texts.ReadsPrefix}
 use Rattle.yaml_base.specs.scripts.Script as notation
 
 -- the reading of a turn and the characters after it
@@ -38,7 +38,7 @@ digit_goes_on digits c h = subst
 digits_without_end : (digits prefix : Text) → IsFree 0x7D prefix → text_from (at_digits digits) prefix ≡ None
 digits_without_end digits [] free = refl
 digits_without_end digits (c ∷ prefix) free =
-    let both = neither (c == 0x7D) _ free in
+    let both = free_parts (c == 0x7D) _ free in
     first_turn (at_digits digits) c prefix
     ∙ ap (λ t. read_turn t prefix) (digit_goes_on digits c both.0) ∙ digits_without_end (digits ++ c ∷ []) prefix both.1
 
@@ -47,7 +47,7 @@ digits_with_end : (digits prefix back : Text) → IsFree 0x7D prefix
     → text_from (at_digits digits) (prefix ++ (0x7D ∷ back)) ≡ read_turn (numbered_step (digits ++ prefix)) back
 digits_with_end digits [] back free = first_turn (at_digits digits) 0x7D back ∙ ap (λ (ds : Text). read_turn (numbered_step ds) back) (sym (append-nil digits))
 digits_with_end digits (c ∷ prefix) back free =
-    let both = neither (c == 0x7D) _ free in
+    let both = free_parts (c == 0x7D) _ free in
     first_turn (at_digits digits) c (prefix ++ (0x7D ∷ back))
     ∙ ap (λ t. read_turn t (prefix ++ (0x7D ∷ back))) (digit_goes_on digits c both.0)
     ∙ digits_with_end (digits ++ c ∷ []) prefix back both.1
@@ -97,10 +97,10 @@ reads_prefix (c ∷ prefix) behind no_exclamation no_backslash =
     ∙ go (text_from at_character behind)
   where
     quotation : ((c == quotation_mark) ≡ false) × IsFree quotation_mark prefix
-    quotation = neither (c == quotation_mark) _ no_exclamation
+    quotation = free_parts (c == quotation_mark) _ no_exclamation
 
     slash : ((c == backslash) ≡ false) × IsFree backslash prefix
-    slash = neither (c == backslash) _ no_backslash
+    slash = free_parts (c == backslash) _ no_backslash
 
     stands : text_step at_character c ≡ stands_for c
     stands =
