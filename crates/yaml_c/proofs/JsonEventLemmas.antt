@@ -64,7 +64,11 @@ over_emitter settings text before now (Err error) utf8 none unclosed writes =
       stopped = now.emitter;
       stops = record {
         utf8 = utf8;
-        stops = record { taken = stops.taken; left = stops.left; split = stops.split; why = stops.why; adds = stops.adds };
+        taken = stops.taken;
+        left = stops.left;
+        split = stops.split;
+        why = stops.why;
+        adds = stops.adds;
         sound = said_of_emitter (writer_over before) (writers_error error) now writes.sound;
         grows = writes.grows;
         place = writes.place;

@@ -1,8 +1,9 @@
 -- The results of a call that gives an emitter the events of a JSON text, and the emitter after it.
-use Rattle.std.specs.Prelude.{◌≡◌, ◌⊎◌, ℕ, ℤ, pos, Bool, true, false, ◌&&◌, None, Some, List, [], Result, Ok, Err, IsUtf8, is_none, if◌then◌else◌}
+use Rattle.std.specs.Prelude.{◌≡◌, ◌⊎◌, ℕ, ℤ, pos, Bool, true, false, ◌&&◌, None, Some, List, [], ◌++◌, Result, Ok, Err, IsUtf8, is_none, if◌then◌else◌}
 use Rattle.std.specs.Str.{IsValidUpTo}
 use Rattle.json.specs.Json.{Json, value}
 use Rattle.json.specs.Lex.{tokens}
+use Rattle.json.specs.Token.{Token}
 use Rattle.yaml_base.specs.declared.errors.yaml_error_t.{yaml_error_t}
 use Rattle.yaml_base.specs.values.LinesAndColumns.{column_of, line_of}
 use Rattle.yaml_emitter.specs.State.{State}
@@ -11,8 +12,8 @@ use Rattle.yaml_writer.specs.Writing.{AddsEvents, writer_over}
 use Rattle.yaml_json.specs.Failing.{IsSound}
 use Rattle.yaml_json.specs.JsonEvents.{json_events}
 use Rattle.yaml_json.specs.Places.{HasPlace}
-use Rattle.yaml_json.specs.Refused.{HasNamesOnce}
-use Rattle.yaml_json.specs.Stopped.{StopsInText}
+use Rattle.yaml_json.specs.Refused.{HasNamesOnce, TokensStopAt}
+use Rattle.yaml_json.specs.TokenEvents.{tokens_events}
 use Rattle.yaml_json.specs.declared.error.JsonError.{JsonError}
 use Rattle.yaml_json.specs.declared.expecting.Expected.TheVariants.{Utf8}
 use Rattle.yaml_json.specs.declared.error.JsonError.TheVariants as errors
@@ -35,7 +36,11 @@ pub record GaveText (depth : ℕ) (unique in_flow : Bool) (text : List ℕ) (bef
 -- True if the events of the text's first tokens were given, and no more, for this reason.
 pub record StoppedInText (depth : ℕ) (unique in_flow : Bool) (text : List ℕ) (before : State) (error : JsonError) (after : State) : Type 0 where
   pub utf8 : IsUtf8 text
-  pub stops : StopsInText depth unique in_flow text (writer_over before) error (writer_over after)
+  pub taken : List Token
+  pub left : List Token
+  pub split : taken ++ left ≡ tokens text
+  pub why : TokensStopAt depth unique text taken left error
+  pub adds : AddsEvents before (tokens_events before.given.canonical in_flow taken) after
   pub sound : IsSound (writer_over before) (Err error) (writer_over after)
   pub grows : Grows before.page after.page
   pub place : HasPlace depth text error
