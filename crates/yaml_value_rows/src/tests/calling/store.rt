@@ -13,8 +13,8 @@ fn sealed_integer(alloc: Global, number: i64) -> Result<Entry<Global>, yaml_erro
 
 /// Returns the integer of an entry; `None` if it holds another value.
 fn opened_integer(alloc: Global, entry: &Entry<Global>) -> Result<Option<i64>, OpenError> {
-    match open(alloc, entry)? {
-        Value::Int(number) => Ok(Some(number)),
+    match &open(alloc, entry)? {
+        Value::Int(number) => Ok(Some(*number)),
         _ => Ok(None),
     }
 }

@@ -5,8 +5,8 @@ use yaml_read::{ReadError, Value, read_canonical};
 
 /// Returns the integer that these canonical bytes hold; `None` if they hold another value.
 fn stored_integer(alloc: Global, bytes: &[u8]) -> Result<Option<i64>, ReadError> {
-    match read_canonical(alloc, bytes)? {
-        Value::Int(number) => Ok(Some(number)),
+    match &read_canonical(alloc, bytes)? {
+        Value::Int(number) => Ok(Some(*number)),
         _ => Ok(None),
     }
 }
