@@ -1,8 +1,8 @@
 //! Typed values, a writer of values, numbers of JSON, values of any type that is serialized, how they are handed on, proved
 //! callers, canonical bytes that are read, and the examples of the documents.
 //!
-//! What has parts to be let go, as errors, documents, writers and emitters have, is handed to `drop`: to let it go where a block
-//! ends is dearer to prove.
+//! A value that has parts to be let go, as errors, documents, writers and emitters have, is handed to `drop`: to let it go at the
+//! end of a block is dearer to prove.
 mod callers;
 mod calling;
 mod handed;

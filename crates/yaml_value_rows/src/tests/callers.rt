@@ -2,7 +2,7 @@
 use crate::tests::{answers, equal};
 use std::alloc::Global;
 use std::process::Abort;
-use yaml_caller::{cycle_written, pair_written, same_bytes, same_graph};
+use yaml_caller::{Service, cycle_written, same_bytes, same_graph, service_yaml, write_pair};
 use yaml_dump::{
     YAML_ANY_SCALAR_STYLE, YAML_BLOCK_SEQUENCE_STYLE, YAML_SEQ_TAG, YAML_STR_TAG, yaml_document_t,
     yaml_node_data_t, yaml_node_t,
@@ -18,8 +18,60 @@ fn a_pair_and_a_mapping_that_holds_itself_are_written(rt: HostRuntime) {
     let alloc = rt.alloc();
     let cycle = "---\n&id001 !!map {\n  ? !!str \"k\"\n  : *id001,\n}\n";
     answers(&rt, cycle_written(alloc), &Ok(cycle));
-    let pair = pair_written(alloc, text(&rt, alloc, "a"), text(&rt, alloc, "b # c"));
+    let pair = write_pair(alloc, text(&rt, alloc, "a"), text(&rt, alloc, "b # c"));
     answers(&rt, pair, &Ok("---\na: 'b # c'\n"));
+}
+
+/// Returns texts as a list.
+fn list(rt: &impl Abort, alloc: Global, texts: &[&str]) -> Vec<String> {
+    let mut items = Vec::new(alloc);
+    for characters in texts {
+        items
+            .push(text(rt, alloc, characters))
+            .expect(rt, "no memory");
+    }
+    items
+}
+
+/// Returns texts as the labels of a service.
+fn labels(rt: &impl Abort, alloc: Global, texts: &[(&str, &str)]) -> Vec<(String, String)> {
+    let mut labels = Vec::new(alloc);
+    for (key, value) in texts {
+        let label = (text(rt, alloc, key), text(rt, alloc, value));
+        labels.push(label).expect(rt, "no memory");
+    }
+    labels
+}
+
+#[test]
+fn a_service_is_written(rt: HostRuntime) {
+    let alloc = rt.alloc();
+    let service = Service {
+        name: text(&rt, alloc, "api # main"),
+        port: 8080,
+        replicas: 3,
+        hosts: list(&rt, alloc, &["a.example", "on"]),
+        labels: labels(&rt, alloc, &[("stage", "test"), ("no", "1.0")]),
+    };
+    let yaml =
+        "---\nname: 'api # main'\nport: 8080\nreplicas: 3\nhosts:\n  - a.example\n  - 'on'\nlabels:\n  stage: test\n  'no': '1.0'\n";
+    answers(&rt, service_yaml(alloc, &service), &Ok(yaml));
+    drop(service);
+}
+
+#[test]
+fn a_service_without_hosts_and_labels_is_written(rt: HostRuntime) {
+    let alloc = rt.alloc();
+    let service = Service {
+        name: text(&rt, alloc, ""),
+        port: 65_535,
+        replicas: 0,
+        hosts: list(&rt, alloc, &[]),
+        labels: labels(&rt, alloc, &[]),
+    };
+    let yaml = "---\nname: ''\nport: 65535\nreplicas: 0\nhosts: []\nlabels: {}\n";
+    answers(&rt, service_yaml(alloc, &service), &Ok(yaml));
+    drop(service);
 }
 
 /// Checks whether a value has the bytes of the integer 5.

@@ -8,7 +8,7 @@ use std::process::Abort;
 use yaml_serde::{Cause, Error, Writer, to_writer, value_settings, write, yaml_error_t};
 use yaml_writer::YAML_BLOCK_SEQUENCE_STYLE;
 
-/// Returns the kind of a sink's error; nothing where it fails otherwise, or the value is written.
+/// Returns the kind of a sink's error; nothing if it fails otherwise, or the value is written.
 fn sink_failure<T: Serialize>(alloc: Global, room: usize, value: &T) -> Option<io::ErrorKind> {
     let answer = sink_of(alloc, room, value);
     let kind = match &answer {
@@ -95,7 +95,7 @@ fn a_value_is_a_node_of_a_writer(rt: HostRuntime) {
     answers(&rt, finished(writer), &Ok(expected));
 }
 
-/// Checks that a value ends only what it began.
+/// Checks that a value ends only the collections that it began.
 fn give_ends(rt: &impl Abort, alloc: Global, writer: &mut Writer<Global>) {
     equal(rt, &begin_tagged(writer), &Ok(()));
     check_given(rt, alloc, writer, &ByHand::End, &false);

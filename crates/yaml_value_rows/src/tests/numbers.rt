@@ -4,7 +4,7 @@ use std::alloc::Global;
 use std::process::Abort;
 use yaml_writer::{Spelling, number_of, number_spelling};
 
-/// A text; the spelling of its number, and whether that is an integer; nothing where it is no number.
+/// A text; the spelling of its number, and whether that is an integer; nothing if it is no number.
 type Row = (&'static str, Option<(&'static str, bool)>);
 
 /// Checks that a number keeps its text.

@@ -1,4 +1,4 @@
-//! The path in a value to where an error arises.
+//! The path in a value to the place of an error.
 use crate::tests::equal;
 use crate::tests::serialized::{
     ByHand, Color, Holder, Wrong, check_error, check_refused, map_of, named,

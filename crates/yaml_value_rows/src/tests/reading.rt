@@ -19,7 +19,7 @@ fn push<T: Drop>(rt: &impl Abort, items: &mut Vec<T>, item: T) {
     items.push(item).expect(rt, "no memory");
 }
 
-/// Checks what is printed.
+/// Checks the text that is printed.
 fn check_printed(rt: &impl Abort, alloc: Global, printed: &impl Display, wanted: &str) {
     let text = format!(in alloc; "{printed}").expect(rt, "no memory");
     equal(rt, &text.as_str(), &wanted);

@@ -139,7 +139,7 @@ fn integers_have_up_to_128_bits(rt: HostRuntime) {
 /// An example that is serialized by hand.
 #[derive(Drop)]
 pub(super) enum ByHand {
-    /// Bytes as they are, where std's types are sequences.
+    /// Bytes as they are; those of std's types are sequences.
     Raw(&'static [u8]),
     /// The name of a variant with data, and no data.
     Name,
@@ -147,7 +147,7 @@ pub(super) enum ByHand {
     Values(u32, Option<&'static str>),
     /// So many lines of eight bytes each, as a sequence writes them, and then a complaint.
     Lines(u32),
-    /// The end of what it didn't begin.
+    /// The end of a collection that it didn't begin.
     End,
     /// Two values, of which the second is refused at a document's root; that is ignored.
     Deaf,
@@ -318,7 +318,7 @@ fn flattened_members_go_into_the_map_around_them(rt: HostRuntime) {
     check_refused(&rt, rt.alloc(), &Wrong { number: 1 }, words);
 }
 
-/// The words of an emitter that is given no node where one is expected, or one too many.
+/// The words of an emitter that is given no node although one is expected, or one too many.
 const NO_NODE: &str = "expected SCALAR, SEQUENCE-START, MAPPING-START, or ALIAS";
 
 const NO_DOCUMENT_END: &str = "expected DOCUMENT-END";

@@ -60,7 +60,7 @@ fn text<'a>(rt: &impl Abort, heap: Heap<'a>, characters: &str) -> Made<'a> {
     Value::Text(String::from_str(heap, characters).expect(rt, "no memory"))
 }
 
-/// Returns what a list or a map holds, of which this is the first.
+/// Returns the contents of a list or a map, of which this is the first.
 fn one<'a, T: Drop>(rt: &impl Abort, heap: Heap<'a>, item: T) -> Vec<T, Heap<'a>> {
     let mut items = Vec::new(heap);
     items.push(item).expect(rt, "no memory");

@@ -62,7 +62,7 @@ enum Call {
     FinishAfterEnd(&'static str),
 }
 
-/// Gives the number of JSON that a text is; nothing where it is none.
+/// Gives the number of JSON that a text is; nothing if it is none.
 fn give_number(writer: &mut Writer<Global>, text: &str) -> Result<(), yaml_error_t> {
     match number_of(text) {
         Some(number) => writer.number(&number),
@@ -70,7 +70,7 @@ fn give_number(writer: &mut Writer<Global>, text: &str) -> Result<(), yaml_error
     }
 }
 
-/// Gives a date, alone or with a time; nothing where there is no such date.
+/// Gives a date, alone or with a time; nothing if there is no such date.
 fn give_timestamp(
     writer: &mut Writer<Global>,
     date: Option<Date>,
@@ -82,7 +82,7 @@ fn give_timestamp(
     }
 }
 
-/// Gives a call of a writer; an error for what is none.
+/// Gives a call of a writer; an error for a word that is none.
 fn give(writer: &mut Writer<Global>, call: &Call) -> Result<(), yaml_error_t> {
     match call {
         Call::Text(text) => writer.text(text),
@@ -107,7 +107,7 @@ fn give(writer: &mut Writer<Global>, call: &Call) -> Result<(), yaml_error_t> {
     }
 }
 
-/// Gives a call that is no scalar; an error for what is none.
+/// Gives a call that is no scalar; an error for a word that is none.
 fn give_part(writer: &mut Writer<Global>, call: &Call) -> Result<(), yaml_error_t> {
     match call {
         Call::Sequence => writer.begin_sequence(YAML_BLOCK_SEQUENCE_STYLE),
@@ -148,7 +148,7 @@ fn check_given(
     equal(rt, &(place.0, place.1, answer), &(place.0, place.1, wanted));
 }
 
-/// Checks that the call gives what it should.
+/// Checks that the call gives the text that it should.
 fn check_call(
     rt: &impl Abort,
     alloc: Global,

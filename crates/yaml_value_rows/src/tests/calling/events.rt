@@ -132,7 +132,7 @@ fn emit_twice(alloc: Global, emitter: &mut yaml_emitter_t<Global>) -> Result<(),
     yaml_emitter_emit(emitter, YAML_MAPPING_END_EVENT)
 }
 
-/// Flushes all text so far, and sends what was flushed since the last call. Returns how many events still wait.
+/// Flushes all text so far, and sends the bytes that were flushed since the last call. Returns how many events still wait.
 fn send(emitter: &mut yaml_emitter_t<Global>, sent: &mut Vec<u8>) -> Result<usize, yaml_error_t>
     requires { emitter.old.has_output ≡ true }
     ensures { emitter.new.has_output ≡ true }
@@ -202,7 +202,7 @@ enum Act {
     Text(&'static str),
     /// Emits a mapping with a sequence and its alias.
     Twice,
-    /// Sends what was flushed.
+    /// Sends the flushed bytes.
     Send,
 }
 
@@ -226,7 +226,7 @@ fn held_after(
     Ok(emitter.held())
 }
 
-/// An action, how many events then wait, the output that wasn't taken, and what was sent.
+/// An action, how many events then wait, the output that wasn't taken, and the bytes that were sent.
 type Step = (Act, usize, &'static str, &'static str);
 
 fn check_step(
@@ -276,7 +276,7 @@ const ALIAS: &[Step] = &[
     (Act::Emit("end"), 0, "first: &list [a]\nagain: *list\n", ""),
 ];
 
-/// A flush writes what is ready.
+/// A flush writes all that is ready.
 const FLUSHED: &[Step] = &[
     (Act::Emit("stream document [ a"), 2, "", ""),
     (Act::Send, 2, "", ""),

@@ -33,7 +33,7 @@ fn values(alloc: Global) -> Result<Vec<u8>, yaml_error_t> {
     writer.finish()
 }
 
-/// Ends what is open, with null for a node that is awaited, and the stream with `...`.
+/// Ends all that is open, with null for a node that is awaited, and the stream with `...`.
 fn ended(mut writer: Writer<Global>) -> Result<Vec<u8>, yaml_error_t> {
     if writer.awaits_node() {
         writer.null()?;
@@ -79,7 +79,7 @@ fn give_times(
     writer.end()
 }
 
-/// Ends a document with `...`, begins the next, and sends what was flushed since the last call.
+/// Ends a document with `...`, begins the next, and sends the bytes that were flushed since the last call.
 fn send_document(writer: &mut Writer<Global>, sent: &mut Vec<u8>) -> Result<(), yaml_error_t> {
     writer.next_document_after(DocumentEnd::Explicit)?;
     let part = writer.take_output();

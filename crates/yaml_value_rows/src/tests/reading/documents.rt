@@ -59,7 +59,7 @@ fn read_and_dumped(rt: &impl Abort, alloc: Global, bytes: &[u8]) -> Option<ReadE
     }
 }
 
-/// Checks that a document is read and dumped again, where there is no error, or that it isn't read for this one.
+/// Checks that a document is read and dumped again, if there is no error, or that it isn't read for this one.
 fn check_answer(rt: &impl Abort, alloc: Global, bytes: &[u8], error: Option<ReadError>) {
     let answer = read_and_dumped(rt, alloc, bytes);
     equal(rt, &(bytes, answer), &(bytes, error));

@@ -1,8 +1,8 @@
-//! The words of the errors of reading. (`tests/c/canonical.c` has why bytes aren't read, and where.)
+//! The words of the errors of reading. (`tests/c/canonical.c` has the reasons why bytes aren't read, and their places.)
 use super::check_printed;
 use yaml_read::ReadError;
 
-/// Errors, and what they print.
+/// Errors, and the texts that they print.
 const PRINTED: &[(ReadError, &str)] = &[
     (
         ReadError::NotCanonical { line: 2, column: 7 },

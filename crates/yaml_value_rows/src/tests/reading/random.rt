@@ -1,4 +1,4 @@
-//! Random values, written and read back, also with one byte changed, and where memory is refused.
+//! Random values, written and read back, also with one byte changed, and with memory refused.
 use super::refused::refuse_growths;
 use super::{push, read, written};
 use crate::tests::equal;

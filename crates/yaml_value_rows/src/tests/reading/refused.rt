@@ -1,4 +1,4 @@
-//! Values read where memory is refused.
+//! Values read while memory is refused.
 use super::read;
 use crate::tests::equal;
 use std::alloc::Global;

@@ -1,4 +1,4 @@
-//! Values written where memory is refused.
+//! Values written while memory is refused.
 use super::{Example, Heap, canonical, made};
 use crate::tests::answers;
 use std::alloc::Global;
@@ -31,7 +31,7 @@ fn is_reported<'a>(
 /// A longer text takes too much time to be written after each refusal.
 const LONG: usize = 100_000;
 
-/// A value, and what is written.
+/// A value, and its text.
 pub(super) type Row<'a> = (Example, &'a str);
 
 // Each growth that a value takes is refused in turn, and after them all it gives this text; also after each.

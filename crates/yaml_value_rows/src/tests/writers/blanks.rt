@@ -23,7 +23,7 @@ pub(super) const CALLS: &[Call] = &[
     Call::Text("a\tb"),
     Call::End,
     Call::Finish(Ok("---\n- \"a\\n \\nb\"\n- \"\\t\\na\"\n- \"a\\n  \"\n- \"a\\tb\"\n")),
-    // In a mapping, in flow, and alone in a document, where a text that begins with a blank isn't literal.
+    // In a mapping, in flow, and alone in a document, in which a text that begins with a blank isn't literal.
     Call::Mapping,
     Call::Text("k"),
     Call::Text("a\tb \nc"),
@@ -41,7 +41,7 @@ pub(super) const CALLS: &[Call] = &[
     )),
 ];
 
-/// A text with tabs, or with spaces at the ends of its lines, stands in double quotes where blanks aren't literal.
+/// A text with tabs, or with spaces at the ends of its lines, is in double quotes if blanks aren't literal.
 pub(super) const QUOTED: &[Call] = &[
     Call::Sequence,
     Call::Text("a\tb\nc"),

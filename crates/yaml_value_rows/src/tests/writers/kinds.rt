@@ -35,7 +35,7 @@ pub(super) const CALLS: &[Call] = &[
     Call::Text("b"),
     Call::End,
     Call::Finish(Ok("---\n- a\n---\n- b\n")),
-    // Numbers of JSON, which stand plain.
+    // Numbers of JSON, which are plain.
     Call::Sequence,
     Call::Number("0"),
     Call::Number("-0"),
@@ -67,7 +67,7 @@ pub(super) const CALLS: &[Call] = &[
         "---\n- 0.5\n- -0.0\n- 100.0\n- 0.30000000000000004\n- 1.0e+16\n- 5.0e-324\n- 1.7976931348623157e+308\n\
          - .inf\n- -.inf\n- .nan\n- 0.1\n- -.inf\n",
     )),
-    // Bytes by their base64, which stands in quotes where it is a word.
+    // Bytes by their base64, which is in quotes if it is a word.
     Call::Sequence,
     Call::Bytes(b"hello"),
     Call::Bytes(b""),

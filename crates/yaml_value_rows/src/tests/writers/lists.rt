@@ -33,7 +33,7 @@ const LISTS: &[Call] = &[
     Call::End,
 ];
 
-/// Whether lists in mappings are indented, by how many columns nodes are, and what is written.
+/// Whether lists in mappings are indented, by how many columns nodes are, and the text.
 type Layout = (bool, Option<i32>, &'static str);
 
 fn check_layout(rt: &impl Abort, alloc: Global, row: &Layout) {
@@ -47,7 +47,7 @@ fn check_layout(rt: &impl Abort, alloc: Global, row: &Layout) {
     answers(rt, finished(writer), &Ok(row.2));
 }
 
-/// Lists stand in the column of the keys where they aren't indented.
+/// Lists begin in the column of the keys if they aren't indented.
 const LAYOUTS: &[Layout] = &[
     (
         true,

@@ -62,7 +62,7 @@ const SECOND_CUT: &[Call] = &[
     Call::Finish(Err(yaml_error_t::WriteError)),
 ];
 
-/// The limit counts what was taken.
+/// The limit counts the bytes that were taken.
 const LIMITS: &[(usize, Table)] = &[
     (8, ("one", ONE)),
     (7, ("one, cut", ONE_CUT)),

@@ -2,7 +2,7 @@
 use super::Call;
 use yaml_writer::yaml_error_t;
 
-/// A call is refused where a node is expected, and good ones follow; the end of a stream is.
+/// A call is refused if a node is expected, and good ones follow; the end of a stream is refused for good.
 pub(super) const CALLS: &[Call] = &[
     // A collection ends after the node of its anchor.
     Call::Sequence,

@@ -5,7 +5,7 @@ use yaml_writer::{
     YAML_LITERAL_SCALAR_STYLE, YAML_PLAIN_SCALAR_STYLE, YAML_SINGLE_QUOTED_SCALAR_STYLE,
 };
 
-/// A plain text is one that may stand plain, and a text stands in a block where it can.
+/// A text is plain only if it may be, and in a block only if it can.
 pub(super) const CALLS: &[Call] = &[
     Call::Sequence,
     Call::Styled(YAML_PLAIN_SCALAR_STYLE, "a b"),
@@ -39,7 +39,7 @@ pub(super) const CALLS: &[Call] = &[
     Call::Finish(Ok(
         "---\n- |-\n  a\n- \"\"\n- >\n  a b\n\n  c\n- !t |-\n  no\n- \"k\": >-\n    v\n- [\"f\"]\n",
     )),
-    // A document, and the stream, end with `...` where asked.
+    // A document, and the stream, end with `...` if asked.
     Call::Sequence,
     Call::Text("a"),
     Call::End,
@@ -54,7 +54,7 @@ pub(super) const CALLS: &[Call] = &[
     Call::FinishAfterEnd("---\n- a\n...\n--- b\n...\n"),
 ];
 
-/// No quotes are single where double ones are asked for.
+/// No quotes are single if double ones are asked for.
 pub(super) const DOUBLE: &[Call] = &[
     Call::Mapping,
     Call::Text("country"),

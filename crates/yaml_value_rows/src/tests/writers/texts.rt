@@ -1,9 +1,9 @@
-//! Which texts stand plain, and which in quotes or literally.
+//! Which texts are plain, and which in quotes or literal.
 use super::Call;
 
-/// Texts stand in quotes where a reader takes them for something else.
+/// Texts are in quotes if a reader takes them for something else.
 pub(super) const CALLS: &[Call] = &[
-    // Words, which stand in quotes.
+    // Words, in quotes.
     Call::Sequence,
     Call::Text("no"),
     Call::Text("NO"),
@@ -22,7 +22,7 @@ pub(super) const CALLS: &[Call] = &[
     Call::Finish(Ok(
         "---\n- 'no'\n- 'NO'\n- 'n'\n- 'off'\n- '~'\n- ''\n- '='\n- '<<'\n- 'null'\n- 'True'\n- 'tRue'\n- 'inf'\n- 'No\u{eb}l'\n",
     )),
-    // What may be a number or a symbol, which stands in quotes.
+    // Texts that may be numbers or symbols, in quotes.
     Call::Sequence,
     Call::Text("1:30"),
     Call::Text("0o10"),
@@ -45,7 +45,7 @@ pub(super) const CALLS: &[Call] = &[
         "---\n- '1:30'\n- '0o10'\n- '010'\n- '1_000'\n- '.5'\n- '1e5'\n\
          - '2001-12-14'\n- '0x1F'\n- '+1'\n- '-.inf'\n- '12e03'\n- 'E5'\n- '_0'\n- '-_0'\n- '-:1'\n- ':a'\n",
     )),
-    // What no reader takes for a number, which stands plain.
+    // Texts that no reader takes for numbers, plain.
     Call::Sequence,
     Call::Text("100Mi"),
     Call::Text("5s"),
@@ -60,7 +60,7 @@ pub(super) const CALLS: &[Call] = &[
     Call::Finish(Ok(
         "---\n- 100Mi\n- 5s\n- 3rd\n- ./run.sh\n- .github\n- 8080/tcp\n- 10.0.0.0/8\n- -x\n- 5\u{e9}\n",
     )),
-    // Other texts, which stand plain, in quotes or literally.
+    // Other texts, plain, in quotes or literal.
     Call::Sequence,
     Call::Text("none"),
     Call::Text("null "),

@@ -10,7 +10,7 @@ fn check_text(rt: &impl Abort, alloc: Global, timestamp: &Timestamp, wanted: &st
     same(rt, text.as_bytes(), wanted);
 }
 
-/// A year, a month and a day, and their text; it is empty where the calendar has no such day.
+/// A year, a month and a day, and their text; it is empty if the calendar has no such day.
 type DateRow = (u16, u8, u8, &'static str);
 
 fn check_date(rt: &impl Abort, alloc: Global, row: &DateRow) {
@@ -86,7 +86,7 @@ fn offset(rt: &impl Abort, row: Option<OffsetRow>) -> Option<Offset> {
     }
 }
 
-/// An hour, a minute, a second and nanoseconds, with an offset, and what stands behind the date; it is empty where the clock
+/// An hour, a minute, a second and nanoseconds, with an offset, and the text after the date; it is empty if the clock
 /// shows no such time.
 type TimeRow = (u8, u8, u8, u32, Option<OffsetRow>, &'static str);
 
@@ -178,7 +178,7 @@ fn times_have_as_many_decimals_as_they_take(rt: HostRuntime) {
     equal(&rt, &(day, hour), &(None, None));
 }
 
-/// Dates stand plain, and times have their tag.
+/// Dates are plain, and times have their tag.
 pub(super) const CALLS: &[Call] = &[
     // Dates and times as keys and values, in block and in flow.
     Call::Mapping,
@@ -249,13 +249,13 @@ const CIVIL_DATES: &[PartsRow] = &[
     (-1, 1, 1, false),
 ];
 
-/// Checks that a date of TOML is the same date, where there is one.
+/// Checks that a date of TOML is the same date, if there is one.
 fn check_toml_date(rt: &impl Abort, year: u16, month: u8, day: u8) {
     let date = toml_datetime::Date { year, month, day };
     equal(rt, &Date::try_from(date).ok(), &Date::new(year, month, day));
 }
 
-/// A text of a date or a time of TOML, and that of its timestamp; it is empty where there is none.
+/// A text of a date or a time of TOML, and that of its timestamp; it is empty if there is none.
 type TomlRow = (&'static str, &'static str);
 
 fn check_toml_datetime(rt: &impl Abort, alloc: Global, row: &TomlRow) {

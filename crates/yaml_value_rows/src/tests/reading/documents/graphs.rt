@@ -15,7 +15,7 @@ pub(super) enum Holds<'a> {
     Pairs(&'a [(i32, i32)]),
 }
 
-/// A node: its tag, and what it holds.
+/// A node: its tag, and its contents.
 pub(super) type Given<'a> = (&'a str, Holds<'a>);
 
 /// Returns the pairs of a mapping.

@@ -1,4 +1,4 @@
-//! Documents read where memory is refused.
+//! Documents read while memory is refused.
 use super::document_of;
 use super::taken::taken;
 use crate::tests::equal;

@@ -25,7 +25,7 @@ const TAGS: &[&str] = &[
     "tag:example.org,2026:é%<>",
 ];
 
-/// Returns one of the tags, with a random text behind it or not.
+/// Returns one of the tags, with a random text after it or not.
 fn random_tag(rt: &impl Abort, alloc: Global, random: &mut Random) -> String {
     let mut tag = String::from_str(alloc, random.pick(TAGS, "x")).expect(rt, "no memory");
     if random.below(3) == 0 {
@@ -101,7 +101,7 @@ fn random_document(rt: &impl Abort, alloc: Global, random: &mut Random) -> yaml_
     document(rt, alloc, nodes)
 }
 
-/// Changes so many bytes, one at a time. What is read is dumped as the changed bytes.
+/// Changes so many bytes, one at a time. A document that is read is dumped as the changed bytes.
 fn check_spoiled(rt: &impl Abort, alloc: Global, random: &mut Random, bytes: &[u8]) {
     for _ in 0..20 {
         let offset = random.small(bytes.len().max(1));

@@ -89,13 +89,22 @@ fn other_names_are_refused(rt: HostRuntime) {
     }
 }
 
-/// Bytes that aren't UTF-8, or lack the first line, and where.
+/// Bytes that aren't UTF-8, lack the first line, or break off, and their places: in what leads to a node, at a node, and after a node, a
+/// bracket and the root.
 const PLACED: &[(&[u8], usize, usize)] = &[
     (b"", 1, 1),
     (b"\xEF\xBB\xBF---\n!!str \"a\"\n", 1, 1),
     (b"--- !!str \"a\"\n", 1, 1),
     (b"---\n!!str \"\xC3\xA9\xC3\"\n", 2, 9),
     (b"\xFF", 1, 1),
+    (b"---\n!!seq [\n !!str \"a\",\n]\n", 2, 8),
+    (b"---\n!!map {\n  ? !!str \"a\"\n}\n", 3, 14),
+    (b"---\n!!seq [\n  x,\n]\n", 3, 3),
+    (b"---\n!!str \"a\\q\"\n", 2, 1),
+    (b"---\n!!seq [\n  !!str \"a\"\n]\n", 3, 12),
+    (b"---\n!!seq [\n  !!seq []\n]\n", 3, 11),
+    (b"---\n!!str \"a\"", 2, 10),
+    (b"---\n!!str \"a\"\n...\n", 3, 1),
 ];
 
 #[test]

@@ -20,7 +20,7 @@ pub(super) fn replaced(
     spoiled
 }
 
-/// Bytes that stand in such texts, or nowhere.
+/// Bytes that occur in such texts, or nowhere.
 const OTHERS: &[u8] =
     b"\0\t\n !\"%&*,-./0123479:<>?@ADEFZ[\\]_abdilnqrstxz{|}~\x7F\x80\xA9\xC3\xFF";
 

@@ -40,7 +40,7 @@ const TAKEN: &[(&[Given<'static>], &str)] = &[
         ],
         "---\n&id002 !!seq [\n  &id001 !!str \"a\",\n  !!map {\n    ? *id001\n    : *id002,\n  },\n]\n",
     ),
-    // Tags: local, verbatim, what looks like a handle's, with characters that are percent forms.
+    // Tags: local, verbatim, ones that look like a handle's, with characters that are percent forms.
     (&[("!local", Value("a"))], "---\n!local \"a\"\n"),
     (&[("x", Items(&[]))], "---\n!<x> []\n"),
     (&[("!", Pairs(&[]))], "---\n!<%21> {}\n"),
