@@ -184,8 +184,8 @@ static void spoiled(void) {
     for (row = 0; row < sizeof taken / sizeof *taken; row++) check_spoiled(taken[row].bytes, taken[row].others);
 }
 
-/* The level of number N is on line N + 1, after N - 1 indentations; the last line, 2 N, has the outermost closing bracket. A value that was
- * read takes stack for each level when it is dropped, so few levels are used here. */
+/* The level of number N is on line N + 1, after N - 1 indentations; the last line, 2 N, has the outermost closing bracket. Few levels
+ * are used here, since the stack is small: `depths.c` has many. */
 static void deep(void) {
     static const char *const begins[] = {"!!seq []", "!!map {}", "!!seq [", "!!map {"};
     static uint8_t bytes[2016064];

@@ -1,5 +1,5 @@
-/* Calls of yaml_is_canonical over values that nest as deep as they may. A value that was read takes stack for each level when it is dropped,
- * so these have 256 KB. Prints a line for each that isn't as the header says. (`canonical.c` has values that nest too deep.) */
+/* Calls of yaml_is_canonical over values that nest as deep as they may, in the stack that the header names, 256 KB. Prints a line for each
+ * that isn't as the header says. (`canonical.c` has values that nest too deep.) */
 #include <stdio.h>
 
 #include "nested.h"
