@@ -1,4 +1,4 @@
-//! The examples of `README.md` and `docs/CALLING.md`, with their results. They use no crate but those that a caller
+//! The examples of `docs/GUIDE.md`, with their results, and others. They use no crate but those that a caller
 //! lists: `yaml_dump`, `yaml_value`, `yaml_read`, `yaml_caller`, `yaml_writer`, `yaml_serde`, `yaml_json`, `yaml_toml`, `toml_ordered`
 //! and `yaml_tool`.
 mod documents;
