@@ -115,11 +115,8 @@ fn write_both(alloc: Global, text: &str, document: &str) -> Result<Vec<u8>, Toml
 #[test]
 fn errors_of_a_writer_become_errors_of_toml(rt: HostRuntime) {
     let both = write_both(rt.alloc(), "a", "b = 1\n");
-    same(
-        &rt,
-        both.ok().expect(&rt, "TOML").as_slice(),
-        "---\n- a\n- b: 1\n",
-    );
+    let yaml = both.ok().expect(&rt, "TOML");
+    same(&rt, yaml.as_slice(), "---\n- a\n- b: 1\n");
     let error = TomlError::from(yaml_error_t::WriteError);
     check_printed(&rt, rt.alloc(), &error, "write error");
 }
