@@ -25,8 +25,8 @@ pub struct Service<A: Allocator> {
     pub labels: Vec<(String<A>, String<A>), A>,
 }
 
-/// Returns a service's configuration as YAML. Each reader of YAML finds in the bytes a mapping with the five fields, whose texts are
-/// texts, and whose numbers are integers.
+/// Returns a service's configuration as YAML. The reader of whole streams finds in the bytes one document that agrees with the
+/// events of a mapping with the five fields.
 ///
 /// # Errors
 /// The error of the first call of the writer that fails. `Memory` if an allocation fails.

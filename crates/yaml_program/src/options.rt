@@ -52,9 +52,9 @@ macro_rules! flags {
     ),
     (
         "no-document-start",
-        "No --- before the first document",
+        "No --- before the first document, unless --canonical is given",
         concat!(
-        "Writes no --- before the first document, and turns portable mode off, but for one rule: U+2028 and U+2029 are escaped. A root text \
+        "Writes no --- before the first document unless --canonical is given, and turns portable mode off, but for one rule: U+2028 and U+2029 are escaped. A root text \
         that begins with a blank or a line break may be a block whose header has a digit, which readers count in two ways; portable mode \
         writes it in quotes.\
         {n}Example: ", $program, " --no-document-start in", $ending),

@@ -45,7 +45,7 @@ macro_rules! wording {
             indent: concat!("Columns for each level, 2 to 9; 2 by default.{n}Example: ", $program, " --indent=4 in", $ending),
             width: concat!(
                 "Folds a text of several words at the first space past this column, so a line may be longer; never, if it is negative. A \
-                column up to twice the indent is taken for 80. Never by default.{n}Example: ",
+                column up to twice the indent is taken for 80. Never by default. With --flow a line also breaks between items past it.{n}Example: ",
                 $program, " --width=80 in", $ending
             ),
             heading: concat!(
@@ -54,8 +54,8 @@ macro_rules! wording {
             ),
             each: concat!("Writes each FILE", $ending, " to FILE.yaml beside it"),
             each_long: concat!(
-                "Writes each file to one beside it, whose name ends in .yaml in place of ", $ending, ". Each appears whole or not at all, \
-                and one that is refused leaves the others as they are.{n}Example: ",
+                "Writes each file to one beside it, whose name ends in .yaml in place of ", $ending, ". Each appears whole or not at all. \
+                A text that is refused writes no file; the others are written.{n}Example: ",
                 $program, " --each first", $ending, " last", $ending
             ),
             depth: concat!("How deep ", $collections, " may nest, up to 10000 [default: 1000]"),

@@ -119,7 +119,7 @@ impl<A: Allocator + Copy> Writer<A> {
         }
     }
 
-    /// Writes a text, which no reader takes for another value. A text with a line break is literal, any other plain or in
+    /// Writes a text, which both schemas read as a text. A text with a line break is literal, any other plain or in
     /// quotes. In portable mode a root that begins with a blank or a line break is in quotes, too.
     ///
     /// # Errors
@@ -130,7 +130,7 @@ impl<A: Allocator + Copy> Writer<A> {
         self.text_styled(YAML_ANY_SCALAR_STYLE, value)
     }
 
-    /// Writes a text in a style, which no reader takes for another value. If plain was asked for, and a reader could take the
+    /// Writes a text in a style, which both schemas read as a text. If plain was asked for, and a reader could take the
     /// text for another value, or the text can't be plain, it is written in quotes. A literal or folded text is written in
     /// double quotes as a key, in flow, and in portable mode as a root that begins with a blank or a line break. A text that
     /// single quotes can't hold is written in double quotes. ANY is the style of `text`.
