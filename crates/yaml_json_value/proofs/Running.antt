@@ -6,7 +6,7 @@ use Rattle.json.specs.Token.{Token}
 use Rattle.json.specs.Tree.{json_tokens, items_tokens, members_tokens}
 use Rattle.yaml_base.specs.values.TypedValues.{text_value, list_value, map_value, TypedValues, no_values, values_and, TypedPairs, no_value_pairs}
 use Rattle.yaml_base.specs.values.TypedValues.{value_pairs_and}
-use Rattle.yaml_json.proofs.TokenLemmas.{value_spelled}
+use Rattle.json.proofs.Unique.Spelling.{value-json_tokens_back}
 use Rattle.yaml_value.specs.OpenLevels.{OpenLevel, items_open, pairs_open, value_due}
 use Rattle.yaml_json_value.specs.Standing.{whole, within, give, run}
 use Rattle.yaml_json_value.specs.Typed.{typed_value, typed_items, typed_members}
@@ -44,4 +44,4 @@ mutual
 pub runs_whole : (depth : ℕ) (tokens : List Token) (json : Json) → value depth tokens ≡ Some (json, [])
     → run tokens (within []) ≡ Some (whole (typed_value json))
 runs_whole depth tokens json read =
-    ap (λ (ts : List Token). run ts (within [])) (value_spelled depth tokens [] json read) ∙ runs_value json [] []
+    ap (λ (ts : List Token). run ts (within [])) (value-json_tokens_back depth tokens [] json read) ∙ runs_value json [] []
