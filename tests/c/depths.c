@@ -1,4 +1,4 @@
-/* Calls of yaml_is_canonical over values that nest as deep as they may, in the stack that the header names, 256 KB. Prints a line for each
+/* Calls of yaml_is_canonical over values that nest as deep as they may, in the stack that the header names, 72 KB. Prints a line for each
  * that isn't as the header says. (`canonical.c` has values that nest too deep.) */
 #include <stdio.h>
 
