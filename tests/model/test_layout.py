@@ -143,7 +143,8 @@ for enc,w in full.items():
     for k in range(len(w)+2):
         o,a,f,em=run_events(S(unicode=True,encoding=enc,limit=k),frame([V("\U0001F600")])); check((o,a[3]),(w[:k],20 if k<len(w) else None))
 n56=[nS(i+2,i+2) for i in range(40)]+[nV("a")]; ev=document_events(n56,DocStart(),DocEnd()); check((len(ev),sum(isinstance(e,Alias) for e in ev)),(123,40))
-o=dump([nS(*list(range(2,1002))*2)]+[nV("x")]*1000); ls=o.split("\n"); check((ls[999],ls[1999]),("- &id1000 x","- *id1000"))
+many=[StreamStart(),*document_events([nS(*list(range(2,1002))*2)]+[nV("x")]*1000,DocStart(),DocEnd()),StreamEnd()]
+ls="".join(layout_of(effective(S(),"any"),many).pieces).split("\n"); check((ls[999],ls[1999]),("- &id1000 x","- *id1000"))
 B12=S(unicode=True,breaks12=True)
 check(txt([V("a"+LS+"b","single")],B12),'"a\\Lb"\n'); check(txt([V("a"+LS+"b","literal")],B12),'"a\\Lb"\n')
 check(txt(M(V("a"+LS+"b"),V("v")),B12),'? "a\\Lb"\n: v\n')
