@@ -1,6 +1,6 @@
 -- Ready events stay ready as a list grows.
 use Rattle.yaml_base.proofs.Common.{ℕ, nat_lt, length, Bool, false, true, ◌||◌, List, [], map, ◌++◌, ◌∷◌, refl, ◌≡◌}
-use Rattle.yaml_base.proofs.Common.{length-append, ap, sym, ◌∙◌, arith, nat_tests, list_any, Event, awaited, is_balanced, nonempty_prefixes, is_ready}
+use Rattle.yaml_base.proofs.Common.{length-append, sym, ◌∙◌, arith, nat_tests, list_any, Event, awaited, is_balanced, nonempty_prefixes, is_ready}
 use Rattle.yaml_base.specs.Ready.{ReadyStays}
 
 pub any_map : (test : List Event → Bool) (extend : List Event → List Event) (lists : List (List Event))

@@ -19,6 +19,7 @@ mod RowsDumpedText
 pub mod RowsCanonical
 pub mod RowsUnfolding
 mod RowsIsomorphic
+mod RowsUniqueKeys
 pub mod RowsTyped
 pub mod RowsSpoiledTrees
 pub mod StreamTrees

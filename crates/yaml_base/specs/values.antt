@@ -6,4 +6,5 @@ pub mod SurelyText
 pub mod JsonNumbers
 pub mod LinesAndColumns
 pub mod ValueText
+pub mod UniqueKeys
 pub mod CanonicalTags

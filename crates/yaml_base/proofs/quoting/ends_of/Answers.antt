@@ -1,4 +1,4 @@
-use Rattle.std.proofs.Common.{ℕ, List, drop, take, length, ◌≡◌, ◌-◌, ◌≤◌, ◌∙◌, ap, subst, arith, le_refl, take_all}
+use Rattle.std.proofs.Common.{ℕ, drop, take, length, ◌-◌, ◌≤◌, ◌∙◌, ap, subst, arith, le_refl, take_all}
 use Rattle.std.proofs.lemmas.List.{length-drop}
 use Rattle.yaml_base.proofs.quoting.ends_of.Goals as goal
 
