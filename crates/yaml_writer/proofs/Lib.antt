@@ -23,6 +23,7 @@ pub mod PlainNumbers
 pub mod ScalarMeanings
 pub mod PlainShapes
 pub mod ShapeCuts
+pub mod PaddedDigits
 pub mod ShapesRead
 pub mod FloatsByBoth
 pub mod ShapesAll

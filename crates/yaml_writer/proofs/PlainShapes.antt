@@ -12,7 +12,7 @@ use Rattle.yaml_base.proofs.AllPass.{all_pass}
 use Rattle.yaml_base.specs.scalars.Analysis.{is_gap, begins_like_marker, begins_unlike_plain}
 use Rattle.yaml_base.proofs.{AsciiWords.is_ascii_text, Common.nat_tests}
 use Rattle.yaml_writer.proofs.PlainNumbers.{begins_as_plain, digit_harmless, is_harmless, no_exclamation, no_exponent_letter_after, no_harm}
-use Rattle.yaml_writer.specs.PlainTags.{are_integer_digits, is_hexadecimal, is_pointed, is_signed, is_float_cut, is_plain_float}
+use Rattle.yaml_writer.specs.PlainTags.{is_padded_digit, are_integer_digits, is_hexadecimal, is_pointed, is_signed, is_float_cut, is_plain_float}
 
 -- ---- cuts
 
@@ -102,11 +102,12 @@ all_digits base digits h = (and_parts (not (length digits == 0)) (list_all (λ c
 
 -- digits of an integer are decimal ones
 pub integer_digits : (digits : Text) → are_integer_digits digits ≡ true → are_digits 10 digits ≡ true
-integer_digits digits h = by (or_cases (is_whole_part digits) (are_digits 8 digits) h)
+integer_digits digits h = by (or_cases (is_whole_part digits) (is_padded_digit digits) h)
   where
-    by : (is_whole_part digits ≡ true) ⊎ (are_digits 8 digits ≡ true) → are_digits 10 digits ≡ true
+    by : (is_whole_part digits ≡ true) ⊎ (is_padded_digit digits ≡ true) → are_digits 10 digits ≡ true
     by (inl whole) = (and_parts (are_digits 10 digits) _ whole).0
-    by (inr octal) =
+    by (inr padded) =
+        let octal = (and_parts (are_digits 8 digits) _ padded).0 in
         let both = and_parts (not (length digits == 0)) (list_all (λ c. is_digit c 8) digits) octal in
         and_from _ _ both.0 (all_pass (λ c. is_digit c 8) is_decimal octal_decimal digits both.1)
 

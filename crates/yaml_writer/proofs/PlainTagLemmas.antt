@@ -74,7 +74,7 @@ number_stands text shaped =
     (not_from_false _ begins.1))
 
 abbrev IsRead : Text → Text → Type 0
-IsRead text tag = IsWrittenPlain text × (canonical_tag (resolved_by_11 text) ≡ tag) × (canonical_tag (resolved_by_core text) ≡ tag)
+IsRead text tag = IsWrittenPlain text × (resolved_by_11 text ≡ resolved_by_core text) × (canonical_tag (resolved_by_core text) ≡ tag)
 
 pub plain_tags_read : PlainTagsAreRead
 plain_tags_read text tag e = by (word_meant text) (plain_number_tag text) refl refl e
@@ -83,7 +83,7 @@ plain_tags_read text tag e = by (word_meant text) (plain_number_tag text) refl r
         → option_or (option_map canonical_tag word) number ≡ Some tag → IsRead text tag
     by (Some meant) number is other said =
         let read = word_read text meant is in
-        (harmless_stands text (word_harmless text meant is), ap canonical_tag read.0 ∙ some_same said, ap canonical_tag read.1 ∙ some_same said)
+        (harmless_stands text (word_harmless text meant is), read.0 ∙ sym read.1, ap canonical_tag read.1 ∙ some_same said)
     by None (Some found) other is said =
         let shape = numbers_by_both text tag (is ∙ said) in (number_stands text shape.0, shape.1.0, shape.1.1)
     by None None other is said = none_some said

@@ -1,4 +1,4 @@
--- A text that both schemas read alike, and not as a text, is a word or a number of these shapes.
+-- A text of which both schemas read the same, other than a text, is a word or a number of these shapes.
 use Rattle.yaml_writer.proofs.Common.{ℕ, if◌then◌else◌, ◌==◌, option_map, option_or, Option, None, Some, codes, length, Bool, false, not, true, ◌&&◌, ◌||◌}
 use Rattle.yaml_writer.proofs.Common.{List, [], ◌∷◌, refl, ◌≡◌, eqb-true, true≢false, ap, sym, ◌∙◌, and_parts, and_from, and_left, and_right, or_from}
 use Rattle.yaml_writer.proofs.Common.{not_from_false, list_all, list_any, Text, is_word, is_decimal, first_meets, are_digits, is_whole_part}
@@ -17,11 +17,12 @@ use Rattle.yaml_base.proofs.no_numbers.NoNumbers.{off, filled}
 use Rattle.yaml_base.proofs.no_numbers.NumbersBegin.{first_part, groups_begin, split_begins, more_points_11_begins}
 use Rattle.yaml_base.specs.{Options.some_if, values.CanonicalTags.canonical_tag}
 use Rattle.yaml_writer.proofs.FloatsByBoth.{held, no_float_by_11, some}
+use Rattle.yaml_writer.proofs.PaddedDigits.{other_by_11}
 use Rattle.yaml_writer.proofs.PlainShapes.{all_digits, integer_digits}
 use Rattle.yaml_writer.proofs.Common.{append-nil}
 use Rattle.yaml_base.proofs.Common.{signed, digits_value}
-use Rattle.yaml_writer.proofs.ShapesRead.{past_sign_digit, no_date, unsigned_by_11, two_in_part, float_none}
-use Rattle.yaml_writer.specs.PlainTags.{are_integer_digits, is_hexadecimal, is_plain_integer, is_plain_float, plain_number_tag, plain_tag}
+use Rattle.yaml_writer.proofs.ShapesRead.{past_sign_digit, no_date, unsigned_by_11, two_in_part, float_none, digits_by_core}
+use Rattle.yaml_writer.specs.PlainTags.{is_padded_digit, are_integer_digits, is_hexadecimal, is_plain_integer, is_plain_float, plain_number_tag, plain_tag}
 use Rattle.yaml_writer.specs.PlainTags.{PlainTagsAreAll}
 
 -- ---- digits that 1.1 reads as no integer
@@ -67,12 +68,13 @@ no_whole negative c digits decimal other =
 abbrev IsText : Bool → Text → Type 0
 IsText negative digits = first_reading (numbers_11 negative digits) ≡ meant_text
 
-digits_text : (negative : Bool) (digits : Text) → are_digits 10 digits ≡ true → are_integer_digits digits ≡ false → IsText negative digits
-digits_text negative [] decimal other = absurd (true≢false (sym decimal))
-digits_text negative (c ∷ digits) decimal other =
+digits_text : (negative : Bool) (digits : Text) → are_digits 10 digits ≡ true → is_whole_part digits ≡ false → are_digits 8 digits ≡ false
+    → IsText negative digits
+digits_text negative [] decimal no_whole_part no_octal_digits = absurd (true≢false (sym decimal))
+digits_text negative (c ∷ digits) decimal no_whole_part no_octal_digits =
     passed _ _ (float_11_none negative c digits all) ∙ passed _ _ (based_11_none negative 0x62 2 c digits (second 0x62 refl digits all))
-    ∙ passed _ _ (based_11_none negative 0x78 16 c digits (second 0x78 refl digits all)) ∙ passed _ _ (no_octal negative c digits all parts.1)
-    ∙ passed _ _ (no_whole negative c digits decimal parts.0)
+    ∙ passed _ _ (based_11_none negative 0x78 16 c digits (second 0x78 refl digits all)) ∙ passed _ _ (no_octal negative c digits all no_octal_digits)
+    ∙ passed _ _ (no_whole negative c digits decimal no_whole_part)
     ∙ passed _ _ (ap (sixties_11 negative) (uncut is_colon (λ c digit. digit_unlike c 0x3A refl digit) (c ∷ digits) all))
     ∙ passed _ _ (ap (fine_sixties_11 negative) (no_point (c ∷ digits) all))
     ∙ passed _ _ (ap more_points_11 (no_exponent (c ∷ digits) all)
@@ -82,9 +84,6 @@ digits_text negative (c ∷ digits) decimal other =
   where
     all : list_all is_decimal (c ∷ digits) ≡ true
     all = all_digits 10 (c ∷ digits) decimal
-
-    parts : (is_whole_part (c ∷ digits) ≡ false) × (are_digits 8 (c ∷ digits) ≡ false)
-    parts = or_parts (is_whole_part (c ∷ digits)) (are_digits 8 (c ∷ digits)) other
 
     second : (letter : ℕ) → is_decimal letter ≡ false → (digits : Text) → list_all is_decimal (c ∷ digits) ≡ true
         → first_meets (λ d. d == letter) digits ≡ false
@@ -237,7 +236,8 @@ no_hexadecimal (c ∷ d ∷ digits) e = by (c == 0x30 && d == 0x78 && are_digits
     by true e = absurd (true≢false (ap some e))
 
 module _ (text tag : Text) (filled_text : is_empty text ≡ false) (other : bytes_eq tag string_tag ≡ false)
-    (by_11 : canonical_tag (resolved_by_11 text) ≡ tag) (by_core : canonical_tag (resolved_by_core text) ≡ tag) where
+    (by_11 : canonical_tag (resolved_by_11 text) ≡ tag) (by_core : canonical_tag (resolved_by_core text) ≡ tag)
+    (one_integer : tag ≡ int_tag → resolved_by_11 text ≡ resolved_by_core text) where
   -- The meaning of a word of both schemas has its tag.
   a_word : (meant : Resolved) → named words_of_core text ≡ Some meant → plain_tag text ≡ Some tag
   a_word meant e =
@@ -260,14 +260,22 @@ module _ (text tag : Text) (filled_text : is_empty text ≡ false) (other : byte
       ap (λ x. option_or (some_if x int_tag) (some_if (is_plain_float text) float_tag)) h ∙ ap (λ (t : Text). Some t) same
 
   of_integer : are_digits 10 (past_sign text) ≡ true → int_tag ≡ tag → plain_number_tag text ≡ Some tag
-  of_integer decimal same = by (are_integer_digits (past_sign text)) refl
+  of_integer decimal same = by (are_integer_digits (past_sign text)) (are_digits 8 (past_sign text)) refl refl
     where
-      by : (x : Bool) → are_integer_digits (past_sign text) ≡ x → plain_number_tag text ≡ Some tag
-      by true e = integer_tag (or_left (are_integer_digits (past_sign text)) (is_hexadecimal text) e) same
-      by false e =
-          no_text (unsigned_by_11 text (digits_there text decimal)
+      unsigned : resolved_by_11 text ≡ first_reading (numbers_11 (is_negative text) (past_sign text))
+      unsigned =
+          unsigned_by_11 text (digits_there text decimal)
           (no_date text (past_sign text) [] (sym (append-nil (past_sign text))) (all_digits 10 (past_sign text) decimal) refl)
-          ∙ digits_text (is_negative text) (past_sign text) decimal e)
+
+      by : (x y : Bool) → are_integer_digits (past_sign text) ≡ x → are_digits 8 (past_sign text) ≡ y → plain_number_tag text ≡ Some tag
+      by true y e f = integer_tag (or_left (are_integer_digits (past_sign text)) (is_hexadecimal text) e) same
+      by false true e f =
+          absurd (other_by_11 (is_negative text) (past_sign text) decimal e f
+          (sym unsigned ∙ one_integer (sym same) ∙ digits_by_core text (digits_there text decimal) decimal))
+      by false false e f =
+          no_text (unsigned
+          ∙ digits_text (is_negative text) (past_sign text) decimal
+          (or_parts (is_whole_part (past_sign text)) (is_padded_digit (past_sign text)) e).0 f)
 
   of_octal : Based 0x6F 8 text → plain_number_tag text ≡ Some tag
   of_octal parts = no_text (ap resolved_by_11 parts.text_is ∙ octal_text parts.digits)
@@ -312,4 +320,5 @@ module _ (text tag : Text) (filled_text : is_empty text ≡ false) (other : byte
       (sym (ap canonical_tag (passed _ _ e)) ∙ by_core)
 
 pub plain_tags_all : PlainTagsAreAll
-plain_tags_all text tag filled_text other by_11 by_core = tag_found text tag filled_text other by_11 by_core (named words_of_core text) refl
+plain_tags_all text tag filled_text other by_11 by_core one_integer =
+    tag_found text tag filled_text other by_11 by_core one_integer (named words_of_core text) refl

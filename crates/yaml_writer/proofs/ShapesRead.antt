@@ -1,22 +1,23 @@
 -- Both schemas read numbers of these shapes as integers and floats.
 use Rattle.yaml_writer.proofs.Common.{ℕ, if◌then◌else◌, ◌==◌, Option, None, Some, length, Bool, false, not, true, ◌&&◌, ◌||◌, List, []}
 use Rattle.yaml_writer.proofs.Common.{◌++◌, ◌∷◌, refl, ◌≡◌, eqb-true, true≢false, ap, sym, ◌∙◌, and_parts, and_from, and_left, and_right}
-use Rattle.yaml_writer.proofs.Common.{list_all-append, list_all, list_any, Text, is_decimal, first_meets, are_digits, is_whole_part}
-use Rattle.yaml_writer.proofs.Common.{digit_unlike, int_tag, float_tag, append-nil, option_or, drop}
+use Rattle.yaml_writer.proofs.Common.{list_all-append, list_all, list_any, Text, is_decimal, first_meets, are_digits}
+use Rattle.yaml_writer.proofs.Common.{int_tag, float_tag, append-nil, option_or, drop}
 use Rattle.yaml_base.specs.Options.{some_if}
-use Rattle.yaml_base.proofs.Common.{◌⊎◌, inl, inr, or_cases, or_left, or_right, slice_split, onto_first, ℤ, pos, named, digits_value, Resolved, Decimal}
+use Rattle.yaml_base.proofs.Common.{or_left, or_right, slice_split, onto_first, ℤ, pos, named, digits_value, Resolved, Decimal}
 use Rattle.yaml_base.proofs.Common.{meant_integer, meant_decimal, first_reading, words_of_core, words_of_11, is_point, is_exponent_letter, is_plus_or_minus}
 use Rattle.yaml_base.proofs.Common.{past_sign, is_negative, signed, exponent_read, times_power_of_ten, scientific, core_integer, core_based}
-use Rattle.yaml_base.proofs.Common.{core_mantissa, core_decimal, resolved_by_core, ungrouped, are_grouped, begins_grouped, based_11, octal_11, mantissa_11}
+use Rattle.yaml_base.proofs.Common.{core_mantissa, core_decimal, resolved_by_core, ungrouped, are_grouped, begins_grouped, based_11, mantissa_11}
 use Rattle.yaml_base.proofs.Common.{exponent_11, float_11, in_date, timestamp_11, numbers_11, resolved_by_11, is_underscore}
 use Rattle.std.specs.Char.{is_digit}
 use Rattle.std.proofs.lemmas.List.Splits.{slice_split-cons_no}
 use Rattle.yaml_base.proofs.{AllPass.all_pass, SchemaWords.named_unlike, NumberCuts.no_timestamp}
-use Rattle.yaml_base.proofs.NumbersByCore.{passed, found, given, no_letter}
-use Rattle.yaml_base.proofs.NumbersRead.{float_11_none, based_11_none, integer_without_sign, mantissa_11_read, leading, zero_alone, whole_11}
+use Rattle.yaml_base.proofs.NumbersByCore.{passed, found, given, no_letter, pointed_read}
+use Rattle.yaml_base.proofs.NumbersRead.{based_11_none, mantissa_11_read}
 use Rattle.yaml_base.proofs.no_numbers.NoNumbers.{off, filled}
 use Rattle.yaml_base.proofs.no_numbers.NumbersBegin.{first_part, scientific_begins}
 use Rattle.yaml_base.specs.{values.CanonicalTags.canonical_tag, values.SchemaOf11.integer_of_digits, values.Resolved.meant_by_nobody}
+use Rattle.yaml_writer.proofs.PaddedDigits.{integer_by_11}
 use Rattle.yaml_writer.proofs.PlainShapes.{Shaped, integer, based, float, Begins, by_digit, by_point, Pointed, shaped_begins, pointed_parts}
 use Rattle.yaml_writer.proofs.PlainShapes.{hexadecimal_parts, integer_digits, all_digits}
 use Rattle.yaml_writer.specs.PlainTags.{are_integer_digits, is_hexadecimal, is_pointed, is_signed, is_float_cut, is_plain_float}
@@ -57,47 +58,6 @@ no_date (s ∷ text) digits rest is h other = by (s == 0x2B) (s == 0x2D) refl re
 pub unsigned_by_11 : (text : Text) → list_any is_decimal text ≡ true → timestamp_11 text ≡ None
     → resolved_by_11 text ≡ first_reading (numbers_11 (is_negative text) (past_sign text))
 unsigned_by_11 text digit date = passed _ _ (no_word_of words_of_11 text refl digit) ∙ passed _ _ date
-
--- ---- integers
-
--- an integer by 1.1, without its sign
-octal_read : (negative : Bool) (c d : ℕ) (digits : Text) → (c == 0x30) ≡ true → list_all (λ c. is_digit c 8) (d ∷ digits) ≡ true
-    → octal_11 negative (c ∷ d ∷ digits) ≡ Some (meant_integer (signed negative (digits_value 8 (ungrouped (d ∷ digits)))))
-octal_read negative c d digits zero octal =
-    given (c == 0x30 && are_grouped 8 (d ∷ digits)) _ (and_from _ _ zero
-    (all_pass (λ c. is_digit c 8) (λ c. is_digit c 8 || is_underscore c) (λ c h. or_left (is_digit c 8) _ h) (d ∷ digits) octal))
-
-abbrev IsInteger : Bool → Text → Type 0
-IsInteger negative digits = canonical_tag (first_reading (numbers_11 negative digits)) ≡ int_tag
-
-octal_by_11 : (negative : Bool) (c : ℕ) (digits : Text) → list_all is_decimal (c ∷ digits) ≡ true → list_all (λ c. is_digit c 8) (c ∷ digits) ≡ true
-    → IsInteger negative (c ∷ digits)
-octal_by_11 negative c digits decimal octal = by (c == 0x30) digits refl decimal octal
-  where
-    by : (x : Bool) (digits : Text) → (c == 0x30) ≡ x → list_all is_decimal (c ∷ digits) ≡ true → list_all (λ c. is_digit c 8) (c ∷ digits) ≡ true
-        → IsInteger negative (c ∷ digits)
-    by false digits e decimal octal = ap canonical_tag (integer_without_sign negative c digits decimal (leading e))
-    by true [] e decimal octal =
-        ap canonical_tag (integer_without_sign negative c [] decimal (zero_alone (ap (λ c. c ∷ []) (eqb-true c 0x30 e))))
-    by true (d ∷ digits) e decimal octal =
-        let later = (and_parts (is_decimal c) (list_all is_decimal (d ∷ digits)) decimal).1 in
-        let digit = (and_parts (is_decimal d) (list_all is_decimal digits) later).0 in
-        ap canonical_tag
-        (passed _ _ (float_11_none negative c (d ∷ digits) decimal)
-        ∙ passed _ _ (based_11_none negative 0x62 2 c (d ∷ digits) (digit_unlike d 0x62 refl digit))
-        ∙ passed _ _ (based_11_none negative 0x78 16 c (d ∷ digits) (digit_unlike d 0x78 refl digit))
-        ∙ found _ _ _ (octal_read negative c d digits e (and_parts (is_digit c 8) (list_all (λ c. is_digit c 8) (d ∷ digits)) octal).1))
-
-integer_by_11 : (negative : Bool) (digits : Text) → are_digits 10 digits ≡ true → are_integer_digits digits ≡ true → IsInteger negative digits
-integer_by_11 negative [] decimal h = absurd (true≢false (sym decimal))
-integer_by_11 negative (c ∷ digits) decimal h = by (or_cases (is_whole_part (c ∷ digits)) (are_digits 8 (c ∷ digits)) h)
-  where
-    all : list_all is_decimal (c ∷ digits) ≡ true
-    all = all_digits 10 (c ∷ digits) decimal
-
-    by : (is_whole_part (c ∷ digits) ≡ true) ⊎ (are_digits 8 (c ∷ digits) ≡ true) → IsInteger negative (c ∷ digits)
-    by (inl whole) = ap canonical_tag (integer_without_sign negative c digits all (whole_11 c digits whole))
-    by (inr octal) = octal_by_11 negative c digits all (all_digits 8 (c ∷ digits) octal)
 
 -- ---- hexadecimal numbers
 
@@ -151,11 +111,12 @@ hexadecimal_ungrouped (c ∷ digits) h =
     other false e digit = e
     other true e digit = absurd (true≢false (sym digit ∙ ap (λ c. is_digit c 16) (eqb-true c 0x5F e)))
 
-hexadecimal_meant : (digits : Text) → are_digits 16 digits ≡ true → canonical_tag (first_reading (numbers_11 false (0x30 ∷ 0x78 ∷ digits))) ≡ int_tag
+hexadecimal_meant : (digits : Text) → are_digits 16 digits ≡ true
+    → first_reading (numbers_11 false (0x30 ∷ 0x78 ∷ digits)) ≡ meant_integer (pos (digits_value 16 digits))
 hexadecimal_meant [] h = absurd (true≢false (sym h))
 hexadecimal_meant (d ∷ digits) h =
-    ap canonical_tag read ∙ ap (λ t. canonical_tag (integer_of_digits false 16 t)) (hexadecimal_ungrouped (d ∷ digits) all)
-    ∙ ap (λ x. canonical_tag (if x then meant_by_nobody else meant_integer (signed false (digits_value 16 (d ∷ digits))))) (filled (length digits))
+    read ∙ ap (integer_of_digits false 16) (hexadecimal_ungrouped (d ∷ digits) all)
+    ∙ ap (λ x. if x then meant_by_nobody else meant_integer (signed false (digits_value 16 (d ∷ digits)))) (filled (length digits))
   where
     all : list_all (λ c. is_digit c 16) (d ∷ digits) ≡ true
     all = all_digits 16 (d ∷ digits) h
@@ -184,62 +145,63 @@ hexadecimal_meant (d ∷ digits) h =
 
 -- ---- floats
 
-abbrev GivesSome : {A : Type 0} → Option A → Type 0
-GivesSome {A} option = (a : A) × (option ≡ Some a)
+-- Both read digits with a point as the same decimal.
+mantissa_same : (negative : Bool) (parts : List Text) → is_pointed parts ≡ true → mantissa_11 negative parts ≡ core_mantissa negative parts
+mantissa_same negative [] h = absurd (true≢false (sym h))
+mantissa_same negative (whole ∷ []) h = absurd (true≢false (sym h))
+mantissa_same negative ([] ∷ fraction ∷ []) h = refl
+mantissa_same negative ((c ∷ whole) ∷ fraction ∷ []) h =
+    let both = and_parts (list_all is_decimal (c ∷ whole)) (list_all is_decimal fraction)
+    (sym (list_all-append is_decimal (c ∷ whole) fraction) ∙ all_digits 10 ((c ∷ whole) ++ fraction) h) in
+    mantissa_11_read negative c whole fraction both.0 both.1 ∙ sym (pointed_read negative c whole fraction both.0 both.1)
+mantissa_same negative (a ∷ b ∷ c ∷ rest) h = absurd (true≢false (sym h))
 
+exponent_same : (text : Text) → is_signed text ≡ true → exponent_11 text ≡ exponent_read text
+exponent_same text h =
+    ap (λ x. if x then exponent_read text else None) (and_parts (first_meets is_plus_or_minus text) (are_digits 10 (past_sign text)) h).0
+
+scientific_same : (negative : Bool) (parts : List Text) → is_float_cut parts ≡ true
+    → scientific (λ mantissa. mantissa_11 negative (slice_split is_point mantissa)) exponent_11 parts
+    ≡ scientific (λ mantissa. core_mantissa negative (slice_split is_point mantissa)) exponent_read parts
+scientific_same negative [] h = absurd (true≢false (sym h))
+scientific_same negative (m ∷ []) h = ap (λ o. times_power_of_ten o (Some (pos 0))) (mantissa_same negative (slice_split is_point m) h)
+scientific_same negative (m ∷ e ∷ []) h =
+    let both = and_parts (is_pointed (slice_split is_point m)) (is_signed e) h in
+    ap (λ o. times_power_of_ten o (exponent_11 e)) (mantissa_same negative (slice_split is_point m) both.0)
+    ∙ ap (times_power_of_ten (core_mantissa negative (slice_split is_point m))) (exponent_same e both.1)
+scientific_same negative (a ∷ b ∷ c ∷ rest) h = absurd (true≢false (sym h))
+
+-- They read some decimal.
 abbrev GivesDecimal : Option Resolved → Type 0
 GivesDecimal reading = (decimal : Decimal) × (reading ≡ Some (meant_decimal decimal))
 
--- a float is read by parts
-float_read : (mantissa : Text → Option Decimal) (exponent : Text → Option ℤ)
-    → ((text : Text) → is_pointed (slice_split is_point text) ≡ true → GivesSome (mantissa text))
-    → ((text : Text) → is_signed text ≡ true → GivesSome (exponent text))
-    → (parts : List Text) → is_float_cut parts ≡ true → GivesDecimal (scientific mantissa exponent parts)
-float_read mantissa exponent one two [] h = absurd (true≢false (sym h))
-float_read mantissa exponent one two (m ∷ []) h =
-    let first = one m h in (_, ap (λ o. times_power_of_ten o (Some (pos 0))) first.1)
-float_read mantissa exponent one two (m ∷ e ∷ []) h =
-    let both = and_parts (is_pointed (slice_split is_point m)) (is_signed e) h in
-    let first = one m both.0 in
-    let second = two e both.1 in
-    (_, ap (λ o. times_power_of_ten o (exponent e)) first.1 ∙ ap (times_power_of_ten (Some first.0)) second.1)
-float_read mantissa exponent one two (a ∷ b ∷ c ∷ rest) h = absurd (true≢false (sym h))
-
-exponent_given : (text : Text) → is_signed text ≡ true → GivesSome (exponent_read text)
-exponent_given text h =
-    (_, given (are_digits 10 (past_sign text)) _ (and_parts (first_meets is_plus_or_minus text) (are_digits 10 (past_sign text)) h).1)
-
-exponent_11_given : (text : Text) → is_signed text ≡ true → GivesSome (exponent_11 text)
-exponent_11_given text h =
-    let read = exponent_given text h in
-    (read.0, ap (λ x. if x then exponent_read text else None) (and_parts (first_meets is_plus_or_minus text) (are_digits 10 (past_sign text)) h).0 ∙ read.1)
-
-core_mantissa_given : (negative : Bool) (parts : List Text) → is_pointed parts ≡ true → GivesSome (core_mantissa negative parts)
+core_mantissa_given : (negative : Bool) (parts : List Text) → is_pointed parts ≡ true
+    → (decimal : Decimal) × (core_mantissa negative parts ≡ Some decimal)
 core_mantissa_given negative [] h = absurd (true≢false (sym h))
 core_mantissa_given negative (whole ∷ []) h = absurd (true≢false (sym h))
 core_mantissa_given negative (whole ∷ fraction ∷ []) h = (_, given (are_digits 10 (whole ++ fraction)) _ h)
 core_mantissa_given negative (a ∷ b ∷ c ∷ rest) h = absurd (true≢false (sym h))
 
-mantissa_11_given : (negative : Bool) (parts : List Text) → is_pointed parts ≡ true → GivesSome (mantissa_11 negative parts)
-mantissa_11_given negative [] h = absurd (true≢false (sym h))
-mantissa_11_given negative (whole ∷ []) h = absurd (true≢false (sym h))
-mantissa_11_given negative ([] ∷ fraction ∷ []) h = (_, given (are_digits 10 fraction) _ h)
-mantissa_11_given negative ((c ∷ whole) ∷ fraction ∷ []) h =
-    let both = and_parts (list_all is_decimal (c ∷ whole)) (list_all is_decimal fraction)
-    (sym (list_all-append is_decimal (c ∷ whole) fraction) ∙ all_digits 10 ((c ∷ whole) ++ fraction) h) in
-    (_, mantissa_11_read negative c whole fraction both.0 both.1)
-mantissa_11_given negative (a ∷ b ∷ c ∷ rest) h = absurd (true≢false (sym h))
+scientific_given : (negative : Bool) (parts : List Text) → is_float_cut parts ≡ true
+    → GivesDecimal (scientific (λ mantissa. core_mantissa negative (slice_split is_point mantissa)) exponent_read parts)
+scientific_given negative [] h = absurd (true≢false (sym h))
+scientific_given negative (m ∷ []) h =
+    let first = core_mantissa_given negative (slice_split is_point m) h in (_, ap (λ o. times_power_of_ten o (Some (pos 0))) first.1)
+scientific_given negative (m ∷ e ∷ []) h =
+    let both = and_parts (is_pointed (slice_split is_point m)) (is_signed e) h in
+    let first = core_mantissa_given negative (slice_split is_point m) both.0 in (
+      _,
+      ap (λ o. times_power_of_ten o (exponent_read e)) first.1
+          ∙ ap (times_power_of_ten (Some first.0))
+          (given (are_digits 10 (past_sign e)) _ (and_parts (first_meets is_plus_or_minus e) (are_digits 10 (past_sign e)) both.1).1),
+    )
+scientific_given negative (a ∷ b ∷ c ∷ rest) h = absurd (true≢false (sym h))
 
-float_11_given : (negative : Bool) (text : Text) → is_float_cut (slice_split is_exponent_letter text) ≡ true → GivesDecimal (float_11 negative text)
-float_11_given negative text h =
-    float_read (λ mantissa. mantissa_11 negative (slice_split is_point mantissa)) exponent_11
-    (λ m pointed. mantissa_11_given negative (slice_split is_point m) pointed) exponent_11_given (slice_split is_exponent_letter text) h
+float_same : (text : Text) → is_plain_float text ≡ true → float_11 (is_negative text) (past_sign text) ≡ core_decimal text
+float_same text h = scientific_same (is_negative text) (slice_split is_exponent_letter (past_sign text)) h
 
 core_decimal_given : (text : Text) → is_plain_float text ≡ true → GivesDecimal (core_decimal text)
-core_decimal_given text h =
-    float_read (λ mantissa. core_mantissa (is_negative text) (slice_split is_point mantissa)) exponent_read
-    (λ m pointed. core_mantissa_given (is_negative text) (slice_split is_point m) pointed) exponent_given
-    (slice_split is_exponent_letter (past_sign text)) h
+core_decimal_given text h = scientific_given (is_negative text) (slice_split is_exponent_letter (past_sign text)) h
 
 -- ---- the types that the core schema tries before floats
 
@@ -278,29 +240,41 @@ pointed_no_digits whole more =
 
 -- ---- both schemas
 
--- both give a text this tag
-abbrev pub BothRead : Text → Text → Type 0
-BothRead text tag = (canonical_tag (resolved_by_11 text) ≡ tag) × (canonical_tag (resolved_by_core text) ≡ tag)
+-- both read this of a text
+abbrev BothRead : Text → Resolved → Type 0
+BothRead text meant = (resolved_by_11 text ≡ meant) × (resolved_by_core text ≡ meant)
 
-integer_read : (text : Text) → are_integer_digits (past_sign text) ≡ true → BothRead text int_tag
+-- both read the same of a text, which has this tag
+abbrev pub BothGive : Text → Text → Type 0
+BothGive text tag = (resolved_by_11 text ≡ resolved_by_core text) × (canonical_tag (resolved_by_core text) ≡ tag)
+
+given_by_both : (text : Text) (meant : Resolved) → BothRead text meant → BothGive text (canonical_tag meant)
+given_by_both text meant read = (read.0 ∙ sym read.1, ap canonical_tag read.1)
+
+-- the integer that the core schema reads of digits
+abbrev pub decimal_meant : Text → Resolved
+decimal_meant text = meant_integer (signed (is_negative text) (digits_value 10 (past_sign text)))
+
+pub digits_by_core : (text : Text) → list_any is_decimal text ≡ true → are_digits 10 (past_sign text) ≡ true → resolved_by_core text ≡ decimal_meant text
+digits_by_core text digit decimal =
+    passed _ _ (no_word_of words_of_core text refl digit) ∙ found _ _ _ (given (are_digits 10 (past_sign text)) _ decimal)
+
+integer_read : (text : Text) → are_integer_digits (past_sign text) ≡ true → BothRead text (decimal_meant text)
 integer_read text h =
     let decimal = integer_digits (past_sign text) h in
     let digit = begins_digit text (shaped_begins text (integer h)) in
-    let date = no_date text (past_sign text) [] (sym (append-nil (past_sign text))) (all_digits 10 (past_sign text) decimal) refl in (
-      ap canonical_tag (unsigned_by_11 text digit date) ∙ integer_by_11 (is_negative text) (past_sign text) decimal h,
-      ap canonical_tag (passed _ _ (no_word_of words_of_core text refl digit) ∙ found _ _ _ (given (are_digits 10 (past_sign text)) _ decimal)),
-    )
+    let date = no_date text (past_sign text) [] (sym (append-nil (past_sign text))) (all_digits 10 (past_sign text) decimal) refl in
+    (unsigned_by_11 text digit date ∙ integer_by_11 (is_negative text) (past_sign text) decimal h, digits_by_core text digit decimal)
 
-hexadecimal_read : (digits : Text) → are_digits 16 digits ≡ true → BothRead (0x30 ∷ 0x78 ∷ digits) int_tag
+hexadecimal_read : (digits : Text) → are_digits 16 digits ≡ true → BothRead (0x30 ∷ 0x78 ∷ digits) (meant_integer (pos (digits_value 16 digits)))
 hexadecimal_read digits h = (
-  ap canonical_tag (unsigned_by_11 text refl (no_date text (0x30 ∷ []) (0x78 ∷ digits) refl refl refl)) ∙ hexadecimal_meant digits h,
-  ap canonical_tag
-      (passed (named words_of_core text) (core_integer text ∷ core_based 0x6F 8 text ∷ based_first) (no_word_of words_of_core text refl refl)
+  unsigned_by_11 text refl (no_date text (0x30 ∷ []) (0x78 ∷ digits) refl refl refl) ∙ hexadecimal_meant digits h,
+  passed (named words_of_core text) (core_integer text ∷ core_based 0x6F 8 text ∷ based_first) (no_word_of words_of_core text refl refl)
       ∙ passed (core_integer text) (core_based 0x6F 8 text ∷ based_first)
       (off (are_digits 10 text) (Some (meant_integer (signed false (digits_value 10 text))))
       (and_right (not (length text == 0)) (list_all is_decimal text) refl))
       ∙ passed (core_based 0x6F 8 text) based_first refl
-      ∙ found (core_based 0x78 16 text) (core_decimal text ∷ []) meant (given (are_digits 16 digits) meant h)),
+      ∙ found (core_based 0x78 16 text) (core_decimal text ∷ []) meant (given (are_digits 16 digits) meant h),
 )
   where
     text : Text
@@ -312,16 +286,19 @@ hexadecimal_read digits h = (
     meant : Resolved
     meant = meant_integer (pos (digits_value 16 digits))
 
-float_by_both : (text : Text) → is_plain_float text ≡ true → BothRead text float_tag
-float_by_both text h = (
-  ap canonical_tag (unsigned_by_11 text digit date ∙ found _ _ _ (float_11_given (is_negative text) (past_sign text) h).1),
-  ap canonical_tag
-      (passed _ _ (no_word_of words_of_core text refl digit)
-      ∙ passed _ _ (off (are_digits 10 (past_sign text)) _ (ap (are_digits 10) parts.text_is ∙ pointed_no_digits parts.whole (parts.fraction ++ parts.rest)))
-      ∙ passed _ _ (core_based_past 0x6F 8 text (unbased 0x6F refl refl)) ∙ passed _ _ (core_based_past 0x78 16 text (unbased 0x78 refl refl))
-      ∙ found _ _ _ (core_decimal_given text h).1),
-)
+float_by_both : (text : Text) → is_plain_float text ≡ true → BothGive text float_tag
+float_by_both text h =
+    given_by_both text (meant_decimal read.0) (
+      unsigned_by_11 text digit date ∙ found _ _ _ (float_same text h ∙ read.1),
+      passed _ _ (no_word_of words_of_core text refl digit)
+          ∙ passed _ _ (off (are_digits 10 (past_sign text)) _ no_digits)
+          ∙ passed _ _ (core_based_past 0x6F 8 text (unbased 0x6F refl refl)) ∙ passed _ _ (core_based_past 0x78 16 text (unbased 0x78 refl refl))
+          ∙ found _ _ _ read.1,
+    )
   where
+    read : GivesDecimal (core_decimal text)
+    read = core_decimal_given text h
+
     parts : Pointed (past_sign text)
     parts = pointed_parts (past_sign text) h
 
@@ -329,6 +306,9 @@ float_by_both text h = (
     whole =
         (and_parts (list_all is_decimal parts.whole) (list_all is_decimal parts.fraction)
         (sym (list_all-append is_decimal parts.whole parts.fraction) ∙ all_digits 10 (parts.whole ++ parts.fraction) parts.digits)).0
+
+    no_digits : are_digits 10 (past_sign text) ≡ false
+    no_digits = ap (are_digits 10) parts.text_is ∙ pointed_no_digits parts.whole (parts.fraction ++ parts.rest)
 
     digit : list_any is_decimal text ≡ true
     digit = begins_digit text (shaped_begins text (float h))
@@ -341,26 +321,22 @@ float_by_both text h = (
         ap (begins_based_by letter) parts.text_is ∙ pointed_not_based letter parts.whole (parts.fraction ++ parts.rest) other point whole
 
 -- So they read a value with the tag of a number.
-pub numbers_by_both : (text tag : Text) → plain_number_tag text ≡ Some tag → Shaped text × BothRead text tag
+pub numbers_by_both : (text tag : Text) → plain_number_tag text ≡ Some tag → Shaped text × BothGive text tag
 numbers_by_both text tag e = by (are_integer_digits (past_sign text)) (is_hexadecimal text) (is_plain_float text) refl refl refl e
   where
-    read : (found : Text) → BothRead text found → Some found ≡ Some tag → BothRead text tag
-    read found both same = let is : found ≡ tag = cc in (both.0 ∙ is, both.1 ∙ is)
+    same : (found : Text) → BothGive text found → Some found ≡ Some tag → BothGive text tag
+    same found both e = let is : found ≡ tag = cc in (both.0, both.1 ∙ is)
 
     none : None ≡ Some tag → ⊥
     none e = cc
 
     by : (x y z : Bool) → are_integer_digits (past_sign text) ≡ x → is_hexadecimal text ≡ y → is_plain_float text ≡ z
-        → option_or (some_if (x || y) int_tag) (some_if z float_tag) ≡ Some tag → Shaped text × BothRead text tag
-    by true y z h g f e = (integer h, read int_tag (integer_read text h) e)
+        → option_or (some_if (x || y) int_tag) (some_if z float_tag) ≡ Some tag → Shaped text × BothGive text tag
+    by true y z h g f e = (integer h, same int_tag (given_by_both text (decimal_meant text) (integer_read text h)) e)
     by false true z h g f e =
         let parts = hexadecimal_parts text g in
-        let both = hexadecimal_read parts.digits parts.hexadecimal in (
-          based g,
-          read int_tag (
-            ap (λ t. canonical_tag (resolved_by_11 t)) parts.text_is ∙ both.0,
-            ap (λ t. canonical_tag (resolved_by_core t)) parts.text_is ∙ both.1,
-          ) e,
-        )
-    by false false true h g f e = (float f, read float_tag (float_by_both text f) e)
+        let meant : Resolved = meant_integer (pos (digits_value 16 parts.digits)) in
+        let both = hexadecimal_read parts.digits parts.hexadecimal in
+        (based g, same int_tag (given_by_both text meant (ap resolved_by_11 parts.text_is ∙ both.0, ap resolved_by_core parts.text_is ∙ both.1)) e)
+    by false false true h g f e = (float f, same float_tag (float_by_both text f) e)
     by false false false h g f e = absurd (none e)

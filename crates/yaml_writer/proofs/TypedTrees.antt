@@ -138,7 +138,7 @@ pub record ReadsPlain (schema : Schema) : Type 0 where
   pub tag : (text tag : Text) → plain_tag text ≡ Some tag → canonical_tag (schema text) ≡ tag
 
 plain_by_11 : ReadsPlain resolved_by_11
-plain_by_11 = record { text = λ text sure. (surely_text text sure).0; tag = λ text tag e. (plain_tags_read text tag e).1 }
+plain_by_11 = record { text = λ text sure. (surely_text text sure).0; tag = λ text tag e. let read = plain_tags_read text tag e in ap canonical_tag read.1 ∙ read.2 }
 
 plain_by_core : ReadsPlain resolved_by_core
 plain_by_core = record { text = λ text sure. (surely_text text sure).1; tag = λ text tag e. (plain_tags_read text tag e).2 }

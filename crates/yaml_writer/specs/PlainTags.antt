@@ -1,6 +1,6 @@
 -- The tags of plain texts, whichever schema reads them: those of null, booleans, integers and floats.
-use Rattle.std.specs.Prelude.{◌≡◌, Bool, true, false, Option, None, Some, List, [], ◌∷◌, ◌++◌, ◌==◌, ◌||◌, ◌&&◌, bytes_eq, is_some, codes, option_map}
-use Rattle.std.specs.Prelude.{if◌then◌else◌}
+use Rattle.std.specs.Prelude.{ℕ, ◌≡◌, Bool, true, false, Option, None, Some, List, [], ◌∷◌, ◌++◌, ◌==◌, ◌||◌, ◌&&◌, bytes_eq, nat_le, length, is_some, codes}
+use Rattle.std.specs.Prelude.{option_map, if◌then◌else◌}
 use Rattle.std.specs.List.{slice_split}
 use Rattle.std.specs.Option.{option_or}
 use Rattle.yaml_base.specs.Characters.{Text}
@@ -15,7 +15,7 @@ use Rattle.yaml_base.specs.values.CanonicalTags.{canonical_tag}
 use Rattle.yaml_base.specs.values.JsonNumbers.{JsonExponent, is_whole_part}
 use Rattle.yaml_base.specs.values.Resolved.{Resolved, words_of_core, is_point, is_exponent_letter, is_plus_or_minus, first_meets, past_sign, are_digits}
 use Rattle.yaml_base.specs.values.SchemaCore.{resolved_by_core}
-use Rattle.yaml_base.specs.values.SchemaOf11.{resolved_by_11}
+use Rattle.yaml_base.specs.values.SchemaOf11.{past, resolved_by_11}
 use Rattle.yaml_base.specs.values.SurelyText.{is_surely_text}
 use Rattle.yaml_base.specs.values.TypedValues.{int_tag}
 use Rattle.yaml_writer.specs.Writing.{float_tag}
@@ -24,10 +24,17 @@ use Rattle.yaml_writer.specs.Writing.{float_tag}
 abbrev pub word_meant : Text → Option Resolved
 word_meant text = if is_empty text then None else named words_of_core text
 
--- `0`, or decimal digits of which the first isn't 0, or octal digits: the schemas read `017` as two integers, and the core
--- schema alone `08`
+-- true of the digit 0
+abbrev pub is_zero : ℕ → Bool
+is_zero c = c == 0x30
+
+-- an octal digit, after zeros or none
+abbrev pub is_padded_digit : Text → Bool
+is_padded_digit digits = are_digits 8 digits && nat_le (length (past is_zero digits)) 1
+
+-- `0`, or decimal digits of which the first isn't 0, or `007`: the schemas read `017` as two integers, and the core schema alone `08`
 abbrev pub are_integer_digits : Text → Bool
-are_integer_digits digits = is_whole_part digits || are_digits 8 digits
+are_integer_digits digits = is_whole_part digits || is_padded_digit digits
 
 -- `0x` and hexadecimal digits
 abbrev pub is_hexadecimal : Text → Bool
@@ -100,14 +107,16 @@ IsWrittenPlain text =
     (charset : Charset) (flow simple_key : Bool)
     → (chosen (allowances charset text) plain (is_empty text) false true false flow simple_key false).style ≡ plain
 
--- such a word or number is written plain, and both schemas read its tag
+-- such a word or number is written plain, and both schemas read the same of it, which has its tag
 abbrev pub PlainTagsAreRead : Type 0
 PlainTagsAreRead =
     (text tag : Text) → plain_tag text ≡ Some tag
-    → IsWrittenPlain text × (canonical_tag (resolved_by_11 text) ≡ tag) × (canonical_tag (resolved_by_core text) ≡ tag)
+    → IsWrittenPlain text × (resolved_by_11 text ≡ resolved_by_core text) × (canonical_tag (resolved_by_core text) ≡ tag)
 
--- There are no others: if both schemas give a text the same tag, other than that of texts, it is the plain tag.
+-- There are no others: if both schemas give a text the same tag, other than that of texts, and if it is that of integers the same integer,
+-- it is the plain tag.
 abbrev pub PlainTagsAreAll : Type 0
 PlainTagsAreAll =
     (text tag : Text) → is_empty text ≡ false → bytes_eq tag string_tag ≡ false
-    → canonical_tag (resolved_by_11 text) ≡ tag → canonical_tag (resolved_by_core text) ≡ tag → plain_tag text ≡ Some tag
+    → canonical_tag (resolved_by_11 text) ≡ tag → canonical_tag (resolved_by_core text) ≡ tag
+    → (tag ≡ int_tag → resolved_by_11 text ≡ resolved_by_core text) → plain_tag text ≡ Some tag

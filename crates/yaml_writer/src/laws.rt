@@ -59,13 +59,13 @@ pub fn written_timestamps_are_plain()
 {}
 
 /// States that a text that has a plain tag, asked for plain, is written so outside canonical form, in flow, too, and as a key; and
-/// both schemas give it this tag.
+/// both schemas read the same of it, a value with this tag.
 pub fn plain_tags_are_read()
     ensures { PlainTagsAreRead }
 {}
 
 /// States that there are no other plain tags: a text to which both schemas give the same tag, other than that of texts, has it as its
-/// plain tag. The empty text has none: both read null, but it can't be plain everywhere.
+/// plain tag, unless they read two integers of it. The empty text has none: both read null, but it can't be plain everywhere.
 pub fn plain_tags_are_all()
     ensures { PlainTagsAreAll }
 {}

@@ -1,9 +1,10 @@
 //! Numbers that both schemas read from a plain text.
-ghost use Rattle.std.specs.Prelude.{◌≡◌, ◌++◌, chars, option_map};
+ghost use Rattle.std.specs.Prelude.{◌≡◌, ◌≤◌, ◌++◌, chars, length, nat_le, option_map};
 ghost use Rattle.std.specs.Char.{is_digit};
-ghost use Rattle.std.specs.List.{list_all, slice_split};
+ghost use Rattle.std.specs.List.{list_all, prefix_len, slice_split};
 ghost use Rattle.yaml_base.specs.values.JsonNumbers as json;
 ghost use Rattle.yaml_base.specs.values.Resolved as schema;
+ghost use Rattle.yaml_base.specs.values.SchemaOf11.{past};
 ghost use Rattle.yaml_writer.specs.PlainTags as plain;
 ghost use Rattle.yaml_writer.specs.SeenNumbers.{seen_exponent};
 
@@ -30,11 +31,36 @@ fn is_all_hexadecimal(text: &str) -> bool
         .all(|byte| char::from(*byte).is_digit(16))
 }
 
+/// Returns the number of zeros at the front of a text.
+fn zero_count(text: &str) -> usize
+    ensures value { result ≡ prefix_len plain.is_zero text.now }
+    ensures few { result ≤ length text.now }
+{
+    text.as_bytes()
+        .iter()
+        .take_while(|byte| **byte == b'0')
+        .count()
+}
+
+/// Returns whether at most one character follows the zeros at the front of a text of ASCII.
+fn has_one_after_zeros(text: &str) -> bool
+    ensures { result ≡ nat_le (length (past plain.is_zero text.now)) 1 }
+{
+    text.len() - zero_count(text) <= 1
+}
+
+/// Returns whether a text is an octal digit, after zeros or none.
+fn is_padded_digit(digits: &str) -> bool
+    ensures { result ≡ plain.is_padded_digit digits.now }
+{
+    !digits.is_empty() && is_all_octal(digits) && has_one_after_zeros(digits)
+}
+
 /// Returns whether a text is the digits of an integer.
 fn are_integer_digits(digits: &str) -> bool
     ensures { result ≡ plain.are_integer_digits digits.now }
 {
-    is_whole_part(digits) || (!digits.is_empty() && is_all_octal(digits))
+    is_whole_part(digits) || is_padded_digit(digits)
 }
 
 /// Returns whether a text is hexadecimal digits, one or more.

@@ -43,9 +43,9 @@ fn tag_of_word(text: &str) -> Option<&'static str>
     None
 }
 
-/// Returns the tag that both schemas, the type repository of YAML 1.1 and the core schema of YAML 1.2, give a plain text:
-/// that of null, booleans, integers or floats. It is `None` for texts, for plain texts that the two read differently (`1e5`, `0b1`,
-/// `1_000`, `08`), and for the empty text, a null by both, which can't be plain everywhere. Needs no memory.
+/// Returns the tag of what both schemas, the type repository of YAML 1.1 and the core schema of YAML 1.2, read of a plain text: that of
+/// null, booleans, integers or floats. It is `None` for texts, for plain texts of which the two read different things (`1e5`, `0b1`,
+/// `1_000`, `08`; `017`, which is 15 or 17), and for the empty text, a null by both, which can't be plain everywhere. Needs no memory.
 pub fn plain_tag(text: &str) -> Option<&'static str>
     ensures { option_map (λ tag. chars tag.now) result ≡ plain.plain_tag (chars text.now) }
 {

@@ -15,9 +15,9 @@ numbers = (refl, refl, refl, refl, refl)
 
 -- those that JSON writes otherwise or not at all
 integers_besides : (plain_tag (codes "0x1F") ≡ Some int_tag) × (plain_tag (codes "0xe") ≡ Some int_tag) × (plain_tag (codes "+1") ≡ Some int_tag)
-    × (plain_tag (codes "007") ≡ Some int_tag) × (plain_tag (codes "-017") ≡ Some int_tag) × (plain_tag (codes "-0") ≡ Some int_tag)
-    × (plain_tag (codes "00") ≡ Some int_tag)
-integers_besides = (refl, refl, refl, refl, refl, refl, refl)
+    × (plain_tag (codes "007") ≡ Some int_tag) × (plain_tag (codes "-07") ≡ Some int_tag) × (plain_tag (codes "-0") ≡ Some int_tag)
+    × (plain_tag (codes "00") ≡ Some int_tag) × (plain_tag (codes "100") ≡ Some int_tag)
+integers_besides = (refl, refl, refl, refl, refl, refl, refl, refl)
 
 floats_besides : (plain_tag (codes ".5") ≡ Some float_tag) × (plain_tag (codes "1.") ≡ Some float_tag) × (plain_tag (codes "1.5E+3") ≡ Some float_tag)
     × (plain_tag (codes "+.5e-3") ≡ Some float_tag) × (plain_tag (codes "-1.e+0") ≡ Some float_tag) × (plain_tag (codes "08.5") ≡ Some float_tag)
@@ -33,6 +33,11 @@ none_besides : (plain_tag (codes "0x") ≡ None) × (plain_tag (codes "-0x1F") �
     × (plain_tag (codes "1_000") ≡ None) × (plain_tag (codes ".") ≡ None) × (plain_tag (codes "+") ≡ None) × (plain_tag (codes "+-1") ≡ None)
     × (plain_tag (codes "1.5.0") ≡ None) × (plain_tag (codes "1.5e+") ≡ None) × (plain_tag (codes "1.5e+3e+3") ≡ None) × (plain_tag (codes ".e+3") ≡ None)
 none_besides = (refl, refl, refl, refl, refl, refl, refl, refl, refl, refl, refl, refl)
+
+-- integers to the base of 8 by the one, and of 10 by the other
+two_integers : (plain_tag (codes "010") ≡ None) × (plain_tag (codes "017") ≡ None) × (plain_tag (codes "-017") ≡ None) × (plain_tag (codes "+010") ≡ None)
+    × (plain_tag (codes "0010") ≡ None) × (plain_tag (codes "0100") ≡ None)
+two_integers = (refl, refl, refl, refl, refl, refl)
 
 -- a scalar without an anchor, with these flags
 abbrev a_scalar : Text → Text → Bool → Bool → ScalarStyle → Scalar

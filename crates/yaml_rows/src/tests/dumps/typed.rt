@@ -49,7 +49,11 @@ const OTHERS: &[Row] = &[
     (&[Tagged(INT, "0x1F")], "0x1F\n"),
     (&[Tagged(INT, "+1")], "+1\n"),
     (&[Tagged(INT, "-0")], "-0\n"),
+    (&[Tagged(INT, "00")], "00\n"),
     (&[Tagged(INT, "08")], "!!int 08\n"),
+    // 8 by YAML 1.1, and 10 by YAML 1.2.
+    (&[Tagged(INT, "010")], "!!int 010\n"),
+    (&[Tagged(INT, "-017")], "!!int -017\n"),
     (&[Tagged(INT, "-0x1F")], "!!int -0x1F\n"),
     (&[Tagged(INT, "0b1")], "!!int 0b1\n"),
     (&[Tagged(INT, "1_000")], "!!int 1_000\n"),
