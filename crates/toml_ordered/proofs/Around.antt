@@ -7,17 +7,18 @@ use Rattle.toml_parser.specs.Reading.{key_view}
 use Rattle.toml_parser.specs.Strings.{Key}
 use Rattle.toml.specs.Parse.{after_element, key_equals}
 use Rattle.toml_ordered.proofs.Conflicts.{knows_more_pairs, knows_no_pairs, more_pairs, pairs_conflict, reason_in}
-use Rattle.toml_ordered.proofs.Blaming.{IsBlamed, array_unblamed, braces_unblamed, keyval_nameless, keyval_none, neither, none_some, read_unblamed, same_pair}
+use Rattle.toml_ordered.proofs.Blaming.{IsBlamed, array_unblamed, braces_unblamed, keyval_nameless, keyval_none, neither, read_unblamed, same_pair}
 use Rattle.toml_ordered.proofs.Blaming.{same_rest, unblamed}
 use Rattle.toml_ordered.proofs.Depths.{blank_within, ends_within, more_items}
 use Rattle.toml_ordered.proofs.Endings.{after_element_ends, end_left, ends_drop, ends_self, ends_then, item_left, key_equals_ends, pair_left}
+use Rattle.toml_ordered.proofs.LongKeys.{named_short, none_some}
 use Rattle.toml_ordered.proofs.Turns.{items_turn, keyval_is, members_turn, val_array, val_table}
 use Rattle.toml_ordered.specs.Data.{Items, TomlNode, TomlNodes, array, no_items, no_nodes, push_item, table}
 use Rattle.toml_ordered.specs.Keys.{table_view}
 use Rattle.toml_ordered.specs.Firsts.{AddsFirsts, IsAgain, NeitherTells, keys_firsts, table_firsts}
 use Rattle.toml_ordered.specs.Grammar.{val}
 use Rattle.toml_ordered.specs.Inside.{ArrayUpTo, BracesUpTo, FindsHere, GoesOnInside, IsFoundHere, IsNextInside, IsValueRead, IsValueRefused, NextPair}
-use Rattle.toml_ordered.specs.Nesting.{ClashesIn, ItemAt, NestsPast, next_item}
+use Rattle.toml_ordered.specs.Nesting.{ClashesIn, HasLongKey, ItemAt, KeyTells, NestsPast, PairComes, ValueTells, next_item}
 use Rattle.toml_ordered.specs.Places.{EndsWith, IsShutInBraces, PairAt, key_parts}
 use Rattle.toml_ordered.specs.Reading.{IsMemory}
 use Rattle.toml_ordered.specs.Tables.{put}
@@ -158,12 +159,28 @@ module _ (depth : ℕ) (text : List ℕ) (found : CodeTable) (rest : List ℕ) (
   abbrev NoReason : Type 0
   NoReason = NeitherTells (λ key one two. ClashesIn (suc depth) key one two text) (λ left. NestsPast (suc depth) left text)
 
-  pub braces_unnamed : key_equals (skip_blank rest) ≡ None → NoReason
-  braces_unnamed none =
+  pub braces_unnamed : key_equals (skip_blank rest) ≡ None → ((left : ℕ) → HasLongKey left (skip_blank rest) → ⊥) → NoReason
+  braces_unnamed none no_long =
       neither (suc depth) text
       (braces_unblamed depth text rest (table_view found) known.count known.opens known.read (rw none)
-      (λ name value after pair refused. none_some (sym (keyval_nameless (val depth) (skip_blank rest) none) ∙ pair))
+      (λ name value after pair refused. none_some (sym (keyval_nameless (val depth) (skip_blank rest) none) ∙ pair)) no_long
       (λ name after named blamed. none_some (sym none ∙ named)))
+
+  -- the key of the next pair is refused
+  pub braces_keyless : (fault : Fault) → ((IsMemory fault → ⊥) → key_equals (skip_blank rest) ≡ None) → KeyTells (skip_blank rest) fault
+      → ValueTells (suc depth) text fault
+  braces_keyless fault none tells =
+      let comes : PairComes depth (drop 1 text) (skip_blank rest) = record {
+        found = table_view found;
+        rest = rest;
+        ends = known.ends;
+        count = known.count;
+        read = known.read;
+        here = refl;
+      } in
+      reason_in fault (λ key one two. ⊥) (λ key one two. ClashesIn (suc depth) key one two text) (λ left. HasLongKey left (skip_blank rest))
+      (λ left. NestsPast (suc depth) left text) (λ key one two clash. absurd clash)
+      (λ left long. inr (known.opens, inl (skip_blank rest, comes, long))) (λ real neither. braces_unnamed (none real) neither.1) tells
 
   module _ (key : Key) (at : List ℕ) (named : key_equals (skip_blank rest) ≡ Some (key, at)) where
     pub braces_refused : val depth at ≡ None → (IsBlamed depth at → ⊥) → NoReason
@@ -171,7 +188,7 @@ module _ (depth : ℕ) (text : List ℕ) (found : CodeTable) (rest : List ℕ) (
         let no_pair = keyval_none (val depth) (skip_blank rest) key at named unread in
         neither (suc depth) text
         (braces_unblamed depth text rest (table_view found) known.count known.opens known.read (rw no_pair)
-        (λ name value after pair refused. none_some (sym no_pair ∙ pair))
+        (λ name value after pair refused. none_some (sym no_pair ∙ pair)) (named_short (skip_blank rest) (key, at) named)
         (λ name after also blamed. none (subst (IsBlamed depth) (same_rest (name, after) (key, at) (sym also ∙ named)) blamed)))
 
     pub braces_parted : (x : TomlNode) (after : List ℕ) → val depth at ≡ Some (x, after) → (more : TomlNodes) → put key x (table_view found) ≡ Some more
@@ -181,7 +198,7 @@ module _ (depth : ℕ) (text : List ℕ) (found : CodeTable) (rest : List ℕ) (
         neither (suc depth) text
         (braces_unblamed depth text rest (table_view found) known.count known.opens known.read (rw (whole, defined, element))
         (λ name value end pair refused. none_some (sym (same_put (name, value) (key, x) (same_pair ((name, value), end) ((key, x), after) (sym pair ∙ whole))
-        refused) ∙ defined))
+        refused) ∙ defined)) (named_short (skip_blank rest) (key, at) named)
         (λ name end also blamed. read_unblamed depth at (x, after) read
         (subst (IsBlamed depth) (same_rest (name, end) (key, at) (sym also ∙ named)) blamed)))
       where
@@ -226,7 +243,7 @@ inside_refused depth text (Braces found) at fault (rest, known, other, named, is
       λ real. braces_bad depth text found.table rest known other name at named (refused.0 real),
       reason_in fault (λ key one two. ClashesIn depth key one two at) (λ key one two. ClashesIn (suc depth) key one two text) (λ left. NestsPast depth left at)
           (λ left. NestsPast (suc depth) left text) (λ key one two clash. inr (known.opens, inr (keys, name, here, pair, clash)))
-          (λ left deep. inr (known.opens, (keys, name, here, pair, deep)))
+          (λ left deep. inr (known.opens, inr (keys, name, here, pair, deep)))
           (λ real none. braces_refused depth text found.table rest known name at named (refused.0 real) (unblamed depth at none)) refused.1,
     )
 

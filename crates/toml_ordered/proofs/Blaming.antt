@@ -1,26 +1,21 @@
--- A text is refused for one reason: if it isn't TOML at a place, no key is defined again in it, and no value nests too deep.
+-- A value is refused for one reason: if it isn't TOML at a place, no key is defined again in it, and nothing nests too deep.
 use Rattle.std.proofs.Common.{◌≡◌, ◌⊎◌, inl, inr, ℕ, zero, suc, ◌+◌, ◌-◌, ◌<◌, ◌≤◌, ◌==◌, true, false, List, ◌∷◌, [], drop, length, Option, Some, None, option_map}
 use Rattle.std.proofs.Common.{refl, sym, ap, subst, ◌∙◌, arith}
 use Rattle.std.proofs.lemmas.Bool.{cases_Bool, cases_lt, eqb-true, false≢true}
-use Rattle.std.specs.Prelude.{option_and_then, unwrap_or}
+use Rattle.std.specs.Prelude.{option_and_then}
 use Rattle.toml_parser.specs.Lexical.{Read, first, skip_blank}
 use Rattle.toml_parser.specs.Numbers.{unquoted, word_len}
-use Rattle.toml_parser.specs.Strings.{Key, key_after, recursion_limit, simple_key}
+use Rattle.toml_parser.specs.Strings.{Key, key_after, simple_key}
 use Rattle.toml.specs.Parse.{after_element, key_equals, read_map}
+use Rattle.toml_ordered.proofs.LongKeys.{long_begins, long_nameless, none_some, some_same}
 use Rattle.toml_ordered.proofs.Turns.{items_turn, members_turn, val_array, val_atom, val_deep, val_table}
 use Rattle.toml_ordered.specs.Data.{Items, TomlNode, TomlNodes, array, no_items, no_nodes, push_item, table}
 use Rattle.toml_ordered.specs.Firsts.{NeitherTells}
-use Rattle.toml_ordered.specs.Grammar.{atom, expression, items, keyval, line, members, val}
-use Rattle.toml_ordered.specs.Nesting.{ClashesIn, Conflict, ItemAt, NestsPast, NestsTooDeep, PairClashes, PairNestsPast, after_items, next_item}
-use Rattle.toml_ordered.specs.Places.{PairAt, PairsClash, ReadsUpTo, after_lines, after_pairs, next_expression, next_pair}
-use Rattle.toml_ordered.specs.Tables.{Expression, TomlDocument, put}
+use Rattle.toml_ordered.specs.Grammar.{atom, items, keyval, members, val}
+use Rattle.toml_ordered.specs.Nesting.{ClashesIn, HasLongKey, ItemAt, NestsPast, PairComes, after_items, next_item}
+use Rattle.toml_ordered.specs.Places.{PairAt, PairsClash, after_pairs, next_pair}
+use Rattle.toml_ordered.specs.Tables.{put}
 use Rattle.toml_ordered.specs.declared.tree.Origin.TheVariants.{Closed}
-
-pub none_some : {A : Type 0} {x : A} → ◌≡◌ {A = Option A} None (Some x) → ⊥
-none_some e = cc
-
-some_same : {A : Type 0} (x y : A) → Some x ≡ Some y → x ≡ y
-some_same x y e = ap (λ o. unwrap_or o x) e
 
 pub same_rest : (p q : Key × List ℕ) → Some p ≡ Some q → p.1 ≡ q.1
 same_rest p q e = ap (λ (k : Key × List ℕ). k.1) (some_same p q e)
@@ -96,7 +91,7 @@ key_begins text k named = elim (cases_Bool (first text == 125)) [
 pub header_keyless : (text : List ℕ) → first text ≡ 91 → key_equals text ≡ None
 header_keyless text is = ap key_equals (begun_with 90 text is) ∙ no_header_key (drop 1 text)
 
-no_header : (text : List ℕ) (k : Key × List ℕ) → key_equals text ≡ Some k → (first text == 91) ≡ false
+pub no_header : (text : List ℕ) (k : Key × List ℕ) → key_equals text ≡ Some k → (first text == 91) ≡ false
 no_header text k named = elim (cases_Bool (first text == 91)) [
   | inl opens ↦ absurd (none_some (sym (header_keyless text (eqb-true (first text) 91 opens)) ∙ named))
   | inr other ↦ other
@@ -228,10 +223,9 @@ module _ (depth : ℕ) (text : List ℕ) where
           let is_zero : left ≡ 0 = omega (arith, zero_left) in
           ap (λ (n : ℕ). items (val depth) n more at.rest) is_zero ∙ items_none (val depth) more at.rest
 
-  braces_stop : first text ≡ 123 → (found : TomlNodes) (name : Key) (here : ℕ) (at : PairAt depth (drop 1 text) found name here)
-      → next_pair depth (found, at.rest) ≡ None
-      → ((left : ℕ) → 0 < left → members (val depth) left found at.rest ≡ None) → val (suc depth) text ≡ None
-  braces_stop opens found name here at stops none = elim (reads_pairs depth (drop 1 text) at.count (length text) (found, at.rest) at.read) [
+  braces_stop : first text ≡ 123 → (found : TomlNodes) (rest : List ℕ) (count : ℕ) → after_pairs depth count (drop 1 text) ≡ Some (found, rest)
+      → ((left : ℕ) → 0 < left → members (val depth) left found rest ≡ None) → val (suc depth) text ≡ None
+  braces_stop opens found rest count read none = elim (reads_pairs depth (drop 1 text) count (length text) (found, rest) read) [
     | inl stops ↦ whole ∙ ap (read_map (table Closed)) stops
     | inr on ↦ whole ∙ ap (read_map (table Closed)) (on.1 ∙ by on.0 (cases_lt 0 on.0))
   ]
@@ -239,11 +233,22 @@ module _ (depth : ℕ) (text : List ℕ) where
       whole : val (suc depth) text ≡ read_map (table Closed) (members (val depth) (length text) no_nodes (drop 1 text))
       whole = val_table text (rw opens) (rw opens) depth
 
-      by : (left : ℕ) → (0 < left) ⊎ (left ≤ 0) → members (val depth) left found at.rest ≡ None
+      by : (left : ℕ) → (0 < left) ⊎ (left ≤ 0) → members (val depth) left found rest ≡ None
       by left (inl some) = none left some
       by left (inr zero_left) =
           let is_zero : left ≡ 0 = omega (arith, zero_left) in
-          ap (λ (n : ℕ). members (val depth) n found at.rest) is_zero ∙ members_none (val depth) found at.rest
+          ap (λ (n : ℕ). members (val depth) n found rest) is_zero ∙ members_none (val depth) found rest
+
+  -- the pair whose key has too many parts
+  pub nameless_next : (found : TomlNodes) (rest : List ℕ) → key_equals (skip_blank rest) ≡ None → next_pair depth (found, rest) ≡ None
+  nameless_next found rest none = rw (keyval_nameless (val depth) (skip_blank rest) none)
+
+  long_stops : first text ≡ 123 → (found : TomlNodes) (rest : List ℕ) (count : ℕ) → after_pairs depth count (drop 1 text) ≡ Some (found, rest) → (left : ℕ)
+      → HasLongKey left (skip_blank rest) → val (suc depth) text ≡ None
+  long_stops opens found rest count read left long =
+      braces_stop opens found rest count read
+      (λ room some. members_turn (val depth) room found rest some
+      ∙ rw (long_begins left (skip_blank rest) long, keyval_nameless (val depth) (skip_blank rest) (long_nameless left (skip_blank rest) long)))
 
   -- the pair at which two clash, and the pair whose value is refused
   module _ (found : TomlNodes) (name : Key) (here : ℕ) (at : PairAt depth (drop 1 text) found name here) where
@@ -254,7 +259,7 @@ module _ (depth : ℕ) (text : List ℕ) where
     clash_stops : first text ≡ 123 → (value : TomlNode) (after : List ℕ) → keyval (val depth) (skip_blank at.rest) ≡ Some ((name, value), after)
         → put name value found ≡ None → val (suc depth) text ≡ None
     clash_stops opens value after pair refused =
-        braces_stop opens found name here at (clash_next value after pair refused)
+        braces_stop opens found at.rest at.count at.read
         (λ left some. members_turn (val depth) left found at.rest some ∙ rw (key_begins (skip_blank at.rest) (name, at.after) at.begins, pair, refused))
 
     pub value_next : val depth at.after ≡ None → next_pair depth (found, at.rest) ≡ None
@@ -262,7 +267,7 @@ module _ (depth : ℕ) (text : List ℕ) where
 
     value_stops : first text ≡ 123 → val depth at.after ≡ None → val (suc depth) text ≡ None
     value_stops opens none =
-        braces_stop opens found name here at (value_next none)
+        braces_stop opens found at.rest at.count at.read
         (λ left some. members_turn (val depth) left found at.rest some
         ∙ rw (key_begins (skip_blank at.rest) (name, at.after) at.begins, keyval_none (val depth) (skip_blank at.rest) name at.after at.begins none))
 
@@ -278,15 +283,17 @@ BlamesInside depth text =
     ((first text ≡ 91) × (item : List ℕ) × ItemAt depth (drop 1 text) item × IsBlamed depth item)
     ⊎ ((first text ≡ 123)
     × (((key : List ℕ) × (one : ℕ) × (two : ℕ) × PairsClash depth (drop 1 text) key one two)
-    ⊎ ((found : TomlNodes) × (name : Key) × (here : ℕ) × (at : PairAt depth (drop 1 text) found name here) × IsBlamed depth at.after)))
+    ⊎ (((pair : List ℕ) × (left : ℕ) × PairComes depth (drop 1 text) pair × HasLongKey left pair)
+    ⊎ ((found : TomlNodes) × (name : Key) × (here : ℕ) × (at : PairAt depth (drop 1 text) found name here) × IsBlamed depth at.after))))
 
 blames_inside : (depth : ℕ) (text : List ℕ) → IsBlamed (suc depth) text → BlamesInside depth text
 blames_inside depth text (inl (key, one, two, inl (opens, (item, at, inner)))) = inl (opens, item, at, inl (key, one, two, inner))
 blames_inside depth text (inl (key, one, two, inr (opens, inl clash))) = inr (opens, inl (key, one, two, clash))
 blames_inside depth text (inl (key, one, two, inr (opens, inr (found, name, here, at, inner)))) =
-    inr (opens, inr (found, name, here, at, inl (key, one, two, inner)))
+    inr (opens, inr (inr (found, name, here, at, inl (key, one, two, inner))))
 blames_inside depth text (inr (left, inl (opens, (item, at, inner)))) = inl (opens, item, at, inr (left, inner))
-blames_inside depth text (inr (left, inr (opens, (found, name, here, at, inner)))) = inr (opens, inr (found, name, here, at, inr (left, inner)))
+blames_inside depth text (inr (left, inr (opens, inl (pair, comes, long)))) = inr (opens, inr (inl (pair, left, comes, long)))
+blames_inside depth text (inr (left, inr (opens, inr (found, name, here, at, inner)))) = inr (opens, inr (inr (found, name, here, at, inr (left, inner))))
 
 opens_one : (text : List ℕ) → (first text ≡ 91) ⊎ (first text ≡ 123) → (first text == 93) ≡ false
 opens_one text (inl is) = rw is
@@ -312,7 +319,9 @@ blamed_none (suc depth) text blamed = by (λ inner is. blamed_none depth inner i
     by none (inl (opens, item, at, inner)) = array_stops depth text opens item at (opens_one item (blame_opens depth item inner)) (none item inner)
     by none (inr (opens, inl (key, one, two, clash))) =
         clash_stops depth text clash.found clash.name two clash.at opens clash.value clash.after clash.pair clash.refused
-    by none (inr (opens, inr (found, name, here, at, inner))) = value_stops depth text found name here at opens (none at.after inner)
+    by none (inr (opens, inr (inl (pair, left, comes, long)))) =
+        long_stops depth text opens comes.found comes.rest comes.count comes.read left (subst (HasLongKey left) comes.here long)
+    by none (inr (opens, inr (inr (found, name, here, at, inner)))) = value_stops depth text found name here at opens (none at.after inner)
 
 bracket_brace : (text : List ℕ) → first text ≡ 91 → first text ≡ 123 → ⊥
 bracket_brace text bracket brace =
@@ -359,8 +368,9 @@ array_unblamed depth text rest count opens read stops none blamed = by (blames_i
 pub braces_unblamed : (depth : ℕ) (text rest : List ℕ) (found : TomlNodes) (count : ℕ) → first text ≡ 123
     → after_pairs depth count (drop 1 text) ≡ Some (found, rest) → next_pair depth (found, rest) ≡ None
     → ((name : Key) (value : TomlNode) (after : List ℕ) → keyval (val depth) (skip_blank rest) ≡ Some ((name, value), after) → put name value found ≡ None → ⊥)
+    → ((left : ℕ) → HasLongKey left (skip_blank rest) → ⊥)
     → ((name : Key) (after : List ℕ) → key_equals (skip_blank rest) ≡ Some (name, after) → IsBlamed depth after → ⊥) → IsBlamed (suc depth) text → ⊥
-braces_unblamed depth text rest found count opens read stops no_clash no_value blamed = by (blames_inside depth text blamed)
+braces_unblamed depth text rest found count opens read stops no_clash no_long no_value blamed = by (blames_inside depth text blamed)
   where
     same : (others : TomlNodes) (end : List ℕ) (n : ℕ) → after_pairs depth n (drop 1 text) ≡ Some (others, end) → next_pair depth (others, end) ≡ None
         → ◌≡◌ {A = TomlNodes × List ℕ} (others, end) (found, rest)
@@ -374,76 +384,11 @@ braces_unblamed depth text rest found count opens read stops no_clash no_value b
         no_clash clash.name clash.value clash.after
         (subst (λ (p : TomlNodes × List ℕ). keyval (val depth) (skip_blank p.1) ≡ Some ((clash.name, clash.value), clash.after)) is clash.pair)
         (subst (λ (p : TomlNodes × List ℕ). put clash.name clash.value p.0 ≡ None) is clash.refused)
-    by (inr (also, inr (others, name, here, at, inner))) =
+    by (inr (also, inr (inl (pair, left, comes, long)))) =
+        let there = subst (HasLongKey left) comes.here long in
+        let is = same comes.found comes.rest comes.count comes.read
+        (nameless_next depth text comes.found comes.rest (long_nameless left (skip_blank comes.rest) there)) in
+        no_long left (subst (λ (p : TomlNodes × List ℕ). HasLongKey left (skip_blank p.1)) is there)
+    by (inr (also, inr (inr (others, name, here, at, inner)))) =
         let is = same others at.rest at.count at.read (value_next depth text others name here at (blamed_none depth at.after inner)) in
         no_value name at.after (subst (λ (p : TomlNodes × List ℕ). key_equals (skip_blank p.1) ≡ Some (name, at.after)) is at.begins) inner
-
--- ---- expressions
-
--- True if two pairs clash in the value of the pair that begins here, or it nests too deep.
-abbrev IsPairBlamed : (text : List ℕ) → Type 0
-IsPairBlamed text = (name : Key) × (value : List ℕ) × (key_equals text ≡ Some (name, value)) × IsBlamed recursion_limit value
-
-pub neither_pair : (text : List ℕ) → (IsPairBlamed text → ⊥) → NeitherTells (PairClashes text) (PairNestsPast text)
-neither_pair text none = (
-  λ key one two (name, value, named, clash). none (name, value, named, inl (key, one, two, clash)),
-  λ left (name, value, named, deep). none (name, value, named, inr (left, deep)),
-)
-
-pair_unblamed : (text : List ℕ) → NeitherTells (PairClashes text) (PairNestsPast text) → IsPairBlamed text → ⊥
-pair_unblamed text none (name, value, named, inl (key, one, two, clash)) = none.0 key one two (name, value, named, clash)
-pair_unblamed text none (name, value, named, inr (left, deep)) = none.1 left (name, value, named, deep)
-
-expression_blamed : (text : List ℕ) → IsPairBlamed text → expression text ≡ None
-expression_blamed text (name, value, named, blamed) =
-    rw (no_header text (name, value) named, keyval_none (val recursion_limit) text name value named (blamed_none recursion_limit value blamed))
-
--- without a key
-pub nameless_neither : (text : List ℕ) → key_equals text ≡ None → NeitherTells (PairClashes text) (PairNestsPast text)
-nameless_neither text none = neither_pair text (λ (name, value, named, blamed). none_some (sym none ∙ named))
-
--- with a value
-pub valued_neither : (text : List ℕ) (name : Key) (at : List ℕ) → key_equals text ≡ Some (name, at)
-    → NeitherTells (λ key one two. ClashesIn recursion_limit key one two at) (λ left. NestsPast recursion_limit left at)
-    → NeitherTells (PairClashes text) (PairNestsPast text)
-valued_neither text name at named none =
-    neither_pair text (λ (other, value, also, blamed).
-    unblamed recursion_limit at none
-    (subst (IsBlamed recursion_limit) (ap (λ (k : Key × List ℕ). k.1) (some_same (other, value) (name, at) (sym also ∙ named))) blamed))
-
--- that is read
-pub expression_neither : (text : List ℕ) (e : Expression × List ℕ) → expression text ≡ Some e → NeitherTells (PairClashes text) (PairNestsPast text)
-expression_neither text e read = neither_pair text (λ blamed. none_some (sym (expression_blamed text blamed) ∙ read))
-
--- ---- documents
-
-line_none : (text : List ℕ) → expression text ≡ None → line text ≡ None
-line_none text none = rw none
-
-pub neither_document : (text rest : List ℕ) (doc : TomlDocument) → ReadsUpTo text doc rest → line (skip_blank rest) ≡ None
-    → NeitherTells (PairClashes (skip_blank rest)) (PairNestsPast (skip_blank rest)) → NeitherTells (Conflict text) (NestsTooDeep text)
-neither_document text rest doc reads unread none = (λ key one two conflict. by key one two conflict, λ left deep. by_deep left deep)
-  where
-    same : (other : TomlDocument) (end : List ℕ) → ReadsUpTo text other end → next_expression (other, end) ≡ None
-        → ◌≡◌ {A = TomlDocument × List ℕ} (other, end) (doc, rest)
-    same other end also stops =
-        once next_expression (λ n. after_lines n text) (λ n. refl) reads.0 also.0 (doc, rest) (other, end) reads.1 (rw unread) also.1 stops
-
-    blames : (other : TomlDocument) (end : List ℕ) → ReadsUpTo text other end → IsPairBlamed (skip_blank end) → ⊥
-    blames other end also blamed =
-        let is = same other end also (rw (line_none (skip_blank end) (expression_blamed (skip_blank end) blamed))) in
-        pair_unblamed (skip_blank rest) none (subst (λ (p : TomlDocument × List ℕ). IsPairBlamed (skip_blank p.1)) is blamed)
-
-    by : (key : List ℕ) (one two : ℕ) → Conflict text key one two → ⊥
-    by key one two (inl conflict) =
-        let at = conflict.at in
-        let is = same conflict.doc at.rest at.read (rw (at.begins, conflict.refused)) in
-        none_some (sym unread ∙ subst (λ (p : TomlDocument × List ℕ). line (skip_blank p.1) ≡ Some (conflict.e, at.after)) is at.begins)
-    by key one two (inr conflict) =
-        let (name, value, named, clash) = conflict.pairs in
-        blames conflict.doc conflict.rest conflict.read (name, value, named, inl (key, one, two, clash))
-
-    by_deep : (left : ℕ) → NestsTooDeep text left → ⊥
-    by_deep left deep =
-        let (name, value, named, inner) = deep.nests in
-        blames deep.doc deep.rest deep.read (name, value, named, inr (left, inner))

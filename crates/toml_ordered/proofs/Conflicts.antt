@@ -5,15 +5,15 @@ use Rattle.toml_parser.specs.Strings.{Key, recursion_limit}
 use Rattle.toml.specs.Parse.{after_element, key_equals}
 use Rattle.toml_ordered.specs.declared.fault.Fault.{Fault}
 use Rattle.toml_ordered.specs.declared.fault.Fault.TheVariants as fault
-use Rattle.toml_ordered.proofs.Depths.{blank_within, ends_within, pair_nests_within}
+use Rattle.toml_ordered.proofs.Depths.{blank_within, ends_within, expression_nests_within}
 use Rattle.toml_ordered.proofs.Endings.{end_left, ends_drop, key_equals_ends, value_ends}
-use Rattle.toml_ordered.proofs.Blaming.{neither_document}
+use Rattle.toml_ordered.proofs.Unblamed.{neither_document}
 use Rattle.toml_ordered.specs.Data.{TomlNode, TomlNodes}
 use Rattle.toml_ordered.specs.Firsts.{Firsts, no_firsts, HasFirst, AddsFirsts, IsAgain, IsOther, FaultTells, NeitherTells}
 use Rattle.toml_ordered.specs.Grammar.{keyval, line, val}
 use Rattle.toml_ordered.specs.Inside.{KnowsPairs}
 use Rattle.toml_ordered.specs.Places.{after_pairs, ReadsUpTo, ExpressionAt, FirstDefines, IsShutFor, IsShutInBraces, PairAt, PairsClash}
-use Rattle.toml_ordered.specs.Nesting.{ClashesIn, HasReason, PairClashes, PairNestsPast}
+use Rattle.toml_ordered.specs.Nesting.{ClashesIn, ExpressionNestsPast, HasReason, PairClashes}
 use Rattle.toml_ordered.specs.Places.{moved_to, moved_within, key_parts, whole_path}
 use Rattle.toml_ordered.specs.Reading.{IsMemory}
 use Rattle.toml_ordered.specs.Tables.{TomlDocument, Expression, define, put}
@@ -192,11 +192,11 @@ expressions_conflict text rest doc e here old refused moved knows at within deni
 -- an expression in which a value is refused
 pub value_reason : (text rest : List ℕ) (doc : TomlDocument) (refused moved : Fault) → ReadsUpTo text doc rest
     → ((IsMemory refused → ⊥) → line (skip_blank rest) ≡ None)
-    → FaultTells refused (PairClashes (skip_blank rest)) (PairNestsPast (skip_blank rest)) → moved ≡ moved_within (length (skip_blank rest)) refused
+    → FaultTells refused (PairClashes (skip_blank rest)) (ExpressionNestsPast (skip_blank rest)) → moved ≡ moved_within (length (skip_blank rest)) refused
     → HasReason text moved
 value_reason text rest doc refused moved read unread pairs is = subst (HasReason text) (sym is) (by refused unread pairs)
   where
-    by : (f : Fault) → ((IsMemory f → ⊥) → line (skip_blank rest) ≡ None) → FaultTells f (PairClashes (skip_blank rest)) (PairNestsPast (skip_blank rest))
+    by : (f : Fault) → ((IsMemory f → ⊥) → line (skip_blank rest) ≡ None) → FaultTells f (PairClashes (skip_blank rest)) (ExpressionNestsPast (skip_blank rest))
         → HasReason text (moved_within (length (skip_blank rest)) f)
     by fault.Memory none found = tt
     by (fault.NotToml left) none found = neither_document text rest doc read (none (λ m. other left m)) found
@@ -204,9 +204,9 @@ value_reason text rest doc refused moved read unread pairs is = subst (HasReason
         other : (left : ℕ) → fault.NotToml left ≡ fault.Memory → ⊥
         other left m = cc
     by (fault.TooDeep left) none found =
-        let within = pair_nests_within (skip_blank rest) left found in
+        let within = expression_nests_within (skip_blank rest) left found in
         let same : min left (length (skip_blank rest)) ≡ left = omega (arith, within) in
-        record { doc = doc; rest = rest; read = read; nests = subst (PairNestsPast (skip_blank rest)) (sym same) found }
+        record { doc = doc; rest = rest; read = read; nests = subst (ExpressionNestsPast (skip_blank rest)) (sym same) found }
     by (fault.DefinedAgain key first second) none found =
         let within = pair_clashes_within (skip_blank rest) (string_bytes key) first second found in
         let same : min second (length (skip_blank rest)) ≡ second = omega (arith, within) in

@@ -1,15 +1,15 @@
 -- Values that nest too deep.
-use Rattle.std.proofs.Common.{◌≡◌, ℕ, zero, suc, ◌+◌, ◌≤◌, List, Some, drop, length, refl, ap, subst, sym, ◌∙◌, inl, inr, arith}
+use Rattle.std.proofs.Common.{◌≡◌, ℕ, zero, suc, ◌+◌, ◌≤◌, ◌==◌, Bool, true, false, cond, List, Some, drop, length, refl, ap, subst, sym, ◌∙◌, inl, inr, arith}
 use Rattle.std.proofs.lemmas.List.{length-append}
 use Rattle.std.specs.Prelude.{◌⊎◌}
-use Rattle.toml_parser.specs.Lexical.{first, right_bracket, skip_blank}
+use Rattle.toml_parser.specs.Lexical.{first, right_bracket, skip_blank, skip_ws}
 use Rattle.toml_parser.specs.Strings.{recursion_limit}
 use Rattle.toml.specs.Parse.{after_element, key_equals}
-use Rattle.toml_ordered.proofs.Endings.{end_left, ends_drop, key_equals_ends, skip_blank_ends, value_ends}
+use Rattle.toml_ordered.proofs.Endings.{end_left, ends_drop, ends_self, ends_then, key_equals_ends, skip_blank_ends, skip_ws_ends, value_ends}
 use Rattle.toml_ordered.specs.Data.{TomlNode}
 use Rattle.toml_ordered.specs.Firsts.{FaultTells}
-use Rattle.toml_ordered.specs.Grammar.{val}
-use Rattle.toml_ordered.specs.Nesting.{NestsPast, PairNestsPast, after_items}
+use Rattle.toml_ordered.specs.Grammar.{is_doubled, val}
+use Rattle.toml_ordered.specs.Nesting.{ExpressionNestsPast, NestsPast, after_items, own_key}
 use Rattle.toml_ordered.specs.Places.{EndsWith}
 use Rattle.toml_ordered.specs.declared.fault.Fault.{Fault}
 use Rattle.toml_ordered.specs.declared.fault.Fault.TheVariants as fault
@@ -45,15 +45,33 @@ nests_within (suc depth) left text (inl deep) =
     let rest = ends_within (drop 1 text) at.rest at.ends in
     let behind = ends_within text (drop 1 text) (ends_drop 1 text) in
     omega (arith, within, is, blank, rest, behind)
-nests_within (suc depth) left text (inr deep) =
-    let (found, name, here, at, inner) = deep.1 in
+nests_within (suc depth) left text (inr (opens, inl (pair, comes, long))) =
+    let here = long.here in
+    let is = ap length comes.here in
+    let blank = blank_within comes.rest in
+    let rest = ends_within (drop 1 text) comes.rest comes.ends in
+    let behind = ends_within text (drop 1 text) (ends_drop 1 text) in
+    omega (arith, here, is, blank, rest, behind)
+nests_within (suc depth) left text (inr (opens, inr (found, name, here, at, inner))) =
     let within = nests_within depth left at.after inner in
     let value = ends_within (drop 1 text) at.after (value_ends (drop 1 text) at.rest name at.after at.ends at.begins) in
     let behind = ends_within text (drop 1 text) (ends_drop 1 text) in
     omega (arith, within, value, behind)
 
-pub pair_nests_within : (text : List ℕ) (left : ℕ) → PairNestsPast text left → left ≤ length text
-pair_nests_within text left (name, value, begins, deep) =
+own_key_ends : (text : List ℕ) → EndsWith text (own_key text)
+own_key_ends text = by (is_doubled text) (first text == 91)
+  where
+    by : (a b : Bool) → EndsWith text (cond a (skip_ws (drop 2 text)) (cond b (skip_ws (drop 1 text)) text))
+    by true b = ends_then text (drop 2 text) (skip_ws (drop 2 text)) (ends_drop 2 text) (skip_ws_ends (drop 2 text))
+    by false true = ends_then text (drop 1 text) (skip_ws (drop 1 text)) (ends_drop 1 text) (skip_ws_ends (drop 1 text))
+    by false false = ends_self text
+
+pub expression_nests_within : (text : List ℕ) (left : ℕ) → ExpressionNestsPast text left → left ≤ length text
+expression_nests_within text left (inl long) =
+    let here = long.here in
+    let within = ends_within text (own_key text) (own_key_ends text) in
+    omega (arith, here, within)
+expression_nests_within text left (inr (name, value, begins, deep)) =
     let within = nests_within recursion_limit left value deep in
     let ends = ends_within text value (end_left text (key_equals text) name value (key_equals_ends text) begins) in
     omega (arith, within, ends)

@@ -83,7 +83,7 @@ skip_from_ends comments inside (c ∷ cs) =
 pub skip_blank_ends : (text : List ℕ) → EndsWith text (skip_blank text)
 skip_blank_ends text = skip_from_ends true false text
 
-skip_ws_ends : (text : List ℕ) → EndsWith text (skip_ws text)
+pub skip_ws_ends : (text : List ℕ) → EndsWith text (skip_ws text)
 unfolding skip_ws
 skip_ws_ends text = ends_drop (prefix_len is_ws text) text
 

@@ -1,5 +1,5 @@
 -- The beginnings of values, expressions and lines: strings, scalars, keys and headers.
-use Rattle.std.proofs.Common.{◌≡◌, ◌⊎◌, inl, inr, ℕ, ◌==◌, Bool, true, false, List, drop, slice_index, Option, Some, None, Result, Ok, Err, refl, sym, subst}
+use Rattle.std.proofs.Common.{◌≡◌, ◌⊎◌, inl, inr, ℕ, ◌==◌, Bool, true, false, List, drop, slice_index, Option, Some, None, refl, sym, subst, ap}
 use Rattle.std.proofs.Common.{String, Global, string_bytes, rules, arith, option_and_then, option_map, ◌∙◌}
 use Rattle.std.proofs.lemmas.Bool.{eq-eqb, ne_eqb}
 use Rattle.toml_parser.specs.Lexical.{Read, first, skip_blank, skip_ws}
@@ -8,15 +8,18 @@ use Rattle.toml_parser.specs.Numbers.{unquoted}
 use Rattle.toml_parser.specs.declared.error.ParseError.{ParseError}
 use Rattle.toml_parser.specs.declared.error.ParseError.TheVariants as parse
 use Rattle.toml.specs.Parse.{after_byte, after_element, ends_line, header_key, key_equals}
-use Rattle.std.specs.Borrow.{Bor}
-use Rattle.toml_ordered.proofs.Conflicts.{other_than}
+use Rattle.toml_ordered.proofs.Blaming.{header_keyless}
+use Rattle.toml_ordered.proofs.Conflicts.{reason_in}
+use Rattle.toml_ordered.proofs.LongKeys.{before_short, own_key_one, own_key_pair, own_key_two}
+use Rattle.toml_ordered.proofs.Unblamed.{nameless_neither}
 use Rattle.toml_ordered.proofs.Turns.{val_deep, val_sealed}
 use Rattle.toml_ordered.specs.Data.{TomlNode, node_view, string}
 use Rattle.toml_ordered.specs.Keys.{sealed}
 use Rattle.toml_ordered.specs.Grammar.{atom, expression, key_before, line, val}
 use Rattle.toml_ordered.specs.Tables.{Expression, array_table, key_value, std_table}
 use Rattle.toml_ordered.specs.Firsts.{FaultTells, IsOther, NeitherTells}
-use Rattle.toml_ordered.specs.Reading.{IsGrammarRefusal, ReadsExpected, fault_of}
+use Rattle.toml_ordered.specs.Nesting.{ExpressionNestsPast, ExpressionTells, HasLongKey, KeyTells, PairClashes, own_key}
+use Rattle.toml_ordered.specs.Reading.{IsGrammarRefusal, IsMemory, fault_of}
 use Rattle.toml_ordered.specs.declared.fault.Fault.{Fault}
 use Rattle.toml_ordered.specs.declared.tree.Node.{Text, the_lemmas}
 use Rattle.toml_ordered.specs.declared.fault.Fault.TheVariants as fault
@@ -29,13 +32,6 @@ no_token error found expected is none = subst (IsGrammarRefusal expected IsOther
     by : (e : ParseError) → ((e ≡ parse.OutOfMemory → ⊥) → expected ≡ None) → IsGrammarRefusal expected IsOther (fault_of e)
     by parse.OutOfMemory refused = (λ real. absurd (real refl), tt)
     by (parse.At kind from to) refused = (λ real. refused (λ m. cc), tt)
-
--- a reader that tells more
-pub reads_tells : {A B : Type 0} (f : A → B) (text : List ℕ) (expected : Read B) (again : List ℕ → ℕ → ℕ → Type 0) (deep : ℕ → Type 0)
-    → (r : Result (A × Bor (List ℕ)) Fault) → NeitherTells again deep → ReadsExpected f text expected IsOther r
-    → ReadsExpected f text expected (λ found. FaultTells found again deep) r
-reads_tells f text expected again deep (Ok p) neither read = read
-reads_tells f text expected again deep (Err found) neither refused = (refused.0, other_than again deep found (λ _. neither) refused.1)
 
 -- no text of the grammar goes on here, and more is told
 pub ends_text : {B : Type 0} (left : ℕ) (found : Fault) (expected : Option B) (again : List ℕ → ℕ → ℕ → Type 0) (deep : ℕ → Type 0)
@@ -129,6 +125,14 @@ module _ (text : List ℕ) (byte : ℕ) (here : byte ≡ first text) (other : by
   pub pair_nameless : key_equals text ≡ None → expression text ≡ None
   pair_nameless named = rw (no_header, named)
 
+  -- the key of a pair is refused
+  pub pair_keyless : (fault : Fault) → ((IsMemory fault → ⊥) → key_equals text ≡ None) → KeyTells text fault → ExpressionTells text fault
+  pair_keyless fault none tells =
+      let own = own_key_pair text no_header in
+      reason_in fault (λ key one two. ⊥) (PairClashes text) (λ left. HasLongKey left text) (ExpressionNestsPast text) (λ key one two clash. absurd clash)
+      (λ left long. inl (subst (HasLongKey left) (sym own) long))
+      (λ real neither. nameless_neither text (none real) (λ left long. neither.1 left (subst (HasLongKey left) own long))) tells
+
   module _ (name : Key) (at : List ℕ) (named : key_equals text ≡ Some (name, at)) where
     pub pair_bad : val 80 at ≡ None → expression text ≡ None
     pair_bad read = rw (no_header, named, read)
@@ -192,7 +196,24 @@ module _ (text : List ℕ) (opens : first text ≡ 91) (byte : ℕ) (second : by
   header_bad (inl are) none = tables_bad text opens byte second after are.0 (cut 2 are.1) (header_key_by after start blank ∙ none)
   header_bad (inr are) none = table_bad text opens byte second after are.0 (cut 1 are.1) (header_key_by after start blank ∙ none)
 
+  own : AreBrackets byte brackets → own_key text ≡ start
+  own (inl are) = own_key_two text (rw opens) (rw (← second, are.0)) ∙ ap skip_ws (sym (cut 2 are.1)) ∙ sym blank
+  own (inr are) = own_key_one text (rw opens) (rw (← second, ne_eqb byte 91 are.0)) ∙ ap skip_ws (sym (cut 1 are.1)) ∙ sym blank
+
+  -- its key is refused
+  pub header_keyed : AreBrackets byte brackets → (fault : Fault) → KeyTells start fault → ExpressionTells text fault
+  header_keyed are fault tells =
+      reason_in fault (λ key one two. ⊥) (PairClashes text) (λ left. HasLongKey left start) (ExpressionNestsPast text) (λ key one two clash. absurd clash)
+      (λ left long. inl (subst (HasLongKey left) (sym (own are)) long))
+      (λ real neither. nameless_neither text (header_keyless text opens) (λ left long. neither.1 left (subst (HasLongKey left) (own are) long))) tells
+
   module _ (name : Key) (rest : List ℕ) (read : key_before 93 start ≡ Some (name, rest)) where
+    -- or read
+    pub header_neither : AreBrackets byte brackets → NeitherTells (PairClashes text) (ExpressionNestsPast text)
+    header_neither are =
+        nameless_neither text (header_keyless text opens)
+        (λ left long. before_short 93 start (name, rest) read left (subst (HasLongKey left) (own are) long))
+
     pub header_one : AreBrackets byte brackets → brackets ≡ 1 → expression text ≡ Some ((name, std_table), rest)
     header_one (inl are) one = let two = are.1 in absurd (omega (arith, two, one))
     header_one (inr are) one = table_is text opens byte second after are.0 (cut 1 are.1) name rest (header_key_by after start blank ∙ read)

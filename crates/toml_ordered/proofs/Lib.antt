@@ -4,9 +4,11 @@ pub mod FirstKeys
 pub mod Passing
 pub mod Defining
 pub mod Endings
+pub mod LongKeys
 pub mod Depths
 pub mod RowsNesting
 pub mod Conflicts
+pub mod Unblamed
 pub mod Turns
 pub mod Heads
 pub mod Marks

@@ -80,12 +80,12 @@ AddsFirsts whole here keys old new =
     (path : List (List ℕ)) (key : List ℕ) (left : ℕ) → HasFirst new path key left
     → HasFirst old path key left ⊎ ((left ≡ here) × IsNewKey whole keys path key)
 
--- True if no key is defined again so, and no value nests too deep so.
+-- True if no key is defined again so, and nothing nests too deep so.
 abbrev pub NeitherTells : (again : List ℕ → (first second : ℕ) → Type 0) → (deep : (left : ℕ) → Type 0) → Type 0
 NeitherTells again deep = ((key : List ℕ) (first second : ℕ) → again key first second → ⊥) × ((left : ℕ) → deep left → ⊥)
 
--- The statement of a fault: `again` of a key that is defined again, `deep` of a value that nests too deep; neither of any other text that isn't
--- TOML.
+-- The statement of a fault: `again` of a key that is defined again, `deep` of a value that nests too deep or a key of too many parts; neither of
+-- any other text that isn't TOML.
 abbrev pub FaultTells : Fault → (again : List ℕ → (first second : ℕ) → Type 0) → (deep : (left : ℕ) → Type 0) → Type 0
 FaultTells fault.Memory again deep = Unit {0}
 FaultTells (fault.NotToml left) again deep = NeitherTells again deep
@@ -99,7 +99,7 @@ IfAgain (fault.NotToml left) holds = ⊥
 IfAgain (fault.TooDeep left) holds = ⊥
 IfAgain (fault.DefinedAgain key first second) holds = holds (string_bytes key) first second
 
--- True of a fault that is neither that a key is defined again, nor that a value nests too deep.
+-- True of a fault that is neither that a key is defined again, nor that something nests too deep.
 abbrev pub IsOther : Fault → Type 0
 IsOther fault.Memory = Unit {0}
 IsOther (fault.NotToml left) = Unit {0}

@@ -5,7 +5,7 @@ ghost use Rattle.toml_parser.specs.Reading.{key_view, path_view};
 ghost use Rattle.toml.specs.Parse.{ends_line, skip_bom};
 ghost use Rattle.toml_ordered.specs.Data.{node_view};
 ghost use Rattle.toml_ordered.specs.Keys.{sealed, table_view};
-ghost use Rattle.toml_ordered.specs.Firsts.{IsOther, IsShutAt};
+ghost use Rattle.toml_ordered.specs.Firsts.{IsShutAt};
 ghost use Rattle.toml_ordered.specs.Grammar as spec;
 ghost use Rattle.toml_ordered.specs.Nesting.{ExpressionTells, HasReason};
 ghost use Rattle.toml_ordered.specs.Places.{FaultIsPlaced, IsShutFor, key_parts, whole_path};
@@ -102,8 +102,8 @@ impl Document {
 ///
 /// # Errors
 ///
-/// `NotToml` if the text isn't TOML 1.1, or a key has more than 80 parts; `TooDeep` if arrays and tables in braces nest more than 80
-/// deep; `DefinedAgain` if a key is defined twice; `Memory` if an allocation fails.
+/// `NotToml` if the text isn't TOML 1.1; `TooDeep` if arrays and tables in braces nest more than 80 deep, or a key has more than 80
+/// parts; `DefinedAgain` if a key is defined twice; `Memory` if an allocation fails.
 pub fn read_document(alloc: Global, text: &str) -> Result<Table, Fault>
     ensures value { ParsesTo table_view result (spec.ordered_document text.now) }
     ensures placed { IfErr result (FaultIsPlaced text.now) }
@@ -184,7 +184,7 @@ fn expression(alloc: Global, s: &str) -> Result<((Key, Definition), &str), Fault
 /// Reads a header.
 fn header(alloc: Global, s: &str) -> Result<((Key, Definition), &str), Fault>
     requires { first s.now ≡ 91 }
-    ensures { ReadsExpected expression_view s.now (spec.expression s.now) IsOther result }
+    ensures { ReadsExpected expression_view s.now (spec.expression s.now) (ExpressionTells s.now) result }
 {
     let brackets = if byte_at(s, 1) == b'[' { 2 } else { 1 };
     let (key, rest) = match key_before(alloc, skip_ws(skip(s, brackets)), b']') {

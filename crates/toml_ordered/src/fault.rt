@@ -16,7 +16,7 @@ pub enum Fault {
     NotToml {
         left: usize,
     },
-    /// An array or a table in braces begins here, within 80 others.
+    /// An array or a table in braces begins here, within 80 others; or a key of more than 80 parts.
     TooDeep {
         left: usize,
     },
@@ -111,7 +111,7 @@ pub(crate) fn not_toml(rest: &str) -> Fault
     Fault::NotToml { left: rest.len() }
 }
 
-/// Returns the fault of arrays and tables in braces that nest too deep with this rest left.
+/// Returns the fault of a value that nests too deep, or a key of too many parts, with this rest left.
 pub(crate) fn too_deep(rest: &str) -> Fault
     ensures { result ≡ fault.TooDeep (length rest.now) }
 {

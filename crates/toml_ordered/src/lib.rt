@@ -6,6 +6,7 @@ mod document;
 mod fault;
 mod keys;
 mod laws;
+mod long_keys;
 mod passed;
 mod route;
 mod tables;

@@ -7,18 +7,19 @@ ghost use Rattle.toml_ordered.specs.Keys.{sealed, table_view};
 ghost use Rattle.toml_ordered.specs.Firsts.{IsOther};
 ghost use Rattle.toml_ordered.specs.Grammar as spec;
 ghost use Rattle.toml_ordered.specs.Inside.{FindsHere, GoesOnInside, NextItem, NextPair};
-ghost use Rattle.toml_ordered.specs.Nesting.{ValueTells};
+ghost use Rattle.toml_ordered.specs.Nesting.{KeyTells, ValueTells};
 ghost use Rattle.toml_ordered.specs.Places.{IsShutInBraces, key_parts};
 ghost use Rattle.toml_ordered.specs.Reading.{Defines, ReadsExpected, ReadsPast};
 ghost use Rattle.toml_ordered.specs.Tables as tables;
 
 use crate::fault::{Fault, not_toml, too_deep};
+use crate::long_keys::refused_key;
 use crate::route::Route;
 use crate::tables::{Definition, Entry, define_at};
 use crate::tree::{Node, Origin, Table};
 use std::alloc::{AllocError, Global};
 use toml_parser::text::{first, skip, skip_blank, skip_ws};
-use toml_parser::{Key, Scalar, dotted_key, quoted, starts_string, unquoted};
+use toml_parser::{Key, ParseError, Scalar, dotted_key, quoted, starts_string, unquoted};
 
 /// An array or a table in braces whose end isn't read yet.
 #[derive(Drop)]
@@ -206,7 +207,7 @@ fn past_element(s: &str, closing: u8) -> Result<&str, Fault>
 pub(crate) fn key_before(alloc: Global, s: &str, byte: u8) -> Result<(Key, &str), Fault>
     requires some { 0 < byte }
     requires ascii { byte < 128 }
-    ensures { ReadsExpected key_view s.now (spec.key_before byte s.now) IsOther result }
+    ensures { ReadsExpected key_view s.now (spec.key_before byte s.now) (KeyTells s.now) result }
 {
     match dotted_key(alloc, s) {
         Ok((key, rest)) => {
@@ -216,13 +217,14 @@ pub(crate) fn key_before(alloc: Global, s: &str, byte: u8) -> Result<(Key, &str)
                 Err(not_toml(rest))
             }
         }
-        Err(error) => Err(Fault::from(error)),
+        Err(ParseError::OutOfMemory) => Err(Fault::Memory),
+        Err(_) => Err(refused_key(alloc, s)),
     }
 }
 
 /// Reads a key, `=` and the blanks after it.
 pub(crate) fn key_and_equals(alloc: Global, s: &str) -> Result<(Key, &str), Fault>
-    ensures { ReadsExpected key_view s.now (key_equals s.now) IsOther result }
+    ensures { ReadsExpected key_view s.now (key_equals s.now) (KeyTells s.now) result }
 {
     match key_before(alloc, s, b'=') {
         Ok((key, rest)) => Ok((key, skip_ws(rest))),

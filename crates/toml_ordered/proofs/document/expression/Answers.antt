@@ -1,21 +1,17 @@
-use Rattle.std.proofs.Common.{arith, sym, ◌∙◌}
+use Rattle.std.proofs.Common.{arith, inr}
 use Rattle.toml_parser.specs.Reading.{key_view}
 use Rattle.toml_parser.specs.Strings.{recursion_limit}
-use Rattle.toml_ordered.proofs.Conflicts.{other_than, reason_in}
-use Rattle.toml_ordered.proofs.Blaming.{header_keyless, nameless_neither, valued_neither}
-use Rattle.toml_ordered.proofs.Heads.{pair_bad, pair_is, pair_nameless, reads_tells}
+use Rattle.toml_ordered.proofs.Conflicts.{reason_in}
+use Rattle.toml_ordered.proofs.Unblamed.{valued_neither}
+use Rattle.toml_ordered.proofs.Heads.{pair_bad, pair_is, pair_keyless, pair_nameless}
 use Rattle.toml_ordered.specs.Data.{node_view}
-use Rattle.toml_ordered.specs.Nesting.{ClashesIn, NestsPast, PairClashes, PairNestsPast}
+use Rattle.toml_ordered.specs.Nesting.{ClashesIn, ExpressionNestsPast, NestsPast, PairClashes}
 use Rattle.toml_ordered.proofs.document.expression.Goals as goal
-
-pub returns-then-first-eq91 : goal.returns-then-first-eq91
-returns-then-first-eq91 c = reads_tells _ c.args.s.now _ _ _ c.header.result
-    (nameless_neither c.args.s.now (header_keyless c.args.s.now (sym c.first.ensures ∙ c.if-first-eq91.true))) c.header.ensures
 
 pub returns-in-Err : goal.returns-in-Err
 returns-in-Err c = (
   λ real. pair_nameless c.args.s.now c.first.result c.first.ensures c.if-first-eq91.false (c.in-Err.ensures.0 real),
-  other_than _ _ c.in-Err.fault (λ real. nameless_neither c.args.s.now (c.in-Err.ensures.0 real)) c.in-Err.ensures.1,
+  pair_keyless c.args.s.now c.first.result c.first.ensures c.if-first-eq91.false c.in-Err.fault c.in-Err.ensures.0 c.in-Err.ensures.1,
 )
 
 pub returns-in-Ok-value : goal.returns-in-Ok-value
@@ -34,6 +30,6 @@ returns-in-Err-value c =
     let at = c.in-Ok.read.1.now in (
       λ real. pair_bad s c.first.result c.first.ensures c.if-first-eq91.false (key_view c.in-Ok.read.0) at c.in-Ok.ensures.0 (c.in-Err-value.ensures.0 real),
       reason_in c.in-Err-value.fault (λ key one two. ClashesIn recursion_limit key one two at) (PairClashes s) (λ left. NestsPast recursion_limit left at)
-          (PairNestsPast s) (λ key one two clash. (_, at, c.in-Ok.ensures.0, clash)) (λ left deep. (_, at, c.in-Ok.ensures.0, deep))
+          (ExpressionNestsPast s) (λ key one two clash. (_, at, c.in-Ok.ensures.0, clash)) (λ left deep. inr (_, at, c.in-Ok.ensures.0, deep))
           (λ real. valued_neither s (key_view c.in-Ok.read.0) at c.in-Ok.ensures.0) c.in-Err-value.ensures.1,
     )

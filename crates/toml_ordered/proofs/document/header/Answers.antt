@@ -1,6 +1,6 @@
 use Rattle.std.proofs.Common.{arith, inl, inr, length}
 use Rattle.toml_parser.specs.Reading.{key_view}
-use Rattle.toml_ordered.proofs.Heads.{AreBrackets, header_bad, header_one, header_open, header_two, no_text}
+use Rattle.toml_ordered.proofs.Heads.{AreBrackets, ends_text, header_bad, header_keyed, header_neither, header_one, header_open, header_two}
 use Rattle.toml_ordered.proofs.document.header.Goals as goal
 use Rattle.toml_ordered.proofs.document.header.Goals.{then-byte_at-eq91, else-byte_at-eq91}
 
@@ -12,7 +12,8 @@ returns-in-Err c =
     ] in (
       λ real. header_bad c.args.s.now c.requires c.byte_at.result c.byte_at.ensures c.if-byte_at-eq91.brackets c.skip.result.now c.skip.ensures.rest
           c.skip_ws.result.now c.skip_ws.ensures.rest are (c.in-Err.ensures.0 real),
-      c.in-Err.ensures.1,
+      header_keyed c.args.s.now c.requires c.byte_at.result c.byte_at.ensures c.if-byte_at-eq91.brackets c.skip.result.now c.skip.ensures.rest
+          c.skip_ws.result.now c.skip_ws.ensures.rest are c.in-Err.fault c.in-Err.ensures.1,
     )
 
 pub returns-then-brackets-eq1 : goal.returns-then-brackets-eq1
@@ -51,7 +52,9 @@ returns-else-first-eq93 c =
       | then-byte_at-eq91 w ↦ inl (w.if-byte_at-eq91.true, w.brackets-is)
       | else-byte_at-eq91 w ↦ inr (w.if-byte_at-eq91.false, w.brackets-is)
     ] in
-    no_text (length c.in-Ok.read.1.now) c.not_toml.result _ c.not_toml.ensures
+    ends_text (length c.in-Ok.read.1.now) c.not_toml.result _ _ _ c.not_toml.ensures
     (header_open c.args.s.now c.requires c.byte_at.result c.byte_at.ensures c.if-byte_at-eq91.brackets c.skip.result.now c.skip.ensures.rest
     c.skip_ws.result.now c.skip_ws.ensures.rest (key_view c.in-Ok.read.0) c.in-Ok.read.1.now c.in-Ok.ensures.0 c.if-brackets-eq1.false
     c.first.result c.first.ensures are c.if-first-eq93.false)
+    (header_neither c.args.s.now c.requires c.byte_at.result c.byte_at.ensures c.if-byte_at-eq91.brackets c.skip.result.now c.skip.ensures.rest
+    c.skip_ws.result.now c.skip_ws.ensures.rest (key_view c.in-Ok.read.0) c.in-Ok.read.1.now c.in-Ok.ensures.0 are)

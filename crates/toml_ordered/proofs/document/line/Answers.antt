@@ -1,6 +1,6 @@
 use Rattle.std.proofs.Common.{◌≡◌, true, length, sym, ◌∙◌}
 use Rattle.toml.specs.Parse.{ends_line}
-use Rattle.toml_ordered.proofs.Blaming.{expression_neither}
+use Rattle.toml_ordered.proofs.Unblamed.{expression_neither}
 use Rattle.toml_ordered.proofs.Heads.{ends_text, line_bad, line_goes_on, line_is}
 use Rattle.toml_ordered.specs.Reading.{expression_view}
 use Rattle.toml_ordered.proofs.document.line.Goals as goal

@@ -1,9 +1,9 @@
-use Rattle.std.proofs.Common.{refl, ap, length, ◌∙◌, arith}
-use Rattle.toml_ordered.proofs.Around.{braces_end, braces_nameless, braces_unnamed, inside_ends}
-use Rattle.toml_ordered.proofs.Conflicts.{other_than}
+use Rattle.std.proofs.Common.{ℕ, List, refl, ap, subst, length, ◌∙◌, arith}
+use Rattle.toml_ordered.proofs.Around.{braces_end, braces_keyless, braces_nameless, inside_ends}
 use Rattle.toml_ordered.proofs.Depths.{ends_within}
 use Rattle.toml_ordered.proofs.Heads.{closes, closes_not}
 use Rattle.toml_ordered.proofs.Trees.{node_view-Table}
+use Rattle.toml_ordered.specs.Nesting.{KeyTells}
 use Rattle.toml_ordered.specs.declared.tree.Origin.TheVariants.{Closed}
 use Rattle.toml_ordered.proofs.values.next_pair.Goals as goal
 
@@ -40,5 +40,6 @@ returns-in-Err c depth text known =
     let blank = c.skip_blank-start.ensures.rest in
     let other = closes_not 125 s c.skip_blank-start.result.now blank c.first.result c.first.ensures c.if-first-eq125.false in (
       (λ real. braces_nameless depth text c.args.table s known other (rw blank at (c.in-Err.ensures.0 real))),
-      other_than _ _ c.in-Err.fault (λ real. braces_unnamed depth text c.args.table s known (rw blank at (c.in-Err.ensures.0 real))) c.in-Err.ensures.1,
+      braces_keyless depth text c.args.table s known c.in-Err.fault (λ real. rw blank at (c.in-Err.ensures.0 real))
+          (subst (λ (t : List ℕ). KeyTells t c.in-Err.fault) blank c.in-Err.ensures.1),
     )

@@ -1,0 +1,33 @@
+use Rattle.std.proofs.Common.{◌≡◌, slice_index, sym, ◌∙◌}
+use Rattle.toml_ordered.proofs.Heads.{no_token}
+use Rattle.toml_ordered.proofs.LongKeys.{empty_passed, quote_ascii, quotes_differ}
+use Rattle.toml_ordered.proofs.long_keys.past_string.Goals as goal
+
+pub skip-requires-clause-there : goal.skip-requires-clause-there
+skip-requires-clause-there c =
+    let here : slice_index c.args.s.now 1 ≡ slice_index c.args.s.now 0 = sym c.byte_at.ensures ∙ c.if-byte_at-byte.true ∙ c.first-byte.ensures in
+    rw here (quote_ascii c.args.s.now c.requires).0
+
+pub skip-requires-clause-ascii : goal.skip-requires-clause-ascii
+skip-requires-clause-ascii c =
+    let here : slice_index c.args.s.now 1 ≡ slice_index c.args.s.now 0 = sym c.byte_at.ensures ∙ c.if-byte_at-byte.true ∙ c.first-byte.ensures in
+    rw here (quote_ascii c.args.s.now c.requires).1
+
+pub returns-then-byte_at-byte : goal.returns-then-byte_at-byte
+returns-then-byte_at-byte c = (
+  empty_passed c.args.s.now c.first-byte.result c.first-byte.ensures c.byte_at.result c.byte_at.ensures c.if-byte_at-byte.true c.requires c.skip.result.now
+      c.skip.ensures.rest,
+  c.skip.ensures.shorter,
+)
+
+pub returns : goal.returns
+returns c =
+    let same =
+    quotes_differ c.args.s.now c.first-byte.result c.first-byte.ensures c.byte_at.result c.byte_at.ensures c.if-byte_at-byte.false c.requires in
+    ((_, same ∙ c.in-Ok.ensures.value), c.in-Ok.ensures.shorter)
+
+pub returns-in-Err : goal.returns-in-Err
+returns-in-Err c =
+    let same =
+    quotes_differ c.args.s.now c.first-byte.result c.first-byte.ensures c.byte_at.result c.byte_at.ensures c.if-byte_at-byte.false c.requires in
+    no_token c.in-Err.error c.from.result _ c.from.ensures (λ real. same ∙ c.in-Err.ensures.value real)
