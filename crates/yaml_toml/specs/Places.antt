@@ -21,8 +21,8 @@ abbrev pub HasTomlPlace : (text : List ℕ) → TomlError → Type 0
 HasTomlPlace text error = DeniesToml error → (left : ℕ) × StopsAtExpression text left × IsBeforeLeft text left error
 
 -- If an error says that a key is defined again, the text defines this key at both places of the error, and the key takes no more; if it says
--- that nothing is read that deep, a value in the text nests so deep at its place. If it says only that the text isn't TOML, the text does
--- neither.
+-- that nothing is read that deep, a value in the text nests so deep at its place, or a key of more than 80 parts begins there. If it says only
+-- that the text isn't TOML, the text does neither.
 abbrev pub HasTomlReason : (text : List ℕ) → TomlError → Type 0
 HasTomlReason text (errors.TooDeepToRead line column) = (left : ℕ) × NestsTooDeep text left × AreOf text (length text - left) line column
 HasTomlReason text (errors.DefinedAgain key first_line first_column line column) =

@@ -6,8 +6,7 @@ use yaml_writer::yaml_error_t;
 /// The reason why a text isn't written as YAML. Lines end with LF, and lines and columns count from 1, columns in characters.
 #[derive(Debug, Drop, Error)]
 pub enum TomlError {
-    /// The text is no TOML: it can't go on here, and it is neither `DefinedAgain` nor `TooDeepToRead`. A key of more than 80 parts counts as no
-    /// TOML.
+    /// The text is no TOML: it can't go on here, and it is neither `DefinedAgain` nor `TooDeepToRead`.
     #[error("line {line}, column {column}: not TOML")]
     NotToml {
         line: usize,
@@ -23,7 +22,8 @@ pub enum TomlError {
         line: usize,
         column: usize,
     },
-    /// An array or a table in braces begins here within 80 others: none is read that deep, whatever is allowed.
+    /// An array or a table in braces begins here within 80 others, or a key of more than 80 parts: none is read that deep, whatever is
+    /// allowed.
     #[error("line {line}, column {column}: arrays and tables nest too deep")]
     TooDeepToRead {
         line: usize,

@@ -63,10 +63,10 @@ fn error_of(text: &str, fault: Fault) -> TomlError
 /// # Errors
 ///
 /// `NotToml` and `DefinedAgain` if the text is no document of TOML 1.1, and `TooDeepToRead` if arrays and tables in braces nest more than
-/// 80 deep, even if `settings.depth` allows it: nothing is written then. `TooDeep` if arrays and tables nest deeper than `settings.depth`.
-/// `Emitter` with the error of the writer's emitter, which has it from then on, or with `Memory` if an allocation fails. After an error the
-/// writer was given the first of the document's events, and no earlier output is lost. Its form is unchanged, those arrays and tables are open
-/// that the given events leave open, and the next node has no anchor and no tag.
+/// 80 deep, or a key has more than 80 parts, even if `settings.depth` allows it: nothing is written then. `TooDeep` if arrays and tables
+/// nest deeper than `settings.depth`. `Emitter` with the error of the writer's emitter, which has it from then on, or with `Memory` if an
+/// allocation fails. After an error the writer was given the first of the document's events, and no earlier output is lost. Its form is
+/// unchanged, those arrays and tables are open that the given events leave open, and the next node has no anchor and no tag.
 pub fn write_toml<A: Allocator + Copy>(
     alloc: Global,
     writer: &mut Writer<A>,
