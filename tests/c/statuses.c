@@ -349,6 +349,11 @@ static void toml_refused(void) {
 #define EIGHTY_ARRAYS TEN_ARRAYS TEN_ARRAYS TEN_ARRAYS TEN_ARRAYS TEN_ARRAYS TEN_ARRAYS TEN_ARRAYS TEN_ARRAYS
     toml_stops("80 arrays without their ends", "a = " EIGHTY_ARRAYS, given, YAML_NOT_TOML, 1, 85);
     toml_stops("a table in 80 arrays", "a = " EIGHTY_ARRAYS "{}", given, YAML_TOO_DEEP, 1, 85);
+#define TEN_PARTS "a.a.a.a.a.a.a.a.a.a."
+#define EIGHTY_PARTS TEN_PARTS TEN_PARTS TEN_PARTS TEN_PARTS TEN_PARTS TEN_PARTS TEN_PARTS TEN_PARTS
+    toml_stops("a key of 81 parts", "b = 1\n" EIGHTY_PARTS "a = 1\n", given, YAML_TOO_DEEP, 2, 1);
+    toml_stops("a header of 81 parts", "[" EIGHTY_PARTS "a]\n", given, YAML_TOO_DEEP, 1, 2);
+    toml_stops("80 parts and a dot", EIGHTY_PARTS "= 1\n", given, YAML_NOT_TOML, 1, 161);
     given.depth = 1;
     toml_stops("too deep", "a = 1\nb = []\n", given, YAML_TOO_DEEP, 0, 0);
 }
