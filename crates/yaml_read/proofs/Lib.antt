@@ -47,3 +47,9 @@ pub mod TagTexts
 pub mod TagPrefixes
 pub mod NodeTexts
 pub mod EventPlaces
+pub mod OneWays
+pub mod CharacterWays
+pub mod NodeWays
+pub mod Walks
+pub mod TextWalks
+pub mod OnePlace

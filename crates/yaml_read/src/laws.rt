@@ -1,12 +1,15 @@
 //! Laws of canonical bytes and their words, the contracts of functions that do nothing.
-ghost use Rattle.std.specs.Prelude.{◌-◌, ◌<◌, ◌≡◌, IfErr, IfOk, List, Result, Vec, length, take, ℕ};
+ghost use Rattle.std.specs.Prelude.{◌-◌, ◌<◌, ◌≡◌, ◌⊎◌, IfErr, IfOk, List, Result, Some, Vec, length, take, ℕ};
+ghost use Rattle.yaml_base.specs.Encoding.{encode};
+ghost use Rattle.yaml_base.specs.Settings.{utf8};
 ghost use Rattle.yaml_base.specs.graphs.Isomorphic.{Isomorphic};
 ghost use Rattle.yaml_base.specs.graphs.Meetings.{Graph};
 ghost use Rattle.yaml_base.specs.values.TypedValues.{TypedValue, WritesValue, most_nested, nesting};
+ghost use Rattle.yaml_base.specs.values.ValueText.{document_text};
 ghost use Rattle.yaml_read.specs.DocumentTexts.{AreDumpedBytes};
 ghost use Rattle.yaml_read.specs.Grammar.{behind_value, node};
 ghost use Rattle.yaml_read.specs.Opened.{HasRead, IsOpen};
-ghost use Rattle.yaml_read.specs.Places.{BreaksOff};
+ghost use Rattle.yaml_read.specs.Places.{BreaksOff, IsPlaced};
 ghost use Rattle.yaml_read.specs.ReadBack.{IsAnswerTo};
 ghost use Rattle.yaml_read.specs.Readable.{CanBeRead};
 ghost use Rattle.yaml_read.specs.Remaining.{IsDue, IsRead};
@@ -49,6 +52,15 @@ pub fn texts_begin_up_to_places()
         → length levels < most_nested → BreaksOff (node (length levels)) bytes left → BeginsValue (take (length whole - left) whole) }
     ensures behind_node { (whole : List ℕ) (levels : List OpenLevel) (value : TypedValue) (bytes : List ℕ) (left : ℕ)
         → HasRead whole levels value bytes → BreaksOff (behind_value levels) bytes left → BeginsValue (take (length whole - left) whole) }
+{}
+
+/// States that bytes have one place of their fault. Two errors that have their place in the same bytes are the same, unless one of
+/// them is `Memory`; and no other error has a place in the canonical bytes of a value that can be read.
+pub fn bytes_have_one_place()
+    ensures one { (bytes : List ℕ) (one other : ReadError) → IsPlaced bytes one → IsPlaced bytes other
+        → (one ≡ told.Memory) ⊎ ((other ≡ told.Memory) ⊎ (one ≡ other)) }
+    ensures nowhere { (value : TypedValue) (error : ReadError) → CanBeRead value → IsPlaced (encode (Some utf8) (document_text value)) error
+        → error ≡ told.Memory }
 {}
 
 /// States that documents whose dumps have the same canonical bytes say the same: the parts of their graphs that the roots reach are

@@ -19,8 +19,8 @@ mod tags;
 pub use documents::read_document;
 pub use errors::ReadError;
 pub use laws::{
-    dumped_bytes_tell_graphs, texts_begin_up_to_places, words_are_those_of_texts,
-    written_values_are_read,
+    bytes_have_one_place, dumped_bytes_tell_graphs, texts_begin_up_to_places,
+    words_are_those_of_texts, written_values_are_read,
 };
 pub use reading::read_canonical;
 pub use yaml_value::Value;

@@ -1,0 +1,332 @@
+-- Bytes have one place of their fault.
+use Rattle.yaml_base.proofs.Common.{ℕ, ◌+◌, ◌*◌, ◌-◌, ◌<◌, ◌≤◌, suc, Bool, true, false, true≢false, Option, None, Some, List, [], ◌∷◌, ◌++◌, refl, ◌≡◌, ap}
+use Rattle.yaml_base.proofs.Common.{subst, sym, ◌∙◌, ◌⊎◌, inl, inr, append_assoc, append-nil, arith, codes, encode, encode_utf8_all, length, line_feed, Text, utf8}
+use Rattle.yaml_base.specs.values.TypedValues.{TypedPairs, TypedValue, most_nested}
+use Rattle.yaml_base.specs.values.LinesAndColumns.{column_of, line_of}
+use Rattle.yaml_base.specs.values.ValueText.{document_text, entry_lead, has_no_value_pairs, line_at, pairs_text, value_text}
+use Rattle.std.proofs.lemmas.List.{append_cancel_left}
+use Rattle.std.proofs.lemmas.Str.{utf8_valid_len-IsValidUpTo}
+use Rattle.std.specs.Str.{IsUtf8, IsValidUpTo}
+use Rattle.yaml_value.specs.OpenLevels.{OpenLevel, items_open, pairs_open, value_due}
+use Rattle.yaml_read.specs.Grammar.{behind_value, entry_end, line_then, node, nothing, word_then}
+use Rattle.yaml_read.specs.Opened.{HasRead, IsOpen, OpenCanBeRead, opened_text}
+use Rattle.yaml_read.specs.Places.{BreaksInValue, BreaksOff, CannotStand, IsBehindMarker, IsPlaced, OpensPastDepth, behind_all, behind_node, in_node}
+use Rattle.yaml_read.specs.Readable.{AllCanBeReadAt, CanBeRead, CanBeReadAt, PairsCanBeReadAt}
+use Rattle.yaml_read.specs.Remaining.{column_in}
+use Rattle.yaml_read.specs.declared.errors.ReadError.{ReadError}
+use Rattle.yaml_read.specs.declared.errors.ReadError.TheVariants as told
+use Rattle.yaml_read.specs.declared.heads.Kind.TheVariants as kind
+use Rattle.yaml_read.proofs.OneWays.{nothing_more, nothing_way, place_same, whole_breaks, word_way, words_same}
+use Rattle.yaml_read.proofs.TextWalks.{LeadsTo, items_lead, key_leads, list_begun, map_begun, pairs_lead, same_leads, then_leads, value_leads, words_lead}
+use Rattle.yaml_read.proofs.Walks.{Halts, Spot, Walk, a_key, a_list, a_map, at_node, after_node, broken_halts, mark, next_spot, one_halt, one_walk, at_end, past_halts}
+use Rattle.yaml_read.proofs.Walks.{stays, walk_on, way_at, words_at}
+use Rattle.yaml_base.proofs.Decoding.{text_bytes-utf8}
+use Rattle.yaml_read.proofs.{Encoded.word_encoded, HeadsRead.word_bytes, Remaining.readable_root, Scalars.document_utf8}
+use Rattle.yaml_read.proofs.{Turns.column_is, WordTexts.flat}
+
+-- ---- lists and maps that are open, without what they hold
+
+abbrev bare : List OpenLevel → List OpenLevel
+bare [] = []
+bare (items_open items ∷ levels) = a_list ∷ bare levels
+bare (pairs_open pairs ∷ levels) = a_map ∷ bare levels
+bare (value_due pairs key ∷ levels) = a_key ∷ bare levels
+
+bare_length : (levels : List OpenLevel) → length levels ≡ length (bare levels)
+bare_length [] = refl
+bare_length (items_open items ∷ levels) = ap (λ n. suc n) (bare_length levels)
+bare_length (pairs_open pairs ∷ levels) = ap (λ n. suc n) (bare_length levels)
+bare_length (value_due pairs key ∷ levels) = ap (λ n. suc n) (bare_length levels)
+
+bare_column : (levels : List OpenLevel) → column_in levels ≡ length (bare levels) * 2
+bare_column levels = column_is levels ∙ ap (λ n. n * 2) (bare_length levels)
+
+few_bare : (levels : List OpenLevel) → length levels < most_nested → length (bare levels) < most_nested
+few_bare levels room = subst (λ n. n < most_nested) (bare_length levels) room
+
+-- ---- the text that was read
+
+-- a key in a map that is open
+key_opened : (levels : List OpenLevel) (column : ℕ) (pairs : TypedPairs) (key : TypedValue) (outer : Text) → column ≡ length levels * 2
+    → LeadsTo (at_node []) outer (at_node levels) → length levels < most_nested → PairsCanBeReadAt (suc (length levels)) pairs
+    → CanBeReadAt (suc (length levels)) key
+    → LeadsTo (at_node [])
+    (outer ++ (codes "!!map" ++ (pairs_text (column + 2) pairs ++ (entry_lead (codes "{") (has_no_value_pairs pairs)
+    ++ (line_at (column + 2) ++ (codes "? " ++ (value_text (column + 2) key ++ (line_at (column + 2) ++ codes ": "))))))))
+    (at_node (a_key ∷ levels))
+key_opened levels column pairs key outer same leads room readable also =
+    let begun = map_begun column pairs in
+    let text = value_text (column + 2) key in
+    let line = line_at (column + 2) in
+    same_leads (at_node []) (at_node (a_key ∷ levels)) (outer ++ ((begun ++ text) ++ (line ++ codes ": "))) _
+    (regroup outer (pairs_text (column + 2) pairs) (entry_lead (codes "{") (has_no_value_pairs pairs)) line text)
+    (then_leads (at_node []) (at_node levels) (at_node (a_key ∷ levels)) outer ((begun ++ text) ++ (line ++ codes ": ")) leads
+    (key_leads levels column same begun text (pairs_lead pairs levels column same room readable)
+    (value_leads key (a_map ∷ levels) (column + 2) (omega (arith, same)) also)))
+  where
+    regroup : (o p l n k : Text)
+        → o ++ (codes "!!map" ++ (p ++ (l ++ (n ++ (codes "? " ++ (k ++ (n ++ codes ": ")))))))
+        ≡ o ++ (((codes "!!map" ++ (p ++ (l ++ (n ++ codes "? ")))) ++ k) ++ (n ++ codes ": "))
+    regroup o p l n k = simp append_assoc
+
+opened_leads : (levels : List OpenLevel) → OpenCanBeRead levels → LeadsTo (at_node []) (opened_text levels) (at_node (bare levels))
+opened_leads [] readable = record { walk = λ rest. stays (at_node []) rest }
+opened_leads (items_open items ∷ levels) readable =
+    then_leads (at_node []) (at_node (bare levels)) (at_node (a_list ∷ bare levels)) (opened_text levels) (list_begun (column_in levels) items)
+    (opened_leads levels readable.0)
+    (items_lead items (bare levels) (column_in levels) (bare_column levels) (few_bare levels readable.1.0)
+    (subst (λ n. AllCanBeReadAt (suc n) items) (bare_length levels) readable.1.1))
+opened_leads (pairs_open pairs ∷ levels) readable =
+    then_leads (at_node []) (at_node (bare levels)) (at_node (a_map ∷ bare levels)) (opened_text levels) (map_begun (column_in levels) pairs)
+    (opened_leads levels readable.0)
+    (pairs_lead pairs (bare levels) (column_in levels) (bare_column levels) (few_bare levels readable.1.0)
+    (subst (λ n. PairsCanBeReadAt (suc n) pairs) (bare_length levels) readable.1.1))
+opened_leads (value_due pairs key ∷ levels) readable =
+    key_opened (bare levels) (column_in levels) pairs key (opened_text levels) (bare_column levels) (opened_leads levels readable.0)
+    (few_bare levels readable.1.0) (subst (λ n. PairsCanBeReadAt (suc n) pairs) (bare_length levels) readable.1.1.0)
+    (subst (λ n. CanBeReadAt (suc n) key) (bare_length levels) readable.1.1.1)
+
+opened_walk : (whole bytes : List ℕ) (levels : List OpenLevel) → IsOpen whole levels bytes → Walk (at_node []) whole (at_node (bare levels)) bytes
+opened_walk whole bytes levels opened =
+    subst (λ (t : List ℕ). Walk (at_node []) t (at_node (bare levels)) bytes) (sym opened.text) ((opened_leads levels opened.readable).walk bytes)
+
+read_walk : (whole bytes : List ℕ) (levels : List OpenLevel) (value : TypedValue) → HasRead whole levels value bytes
+    → Walk (at_node []) whole (after_node (bare levels)) bytes
+read_walk whole bytes levels value read =
+    subst (λ (t : List ℕ). Walk (at_node []) t (after_node (bare levels)) bytes) (sym read.text)
+    ((then_leads (at_node []) (at_node (bare levels)) (after_node (bare levels)) (opened_text levels) (value_text (column_in levels) value)
+    (opened_leads levels read.outer)
+    (value_leads value (bare levels) (column_in levels) (bare_column levels) (subst (λ n. CanBeReadAt n value) (bare_length levels) read.readable))).walk bytes)
+
+-- ---- why no way leads on
+
+-- so far before the end of these bytes a word is missing, or more follows the text, or a list or a map opens too deep
+data Stops : Spot → List ℕ → (deep : Bool) → ℕ → Type 0 where
+  breaks : (spot : Spot) (bytes : List ℕ) (left : ℕ) → BreaksOff (words_at spot) bytes left → Stops spot bytes false left
+  follows : (bytes : List ℕ) → 0 < length bytes → Stops at_end bytes false (length bytes)
+  too_deep : (levels : List OpenLevel) (bytes : List ℕ) (words : List (List ℕ)) (inside : List ℕ) → node (length levels) words
+      → next_spot (at_node levels) (mark words) ≡ None → bytes ≡ flat words ++ inside → Stops (at_node levels) bytes true (length bytes)
+
+none_some : (a : Spot) → ◌≡◌ {A = Option Spot} None (Some a) → ⊥
+none_some a is = cc
+
+stops_halt : (spot : Spot) (bytes : List ℕ) (deep : Bool) (left : ℕ) → Stops spot bytes deep left → Halts spot bytes
+stops_halt _ _ _ _ (breaks spot bytes left breaks_off) = broken_halts spot bytes left breaks_off
+stops_halt _ _ _ _ (follows bytes some) = past_halts bytes
+stops_halt _ _ _ _ (too_deep levels bytes words inside are none is) =
+    record {
+      none = λ next rest others also to starts.
+          let same = words_same (words_at (at_node levels)) words others inside rest (way_at (at_node levels)) are also (sym is ∙ starts) in
+          none_some next (sym none ∙ ap (λ ws. next_spot (at_node levels) (mark ws)) same ∙ to);
+    }
+
+nothing_breaks : (bytes : List ℕ) (left : ℕ) → BreaksOff nothing bytes left → ⊥
+nothing_breaks bytes left breaks_off = nothing_more breaks_off.read breaks_off.due breaks_off.more breaks_off.begins
+
+stops_once : (spot : Spot) (bytes : List ℕ) (deep dark : Bool) (left other : ℕ) → Stops spot bytes deep left → Stops spot bytes dark other
+    → (deep ≡ dark) × (left ≡ other)
+stops_once _ _ _ _ _ _ (breaks spot bytes left first) (breaks _ _ other second) = (refl, place_same (words_at spot) bytes left other (way_at spot) first second)
+stops_once _ _ _ _ _ _ (breaks _ bytes left first) (follows _ some) = absurd (nothing_breaks bytes left first)
+stops_once _ _ _ _ _ _ (breaks _ bytes left first) (too_deep levels _ words inside are none is) =
+    absurd (whole_breaks (words_at (at_node levels)) bytes left words inside (way_at (at_node levels)) first are is)
+stops_once _ _ _ _ _ _ (follows bytes some) (breaks _ _ other second) = absurd (nothing_breaks bytes other second)
+stops_once _ _ _ _ _ _ (follows bytes some) (follows _ more) = (refl, refl)
+stops_once _ _ _ _ _ _ (too_deep levels bytes words inside are none is) (breaks _ _ other second) =
+    absurd (whole_breaks (words_at (at_node levels)) bytes other words inside (way_at (at_node levels)) second are is)
+stops_once _ _ _ _ _ _ (too_deep levels bytes words inside are none is) (too_deep _ _ others after also nil starts) = (refl, refl)
+
+-- the place to which a reader comes
+record Found (whole : List ℕ) (deep : Bool) (left : ℕ) : Type 0 where
+  pub spot : Spot
+  pub bytes : List ℕ
+  pub walk : Walk (at_node []) whole spot bytes
+  pub stops : Stops spot bytes deep left
+
+found_once : (whole : List ℕ) (deep dark : Bool) (left other : ℕ) → Found whole deep left → Found whole dark other → (deep ≡ dark) × (left ≡ other)
+found_once whole deep dark left other one two =
+    let same = one_halt (at_node []) one.spot two.spot whole one.bytes two.bytes one.walk two.walk (stops_halt one.spot one.bytes deep left one.stops)
+    (stops_halt two.spot two.bytes dark other two.stops) in
+    stops_once one.spot one.bytes deep dark left other one.stops
+    (subst (λ (s : Spot). Stops s one.bytes dark other) (sym same.spot)
+    (subst (λ (b : List ℕ). Stops two.spot b dark other) (sym same.bytes) two.stops))
+
+behind_bare : (levels : List OpenLevel) (bytes : List ℕ) (left : ℕ) → BreaksOff (behind_value levels) bytes left
+    → BreaksOff (behind_value (bare levels)) bytes left
+behind_bare [] bytes left breaks_off = breaks_off
+behind_bare (items_open items ∷ levels) bytes left breaks_off =
+    subst (λ n. BreaksOff (entry_end n (codes "  ") (codes "]")) bytes left) (bare_length levels) breaks_off
+behind_bare (value_due pairs key ∷ levels) bytes left breaks_off =
+    subst (λ n. BreaksOff (entry_end n (codes "  ? ") (codes "}")) bytes left) (bare_length levels) breaks_off
+behind_bare (pairs_open pairs ∷ levels) bytes left breaks_off =
+    subst (λ n. BreaksOff (line_then n (word_then (codes "  : ") nothing)) bytes left) (bare_length levels) breaks_off
+
+breaks_found : (whole : List ℕ) (left : ℕ) → BreaksInValue whole left → Found whole false left
+breaks_found whole left (in_node levels bytes opened breaks_off) =
+    record {
+      spot = at_node (bare levels);
+      bytes = bytes;
+      walk = opened_walk whole bytes levels opened;
+      stops = breaks (at_node (bare levels)) bytes left (subst (λ n. BreaksOff (node n) bytes left) (bare_length levels) breaks_off);
+    }
+breaks_found whole left (behind_node levels value bytes read breaks_off) =
+    record {
+      spot = after_node (bare levels);
+      bytes = bytes;
+      walk = read_walk whole bytes levels value read;
+      stops = breaks (after_node (bare levels)) bytes left (behind_bare levels bytes left breaks_off);
+    }
+breaks_found whole left (behind_all value bytes rest read is some place) =
+    record {
+      spot = at_end;
+      bytes = rest;
+      walk = walk_on (at_node []) (after_node []) at_end whole bytes rest (read_walk whole bytes [] value read)
+          (one_walk (after_node []) at_end bytes rest (codes "\n" ∷ []) (refl, tt) refl is);
+      stops = subst (λ n. Stops at_end rest false n) (sym place) (follows rest some);
+    }
+
+deep_by : (levels : List OpenLevel) (bytes inside : List ℕ) → most_nested ≤ length levels
+    → (bytes ≡ codes "!!seq [" ++ inside) ⊎ (bytes ≡ codes "!!map {" ++ inside) → Stops (at_node levels) bytes true (length bytes)
+deep_by levels bytes inside many (inl is) =
+    too_deep levels bytes (codes "!!seq " ∷ codes "[" ∷ []) inside (kind.List, (refl, (refl, inr (many, tt)))) refl is
+deep_by levels bytes inside many (inr is) =
+    too_deep levels bytes (codes "!!map " ∷ codes "{" ∷ []) inside (kind.Map, (refl, (refl, inr (many, tt)))) refl is
+
+deep_found : (whole : List ℕ) (left : ℕ) → OpensPastDepth whole left → Found whole true left
+deep_found whole left deep =
+    record {
+      spot = at_node (bare deep.levels);
+      bytes = deep.bytes;
+      walk = opened_walk whole deep.bytes deep.levels deep.opened;
+      stops =
+          subst (λ n. Stops (at_node (bare deep.levels)) deep.bytes true n) (sym deep.place)
+          (deep_by (bare deep.levels) deep.bytes deep.inside (omega (arith, deep.full, bare_length deep.levels)) deep.begins);
+    }
+
+-- ---- bytes
+
+marker_is : (bytes whole : List ℕ) (left : ℕ) → BreaksOff (word_then (codes "---\n") nothing) bytes left → bytes ≡ codes "---\n" ++ whole → ⊥
+marker_is bytes whole left breaks_off is =
+    whole_breaks (word_then (codes "---\n") nothing) bytes left (codes "---\n" ∷ []) whole (word_way (codes "---\n") nothing nothing_way) breaks_off (refl, tt) is
+
+-- what follows a document's first line
+behind_marker : (bytes : List ℕ) (Holds Held : List ℕ → Type 0) → IsBehindMarker bytes Holds → IsBehindMarker bytes Held
+    → (whole : List ℕ) × (Holds whole) × (Held whole)
+behind_marker bytes Holds Held one other =
+    (one.0, one.2, subst Held (append_cancel_left (codes "---\n") other.0 one.0 (sym other.1 ∙ one.1)) other.2)
+
+stands_once : (bytes : List ℕ) (left other : ℕ) → CannotStand bytes left → CannotStand bytes other → left ≡ other
+stands_once bytes left other (inl first) (inl second) =
+    place_same (word_then (codes "---\n") nothing) bytes left other (word_way (codes "---\n") nothing nothing_way) first second
+stands_once bytes left other (inl first) (inr second) = absurd (marker_is bytes second.0 left first second.1)
+stands_once bytes left other (inr first) (inl second) = absurd (marker_is bytes first.0 other second first.1)
+stands_once bytes left other (inr first) (inr second) =
+    let both = behind_marker bytes (λ whole. BreaksInValue whole left) (λ whole. BreaksInValue whole other) first second in
+    (found_once both.0 false false left other (breaks_found both.0 left both.1) (breaks_found both.0 other both.2)).1
+
+deep_once : (bytes : List ℕ) (left other : ℕ) → IsBehindMarker bytes (λ whole. OpensPastDepth whole left)
+    → IsBehindMarker bytes (λ whole. OpensPastDepth whole other) → left ≡ other
+deep_once bytes left other first second =
+    let both = behind_marker bytes (λ whole. OpensPastDepth whole left) (λ whole. OpensPastDepth whole other) first second in
+    (found_once both.0 true true left other (deep_found both.0 left both.1) (deep_found both.0 other both.2)).1
+
+not_both : (bytes : List ℕ) (left other : ℕ) → CannotStand bytes left → IsBehindMarker bytes (λ whole. OpensPastDepth whole other) → ⊥
+not_both bytes left other (inl first) second = marker_is bytes second.0 left first second.1
+not_both bytes left other (inr first) second =
+    let both = behind_marker bytes (λ whole. BreaksInValue whole left) (λ whole. OpensPastDepth whole other) first second in
+    true≢false (sym (found_once both.0 false true left other (breaks_found both.0 left both.1) (deep_found both.0 other both.2)).0)
+
+-- ---- errors
+
+abbrev IsFault : List ℕ → ℕ → Type 0
+IsFault bytes offset = ((IsUtf8 bytes → ⊥) × IsValidUpTo bytes offset) ⊎ ((left : ℕ) × IsUtf8 bytes × (offset ≡ length bytes - left) × CannotStand bytes left)
+
+fault_once : (bytes : List ℕ) (one other : ℕ) → IsFault bytes one → IsFault bytes other → one ≡ other
+fault_once bytes one other (inl first) (inl second) =
+    sym (utf8_valid_len-IsValidUpTo bytes one first.1) ∙ utf8_valid_len-IsValidUpTo bytes other second.1
+fault_once bytes one other (inl first) (inr second) = absurd (first.0 second.1)
+fault_once bytes one other (inr first) (inl second) = absurd (second.0 first.1)
+fault_once bytes one other (inr first) (inr second) =
+    first.2 ∙ ap (λ n. length bytes - n) (stands_once bytes first.0 second.0 first.3 second.3) ∙ sym second.2
+
+no_fault : (bytes : List ℕ) (one other : ℕ) → IsFault bytes one → IsUtf8 bytes → IsBehindMarker bytes (λ whole. OpensPastDepth whole other) → ⊥
+no_fault bytes one other (inl first) valid second = first.0 valid
+no_fault bytes one other (inr first) valid second = not_both bytes first.0 other first.3 second
+
+-- the same place
+lines_same : (Error : ℕ → ℕ → ReadError) (bytes : List ℕ) (one other line column next across : ℕ) → one ≡ other → line ≡ line_of bytes one
+    → column ≡ column_of bytes one → next ≡ line_of bytes other → across ≡ column_of bytes other → Error line column ≡ Error next across
+lines_same Error bytes one other line column next across same first second third fourth =
+    ap (λ n. Error n column) (first ∙ ap (line_of bytes) same ∙ sym third) ∙ ap (λ n. Error next n) (second ∙ ap (column_of bytes) same ∙ sym fourth)
+
+-- bytes have one fault, at one place
+pub one_place : (bytes : List ℕ) (one other : ReadError) → IsPlaced bytes one → IsPlaced bytes other
+    → (one ≡ told.Memory) ⊎ ((other ≡ told.Memory) ⊎ (one ≡ other))
+one_place bytes told.Memory other first second = inl refl
+one_place bytes told.NotNumbered other first second = absurd first
+one_place bytes one told.Memory first second = inr (inl refl)
+one_place bytes one told.NotNumbered first second = absurd second
+one_place bytes (told.NotCanonical line column) (told.NotCanonical next across) first second =
+    inr (inr (lines_same (λ l c. told.NotCanonical l c) bytes first.0 second.0 line column next across
+    (fault_once bytes first.0 second.0 first.3 second.3) first.1 first.2 second.1 second.2))
+one_place bytes (told.NotCanonical line column) (told.TooDeep next across) first second =
+    absurd (no_fault bytes first.0 second.3.0 first.3 second.3.1 second.3.3)
+one_place bytes (told.TooDeep line column) (told.NotCanonical next across) first second =
+    absurd (no_fault bytes second.0 first.3.0 second.3 first.3.1 first.3.3)
+one_place bytes (told.TooDeep line column) (told.TooDeep next across) first second =
+    inr (inr (lines_same (λ l c. told.TooDeep l c) bytes first.0 second.0 line column next across
+    (first.3.2 ∙ ap (λ n. length bytes - n) (deep_once bytes first.3.0 second.3.0 first.3.3 second.3.3) ∙ sym second.3.2)
+    first.1 first.2 second.1 second.2))
+
+-- ---- the bytes of a value
+
+-- a reader comes to their end
+value_walk : (value : TypedValue) → CanBeReadAt 0 value
+    → Walk (at_node []) (encode_utf8_all (value_text 0 value ++ line_feed ∷ []) ++ []) at_end []
+value_walk value readable =
+    (then_leads (at_node []) (after_node []) at_end (value_text 0 value) (line_feed ∷ []) (value_leads value [] 0 refl readable)
+    (words_lead (after_node []) at_end (line_feed ∷ []) (codes "\n" ∷ []) (refl, tt) refl (word_bytes (codes "\n") refl))).walk []
+
+ends_right : (deep : Bool) (bytes : List ℕ) (left : ℕ) → bytes ≡ [] → Stops at_end bytes deep left → ⊥
+ends_right _ _ _ is (breaks _ bytes left breaks_off) = nothing_breaks bytes left breaks_off
+ends_right _ _ _ is (follows bytes some) = absurd (omega (arith, some, ap length is))
+
+not_found : (value : TypedValue) (whole : List ℕ) (deep : Bool) (left : ℕ) → CanBeReadAt 0 value
+    → whole ≡ encode_utf8_all (value_text 0 value ++ line_feed ∷ []) → Found whole deep left → ⊥
+not_found value whole deep left readable is found =
+    let walk = subst (λ (t : List ℕ). Walk (at_node []) t at_end []) (append-nil (encode_utf8_all (value_text 0 value ++ line_feed ∷ [])) ∙ sym is)
+    (value_walk value readable) in
+    let same = one_halt (at_node []) found.spot at_end whole found.bytes [] found.walk walk
+    (stops_halt found.spot found.bytes deep left found.stops) (past_halts []) in
+    ends_right deep found.bytes left same.bytes (subst (λ (s : Spot). Stops s found.bytes deep left) same.spot found.stops)
+
+stands_not : (value : TypedValue) (bytes : List ℕ) (left : ℕ) → CanBeReadAt 0 value
+    → bytes ≡ codes "---\n" ++ encode_utf8_all (value_text 0 value ++ line_feed ∷ []) → CannotStand bytes left → ⊥
+stands_not value bytes left readable is (inl first) =
+    marker_is bytes (encode_utf8_all (value_text 0 value ++ line_feed ∷ [])) left first is
+stands_not value bytes left readable is (inr first) =
+    not_found value first.0 false left readable
+    (append_cancel_left (codes "---\n") first.0 (encode_utf8_all (value_text 0 value ++ line_feed ∷ [])) (sym first.1 ∙ is))
+    (breaks_found first.0 left first.2)
+
+-- they have no place of a fault
+nowhere : (value : TypedValue) (bytes : List ℕ) (error : ReadError) → CanBeReadAt 0 value → IsUtf8 bytes
+    → bytes ≡ codes "---\n" ++ encode_utf8_all (value_text 0 value ++ line_feed ∷ []) → IsPlaced bytes error → error ≡ told.Memory
+nowhere value bytes told.Memory readable valid is placed = refl
+nowhere value bytes told.NotNumbered readable valid is placed = absurd placed
+nowhere value bytes (told.NotCanonical line column) readable valid is placed = absurd (by placed.3)
+  where
+    by : IsFault bytes placed.0 → ⊥
+    by (inl first) = first.0 valid
+    by (inr first) = stands_not value bytes first.0 readable is first.3
+nowhere value bytes (told.TooDeep line column) readable valid is placed =
+    let deep = placed.3.3 in
+    absurd (not_found value deep.0 true placed.3.0 readable
+    (append_cancel_left (codes "---\n") deep.0 (encode_utf8_all (value_text 0 value ++ line_feed ∷ [])) (sym deep.1 ∙ is))
+    (deep_found deep.0 placed.3.0 deep.2))
+
+pub no_place : (value : TypedValue) (error : ReadError) → CanBeRead value → IsPlaced (encode (Some utf8) (document_text value)) error
+    → error ≡ told.Memory
+no_place value error readable placed =
+    let text = document_text value in
+    nowhere value (encode (Some utf8) text) error (readable_root value readable) (subst IsUtf8 (sym (text_bytes-utf8 text)) (document_utf8 value readable))
+    (text_bytes-utf8 text ∙ word_encoded (codes "---\n") (value_text 0 value ++ line_feed ∷ []) refl) placed
