@@ -10,8 +10,8 @@
 #include "refusing.h"
 #include "yaml_c.h"
 
-static char script[4096];
-static uint8_t wanted[1024], out[1024];
+static char script[16384];
+static uint8_t wanted[4096], out[4096];
 static struct yaml_c_result result;
 static int failures;
 
