@@ -74,7 +74,7 @@ fn repeated(rt: &impl Abort, alloc: Global, text: &str, count: usize) -> String 
     text.repeat(alloc, count).expect(rt, "no memory")
 }
 
-/// Settings, and rows that come after them, with each of these settings; `;` separates several.
+/// Settings, and the rest of a script with the text that it writes, as `runs/written.rt` says.
 type Rows<'a> = &'a [(&'a str, &'a str)];
 
 /// The meanings of the signs in a row.

@@ -1,26 +1,15 @@
 //! Scripts with their results: by the calls of an emitter, one by one, and by a run of the whole. The expected values
 //! were worked out by hand. All but the scripts of a million collections is made again with each growth refused in turn.
-mod bad_lines;
-mod blanks;
+//!
+//! Here are examples of each kind, and what only a caller sees. `tests/scripts/rows` has all the others, which the built program runs.
 mod calls;
-mod canonical;
-mod collections;
-mod cuts;
 mod depth;
 mod devices;
-mod documents;
-mod each_style;
+mod examples;
 mod growths;
 mod held;
 mod limits;
-mod places;
-mod portable;
 mod prefixes;
-mod refusals;
-mod scalars;
-mod sequences;
-mod settings;
-mod short_values;
 mod written;
 
 use crate::tests::{equal, equal_at, same};
@@ -84,21 +73,6 @@ pub(super) fn line_of(rt: &impl Abort, alloc: Global, answer: &run_answer_t) -> 
     let mut line: Vec<u8> = Vec::new(alloc);
     equal(rt, &write_line(answer, &mut line).is_ok(), &true);
     line
-}
-
-/// The status of a run of a script, the text that it writes, and its line.
-type Report<'a> = (u8, &'a [u8], &'a str);
-
-fn check_report(rt: &impl Abort, alloc: Global, script: &[u8], wanted: Report) {
-    let mut output = Vec::new(alloc);
-    let answer = answered(rt, alloc, script, &mut output);
-    let got = (script, status(&answer), output.as_slice());
-    equal(rt, &got, &(script, wanted.0, wanted.1));
-    same(
-        rt,
-        line_of(rt, alloc, &answer).as_slice(),
-        wanted.2.as_bytes(),
-    );
 }
 
 // A run of the whole script.

@@ -1,4 +1,4 @@
-//! Directives and tags as they are written.
+//! Directives and tags as they are written. (`tests/scripts/rows` has each character of a tag.)
 ghost use Rattle.yaml_pen.specs.Page.{IsReady};
 
 use super::in_force;
@@ -135,45 +135,6 @@ const TAGS: &[(&str, &[Tag])] = &[
 fn tags_are_written_by_their_spelling_and_by_handles(rt: HostRuntime) {
     for (start, rows) in TAGS {
         check_tags(&rt, rt.alloc(), start, rows);
-    }
-}
-
-/// The characters that are written unescaped.
-const KEPT: &str =
-    "0123456789ABCDEFGHIJKLMNOPQRSTUVWXYZabcdefghijklmnopqrstuvwxyz_-;/?:@&=+$,.~*'()[]";
-
-// The percent forms of a text's bytes.
-fn escaped(rt: &impl Abort, alloc: Global, text: &str) -> String {
-    let mut forms = String::new(alloc);
-    for byte in text.as_bytes() {
-        let form = format!(in alloc; "%{:02X}", *byte).expect(rt, "no memory");
-        forms.push_str(form.as_str()).expect(rt, "no memory");
-    }
-    forms
-}
-
-// A character by itself.
-fn check_character(rt: &impl Abort, alloc: Global, character: char) {
-    let mut bytes = [0; 4];
-    let text: &str = character.encode_utf8(&mut bytes);
-    let escaped = escaped(rt, alloc, text);
-    let is_kept = KEPT.contains(character);
-    let wanted = if is_kept { text } else { escaped.as_str() };
-    let mut pen = new_pen(rt, alloc);
-    let answer = write_tag_content(&mut pen, text, false);
-    equal_at(rt, text, &answer, &Ok(()));
-    check_flushed(rt, &mut pen, wanted.as_bytes());
-    drop(pen);
-}
-
-// Each character up to U+00FF, and the first and last of each longer form of UTF-8.
-#[test]
-fn every_byte_is_kept_or_escaped(rt: HostRuntime) {
-    for character in '\0'..='\u{FF}' {
-        check_character(&rt, rt.alloc(), character);
-    }
-    for character in "\u{7FF}\u{800}\u{FFFF}\u{10000}\u{10FFFF}".chars() {
-        check_character(&rt, rt.alloc(), character);
     }
 }
 

@@ -1,12 +1,9 @@
 //! Scripts with the text that they write, as texts of rows.
 //!
-//! A row is some lines of a script; an empty line separates two rows. After ` |` a line has the text that becomes ready up to it, or
-//! up to the flush after it. `↵` is LF, `␍` CR, `¶` U+2028, `␉` a tab, and `␠` a space at the end of a line.
-use super::{
-    Flushes, Row, blanks, canonical, check_row, collections, documents, portable, prefixes,
-    refusals, scalars, sequences, settings,
-};
-use crate::tests::{Rows, joined, meant};
+//! A row is a script without its settings. After ` |` a line has the text that becomes ready up to it, or up to the flush
+//! after it. `↵` is LF, `␍` CR, `¶` U+2028, `␉` a tab, and `␠` a space at the end of a line.
+use super::{Flushes, Row, check_row, examples, prefixes};
+use crate::tests::{joined, meant};
 use std::alloc::Global;
 use std::process::Abort;
 
@@ -78,64 +75,10 @@ pub(super) fn check_script(rt: &impl Abort, alloc: Global, settings: &str, row: 
     check(rt, alloc, &whole);
 }
 
-fn check_rows(rt: &impl Abort, alloc: Global, rows: Rows, (before, after): (&str, &str)) {
-    for (each, text) in rows {
-        for settings in each.split(';') {
-            for row in text.trim().split("\n\n") {
-                let row = joined(rt, alloc, &[before, row, after]);
-                check_script(rt, alloc, settings, row.as_str());
-            }
-        }
-    }
-}
-
-/// Checks rows of streams of one document, by the events of its root.
-pub(super) fn check_roots(rt: &impl Abort, alloc: Global, rows: Rows) {
-    let document = ("+STR any\n+DOC 1 -\n", "\n-DOC 1\n-STR\n\n");
-    check_rows(rt, alloc, rows, document);
-}
-
 #[test]
-fn each_root_is_written(rt: HostRuntime) {
-    let tables = [
-        scalars::ROOTS,
-        collections::ROOTS,
-        sequences::ROOTS,
-        blanks::ROOTS,
-        settings::INDENTS,
-        settings::WIDTHS,
-        canonical::ROOTS,
-        portable::ROOTS,
-    ];
-    for rows in tables {
-        check_roots(&rt, rt.alloc(), rows);
-    }
-}
-
-/// The first script, streams without documents, and scripts of nothing.
-const WHOLE: Rows = &[
-    ("", "limit 007"),
-    ("", "+STR utf8\n-STR"),
-    ("", "+STR any\n-STR"),
-    ("", ""),
-    (
-        "canonical on\nwidth -1",
-        "+STR any\n+DOC 1 -\n=VAL any 1 1 - - \"a\"\n-DOC 1 |---↵\"a\"↵\n-STR",
-    ),
-];
-
-#[test]
-fn each_stream_is_written(rt: HostRuntime) {
-    let tables = [
-        WHOLE,
-        scalars::STREAMS,
-        documents::STREAMS,
-        canonical::STREAMS,
-        portable::STREAMS,
-        refusals::STREAMS,
-    ];
-    for rows in tables {
-        check_rows(&rt, rt.alloc(), rows, ("", ""));
+fn each_example_is_written(rt: HostRuntime) {
+    for (settings, row) in examples::EXAMPLES {
+        check_script(&rt, rt.alloc(), settings, row.trim());
     }
 }
 
