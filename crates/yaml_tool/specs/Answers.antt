@@ -8,7 +8,7 @@ use Rattle.yaml_tool.specs.declared.answers.Fault.TheVariants as faults
 use Rattle.yaml_tool.specs.declared.answers.run_answer_t.{run_answer_t}
 use Rattle.yaml_tool.specs.declared.answers.run_answer_t.TheVariants.{Done, Refused, BadLine, ReadFailed, WriteFailed, NoMemory}
 
--- the exit status: 0 for a whole stream, 1 for a refusal, 2 for a bad line, 3 if reading, writing or memory failed
+-- the exit status: 0 without an error, 1 for a refusal, 2 for a bad line, 3 if reading, writing or memory failed
 abbrev pub status_of : run_answer_t → ℕ
 status_of Done = 0
 status_of (Refused line error) = 1
@@ -17,7 +17,7 @@ status_of ReadFailed = 3
 status_of WriteFailed = 3
 status_of NoMemory = 3
 
--- the error of an answer; none for a whole stream
+-- the error of an answer, if it has one
 abbrev pub answer_fault : run_answer_t → Option Fault
 answer_fault Done = None
 answer_fault (Refused line error) = Some (faults.Refused line error)

@@ -11,7 +11,7 @@ use yaml_base::yaml_error_t;
 /// The outcome of a run.
 #[derive(Clone, Copy, PartialEq, Eq, Debug)]
 pub enum run_answer_t {
-    /// The whole stream was written.
+    /// Each event was taken without an error, and what was ready was written: the whole stream, if the events are one.
     Done,
     /// The call with the event of this line returned this error. If the last flush failed, the line is that of the last event.
     Refused(u64, yaml_error_t),
