@@ -11,7 +11,7 @@ pub use Rattle.yaml_base.proofs.Common.{is_plain, Tree, JsonNumber, is_json_numb
 pub use Rattle.std.proofs.{Math.Nat.le-max_left, Math.Nat.le-max_right, lemmas.Bool.both_ways, lemmas.Bool.cases_lt, lemmas.List.append_cancel_right}
 pub use Rattle.std.proofs.Common.{Bor, ap₂, length-drop, length-take-le, take-append-drop, take_all}
 pub use Rattle.std.specs.Io.KnownBytes.{Appends}
-pub use Rattle.std.specs.Prelude.{Err, Ok, Result, IfSome, IfErr, OnOk, flat_map}
+pub use Rattle.std.specs.Prelude.{Err, Ok, Result, IfSome, IfErr, IsSome, OnErr, OnOk, flat_map}
 pub use Rattle.json.{proofs.Nesting.value-depth, specs.Lex.tokens, specs.Reads.token_of, specs.Token.Token}
 pub use Rattle.json.proofs.Grammar.{left, value_is, members_no_key, left_some}
 pub use Rattle.json.specs.Json.{Json, null, boolean, number, string, Items, array, Members, object, no_items, item, no_members, member, parse_map}

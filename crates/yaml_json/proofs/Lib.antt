@@ -29,7 +29,6 @@ pub mod Coming
 pub mod Accepting
 pub mod WhyFailed
 pub mod Cutting
-pub mod Around
 pub mod PassingSpecials
 pub mod SpecialLanes
 pub mod LowestBit

@@ -1,7 +1,8 @@
 -- The events that a writer was given when it failed.
-use Rattle.yaml_json.proofs.Common.{IfSome, IfErr, OnOk, Option, None, Some, Result, Ok, Err, List, [], ◌++◌, ◌∷◌, ◌⊎◌, ◌≡◌, inl, inr, subst, sym, ◌∙◌, Event}
+use Rattle.yaml_json.proofs.Common.{IfSome, IfErr, OnErr, OnOk, Option, None, Some, Result, Ok, Err, List, [], ◌++◌, ◌∷◌, ◌⊎◌, ◌≡◌, inl, inr, subst, sym, ◌∙◌, Event}
 use Rattle.yaml_json.proofs.Common.{unwrap_or, some_from_result, failure_of, emitter_error_of, RefusesText, Token, refl, ap, State, FailedHaving}
 use Rattle.yaml_json.specs.{Failing.FailedAtEnd, Failing.IsWritersAnswer, Failing.Kept, Failing.SoundAfter, Failing.TellsOf, Refused.IsByText}
+use Rattle.yaml_json.specs.Failing.{StaysLevelUnlessFailed, StaysUnlessFailed}
 use Rattle.yaml_json.specs.{Walk.ReadsNone, declared.values.Stop.Stop}
 use Rattle.yaml_json.proofs.Common.{WriterState, end_event, with_collection, GaveEvent, EndsInnermost}
 use Rattle.yaml_pen.{proofs.Composing.grows_itself, proofs.Composing.grows_then, proofs.Writing.none_from_result, specs.Wrote.Grows}
@@ -207,3 +208,31 @@ module _ (before after : WriterState) where
   kept_end (Err error) (Err stop) answers (inl none) = kept_still error stop answers none.2
   kept_end (Err error) (Err stop) answers (inr end) =
       kept_gave error stop answers end.moves.grows (some_from_result after.emitter.error error end.moves.answered)
+
+-- ---- that nothing changed
+
+has_none : (found : Option yaml_error_t) (error : yaml_error_t) → found ≡ Some error → found ≡ None → ⊥
+has_none found error has none = cc
+
+module _ (before after : WriterState) where
+  -- by a call that gives an event
+  pub unmoved_event : (first : WriterState) (event : Event) (answer : Result (Unit {0}) yaml_error_t) (result : Result (Unit {0}) Stop)
+      → IsWritersAnswer answer result
+      → IfErr answer (λ error. GaveEvent first event (Err error) after ⊎ ((error ≡ Memory) × (after ≡ before)))
+      → OnErr result (StaysUnlessFailed before after)
+  unmoved_event first event (Ok done) (Ok same) answers failed = tt
+  unmoved_event first event (Ok done) (Err stop) answers failed = absurd answers
+  unmoved_event first event (Err error) (Ok same) answers failed = absurd answers
+  unmoved_event first event (Err error) (Err stop) answers (inl given) =
+      λ none. absurd (has_none after.emitter.error error (some_from_result after.emitter.error error given.moves.answered) none)
+  unmoved_event first event (Err error) (Err stop) answers (inr memory) = λ none. memory.1
+
+  -- or ends a collection
+  pub level_end : (answer : Result (Unit {0}) yaml_error_t) (result : Result (Unit {0}) Stop) → IsWritersAnswer answer result → EndsInnermost before answer after
+      → OnErr result (StaysLevelUnlessFailed before after)
+  level_end (Ok done) (Ok same) answers ends = tt
+  level_end (Ok done) (Err stop) answers ends = absurd answers
+  level_end (Err error) (Ok same) answers ends = absurd answers
+  level_end (Err error) (Err stop) answers (inl none) = λ sound. ap (λ (w : WriterState). w.levels) none.2
+  level_end (Err error) (Err stop) answers (inr end) =
+      λ none. absurd (has_none after.emitter.error error (some_from_result after.emitter.error error end.moves.answered) none)

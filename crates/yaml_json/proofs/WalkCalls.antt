@@ -1,6 +1,6 @@
 -- The calls of a walk over the tokens of a text, by the calls of its writer and its lists.
 use Rattle.yaml_writer.proofs.OpenLevels.{levels_after_start}
-use Rattle.yaml_json.proofs.Common.{suc, ℕ, ◌-◌, ◌<◌, IfSome, OnOk, Result, Ok, Err, length, take, Bool, true, List, [], ◌++◌, ◌∷◌, refl, ◌≡◌, inl, inr, ap}
+use Rattle.yaml_json.proofs.Common.{suc, ℕ, ◌-◌, ◌<◌, IfSome, OnErr, OnOk, Result, Ok, Err, length, take, Bool, true, List, [], ◌++◌, ◌∷◌, refl, ◌≡◌, inl, inr, ap}
 use Rattle.yaml_json.proofs.Common.{sym, ◌∙◌, arith, chars, Event, scalar, Token, token_events, HoldsNames, AddsName, text_content, failure_of}
 use Rattle.yaml_json.proofs.Common.{emitter_error_of, RefusesText, IsScalar, opener, closer, KeepsNamesAfter, BeganValue, BeginFailed, RefusesToken, Refuses}
 use Rattle.yaml_json.proofs.Common.{append-nil, subst, Some, NamesOnce, IsBare, WroteEvent, start_event, WriterState, text_event, with_collection, GaveEvent}
@@ -10,13 +10,14 @@ use Rattle.yaml_base.specs.declared.kinds.CollectionKind.TheVariants.{Mapping, S
 use Rattle.yaml_writer.proofs.Taken.{begins_err, begins_ok, gives_err, gives_ok}
 use Rattle.yaml_writer.specs.Writing.{Begins, Gives}
 use Rattle.yaml_json.proofs.KeepingNames.{keeps_closer, keeps_name, keeps_scalar, keeps_then}
-use Rattle.yaml_json.proofs.Stopping.{FailedAt, answered_at, answered_end, event_failed, if_some, kept_end, kept_event, kept_memory, kept_same, kept_then, kept_unread}
+use Rattle.yaml_json.proofs.Stopping.{FailedAt, answered_at, answered_end, event_failed, if_some, kept_end, kept_event, kept_memory, kept_same, kept_then, kept_unread, level_end}
+use Rattle.yaml_json.proofs.Stopping.{unmoved_event}
 use Rattle.yaml_json.proofs.Stops.{first_stopped, first_unread, item_stopped, named_stopped, unread, unread_memory}
 use Rattle.yaml_json.proofs.Taking.{event_keeps, fails_scalar, gives_scalar, innermost_gone, opener_began, opener_failed, opener_without_memory, scalar_began}
 use Rattle.yaml_json.proofs.Taking.{scalar_failed, scalar_keeps, step_closes, step_item, step_member, step_no_item, step_no_member, step_unclosed, step_unnamed}
 use Rattle.yaml_json.proofs.Taking.{step_unread, step_without_memory}
 use Rattle.yaml_writer.proofs.GivenLemmas.{on_err, on_ok, text_is, wrote_event}
-use Rattle.yaml_json.specs.Failing.{IsWritersAnswer, Kept}
+use Rattle.yaml_json.specs.Failing.{IsWritersAnswer, Kept, StaysLevelUnlessFailed, StaysUnlessFailed}
 use Rattle.yaml_json.specs.{Nests.IsNesting, Reached.Reader, Refused.IsByText, declared.names.Names.Names, declared.settings.JsonSettings.JsonSettings}
 use Rattle.yaml_json.specs.{declared.values.Nesting.Nesting, declared.values.Spot.Spot, declared.values.Stop.Stop}
 use Rattle.yaml_json.specs.Walk.{GivesTaken as GivesTokens, LeavesNames, ReadsNone, StepFailed}
@@ -29,16 +30,17 @@ use Rattle.yaml_json.specs.declared.values.Stop.TheVariants as stops
 unrefused_step : {A : Type 0} (settings : JsonSettings) (token : Token) (before after : JsonWalk A) (result : Result (Unit {0}) Stop)
     → OnOk result (BeganValue settings.depth settings.flow token before.nest.kinds.items before.writer after.nest.kinds.items after.writer)
     → IsNesting settings.depth settings.unique_names after.nest → KeepsNamesAfter before.nest.names (token ∷ []) after.nest.names → (RefusesText result → ⊥)
-    → Kept before.writer result after.writer
+    → OnErr result (StaysUnlessFailed before.writer after.writer) → Kept before.writer result after.writer
     → IfSome (emitter_error_of after.writer result)
     (λ error. BeginFailed settings.depth settings.flow token before.nest.kinds.items before.writer error after.writer)
     → TokenStep settings token before result after
-unrefused_step settings token before after (Ok done) began fits names never kept failed =
+unrefused_step settings token before after (Ok done) began fits names never unmoved kept failed =
     record { began = began; fits = fits; names = names; kept = record { grows = kept.grows; sound = kept.sound } }
-unrefused_step settings token before after (Err stop) began fits names never kept failed =
+unrefused_step settings token before after (Err stop) began fits names never unmoved kept failed =
     record {
       refused = unrefused (Err stop) never (RefusesToken settings.depth before.nest.kinds.items token) tt tt;
       same = λ by_text. absurd (never by_text);
+      unmoved = unmoved;
       kept = kept;
       failed = failed;
     }
@@ -62,7 +64,8 @@ scalar_step settings token event is events nest fits before after given same ans
     err) in
     unrefused_step settings token (at nest before) (at nest after) result
     (on_ok result (scalar_began settings.depth settings.flow nest.kinds.items before after token event is events) all.0) fits
-    (keeps_scalar token nest.names is) all.1 (kept_event before after before refl given answer result answers ok err)
+    (keeps_scalar token nest.names is) all.1 (unmoved_event before after before given answer result answers err)
+    (kept_event before after before refl given answer result answers ok err)
     (if_some (emitter_error_of after result) (scalar_failed settings.depth settings.flow nest.kinds.items before after token event is events) all.2)
 
 -- a collection begins, for which there is room
@@ -80,7 +83,8 @@ opener_step settings kind before after room opened fits names answer result answ
     (on_err answer (λ error. start_failed kind before.writer after.writer event error (levels_after_start settings.flow kind before.writer.levels)) err) in
     unrefused_step settings (opener kind) before after result
     (on_ok result (opener_began settings.depth settings.flow levels before.writer after.writer after.nest.kinds.items kind room opened) all.0) fits names
-    all.1 (kept_event before.writer after.writer (with_collection before.writer kind) refl event answer result answers ok err)
+    all.1 (unmoved_event before.writer after.writer (with_collection before.writer kind) event answer result answers err)
+    (kept_event before.writer after.writer (with_collection before.writer kind) refl event answer result answers ok err)
     (if_some (emitter_error_of after.writer result) (opener_failed settings.depth settings.flow levels before.writer after.writer kind room) all.2)
 
 -- for which there is no memory
@@ -90,6 +94,7 @@ opener_without_room settings kind nest later writer room =
     record {
       refused = tt;
       same = λ by_text. refl;
+      unmoved = λ sound. refl;
       kept = kept_memory writer;
       failed = opener_without_memory settings.depth settings.flow nest.kinds.items writer writer kind room refl;
     }
@@ -99,7 +104,13 @@ pub refused_step : {A : Type 0} (settings : JsonSettings) (token : Token) (nest 
     → RefusesToken settings.depth nest.kinds.items token (stops.NotJson spot)
     → TokenStep settings token (at nest writer) (Err (stops.NotJson spot)) (at nest writer)
 refused_step settings token nest writer spot refused =
-    record { refused = refused; same = λ by_text. refl; kept = kept_same writer writer (stops.NotJson spot) refl tt; failed = tt }
+    record {
+      refused = refused;
+      same = λ by_text. refl;
+      unmoved = λ sound. refl;
+      kept = kept_same writer writer (stops.NotJson spot) refl tt;
+      failed = tt;
+    }
 
 -- ---- the first token of a reader
 
@@ -117,6 +128,7 @@ module _ {A : Type 0} (settings : JsonSettings) (reader left : Reader) where
       record {
         refused = first_stopped settings.depth before.nest.kinds.items reader.ahead token left.ahead first stop step.refused;
         same = step.same;
+        unmoved = step.unmoved;
         kept = step.kept;
         failed = if_some (failure_of after.writer stop)
             (λ error failed. inr (record { token = token; after = left.ahead; first = first; failed = failed })) step.failed;
@@ -129,6 +141,7 @@ module _ {A : Type 0} (settings : JsonSettings) (reader left : Reader) where
       record {
         refused = first_unread settings.depth nest.kinds.items reader.ahead stop none;
         same = λ by_text. refl;
+        unmoved = λ sound. refl;
         kept = kept_unread writer reader.ahead stop none;
         failed = if_some (failure_of writer stop) (λ error memory. inl (memory, refl)) (unread_memory reader.ahead writer stop none);
       }
@@ -144,12 +157,18 @@ module _ {A : Type 0} (settings : JsonSettings) (reader left : Reader) (before :
       (λ error. StepFailed settings.depth settings.flow reader.ahead before.nest.kinds.items before.writer error before.writer)
       → WalkStep settings reader before (Err stop) left (at nest before.writer)
   walk_refused stop by_text refuses failed =
-      record { refused = λ also. refuses; kept = kept_same before.writer before.writer stop refl by_text; failed = failed }
+      record {
+        refused = λ also. refuses;
+        level = λ sound. refl;
+        kept = kept_same before.writer before.writer stop refl by_text;
+        failed = failed;
+      }
 
   pub walk_without_memory : WalkStep settings reader before (Err stops.Memory) left (at nest before.writer)
   walk_without_memory =
       record {
         refused = λ by_text. absurd by_text;
+        level = λ sound. refl;
         kept = kept_memory before.writer;
         failed = step_without_memory settings.depth settings.flow reader.ahead before.nest.kinds.items before.writer before.writer refl;
       }
@@ -163,6 +182,7 @@ module _ {A : Type 0} (settings : JsonSettings) (reader left : Reader) (before a
       record {
         refused = unread settings.depth settings.unique_names settings.flow before.nest.kinds.items outer before.nest.names fits.1 reader.ahead
             before.writer before.writer refl left.before were kind is stop none;
+        level = λ sound. refl;
         kept = kept_unread before.writer reader.ahead stop none;
         failed = step_unread settings.depth settings.flow reader.ahead before.nest.kinds.items before.writer stop none;
       }
@@ -200,6 +220,7 @@ module _ {A : Type 0} (settings : JsonSettings) (reader left : Reader) (before a
       let all = answered_end before.writer after.writer answer (Err stop) answers ends in
       record {
         refused = λ by_text. absurd (all.1 by_text);
+        level = level_end before.writer after.writer answer (Err stop) answers ends;
         kept = kept_end before.writer after.writer answer (Err stop) answers ends;
         failed = if_some (failure_of after.writer stop)
             (λ error. step_unclosed settings.depth settings.flow reader.ahead before.nest.kinds.items outer kind is before.writer left.ahead error
@@ -224,6 +245,7 @@ module _ {A : Type 0} (settings : JsonSettings) (reader left : Reader) (before a
       record {
         refused = λ by_text. item_stopped settings.depth settings.unique_names settings.flow before.nest.kinds.items outer before.nest.names fits.1
             reader.ahead before.writer after.writer (step.same by_text) left.before were is token left.ahead first isn't stop step.refused;
+        level = λ sound. ap (λ (w : WriterState). w.levels) (step.unmoved sound);
         kept = step.kept;
         failed = if_some (failure_of after.writer stop)
             (λ error. step_no_item settings.depth settings.flow before.nest.kinds.items outer is token isn't before.writer reader.ahead left.ahead first
@@ -246,6 +268,11 @@ module _ (before after : WriterState) (key : List ℕ) (bare : IsBare before) (a
       (on_ok answer (wrote_event before after given key_event same) (gives_ok before after given answer gives))
       (on_err answer (λ error. event_failed before after given key_event error same refl) (gives_err before after given answer gives))
 
+  pub key_unmoved : OnErr result (StaysUnlessFailed before after)
+  key_unmoved =
+      let given = text_event before (chars key) in
+      unmoved_event before after before given answer result answers (gives_err before after given answer gives)
+
   pub key_kept : Kept before result after
   key_kept =
       let given = text_event before (chars key) in
@@ -255,12 +282,13 @@ module _ {A : Type 0} (settings : JsonSettings) (reader middle left : Reader) (b
     (fits : IsNesting settings.depth settings.unique_names before.nest) (is : before.nest.kinds.items ≡ outer ++ Mapping ∷ []) (key : List ℕ)
     (first : reader.ahead ≡ Token.key key ∷ middle.ahead) (later : Names A) (named : WriterState) where
   -- at which the writer failed
-  pub walk_unnamed : (stop : Stop) → (IsByText stop → ⊥) → Kept before.writer (Err stop) named
+  pub walk_unnamed : (stop : Stop) → (IsByText stop → ⊥) → StaysUnlessFailed before.writer named → Kept before.writer (Err stop) named
       → IfSome (failure_of named stop) (λ error. FailedAt before.writer (scalar (text_content (chars key))) error named)
       → WalkStep settings reader before (Err stop) middle (at (record before.nest { names = later }) named)
-  walk_unnamed stop never kept failed =
+  walk_unnamed stop never unmoved kept failed =
       record {
         refused = λ by_text. absurd (never by_text);
+        level = λ sound. ap (λ (w : WriterState). w.levels) (unmoved sound);
         kept = kept;
         failed = if_some (failure_of named stop)
             (λ error failed_here. step_unnamed settings.depth settings.flow before.nest.kinds.items outer is key before.writer reader.ahead middle.ahead
@@ -306,6 +334,7 @@ module _ {A : Type 0} (settings : JsonSettings) (reader middle left : Reader) (b
           refused = λ by_text. named_stopped settings.depth settings.unique_names settings.flow before.nest.kinds.items outer before.nest.names fits.1
               reader.ahead before.writer after.writer is key middle.ahead first later same new adds named gave left.before were fresh (step.same by_text)
               stop step.refused;
+          level = λ sound. ap (λ (w : WriterState). w.levels) (step.unmoved sound) ∙ wrote.levels;
           kept = kept_then before.writer named after.writer (Err stop) kept step.kept;
           failed = if_some (failure_of after.writer stop)
               (λ error. step_no_member settings.depth settings.flow before.nest.kinds.items outer is key before.writer reader.ahead middle.ahead first

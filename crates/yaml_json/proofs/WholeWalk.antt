@@ -2,6 +2,7 @@
 use Rattle.json.proofs.Unique.Spelling.{value-json_tokens_back}
 use Rattle.yaml_json.proofs.{Taking.stood_nothing, KeepingNames.NamesSoFar}
 use Rattle.yaml_json.proofs.Common.{ℕ, Bool, List, [], ◌++◌, ◌∷◌, refl, ◌≡◌, append-nil, append_assoc, inl, inr, ap, subst, sym, ◌∙◌, arith}
+use Rattle.yaml_json.proofs.Common.{◌+◌, ◌≤◌, length, length-append}
 use Rattle.yaml_json.proofs.Common.{append_cancel_right, left_some, value, skip_value, Token, json_tokens, Event, BeginsWithinDepth, tokens_events, LeavesOpen}
 use Rattle.yaml_json.proofs.Common.{KeepsNames, BeganFirstValue, FirstFailed, Refuses, WalkProgress, IsBare, WriterState, AddsEvents}
 use Rattle.yaml_base.specs.{declared.errors.yaml_error_t.yaml_error_t, declared.errors.yaml_error_t.TheVariants.Memory}
@@ -93,6 +94,16 @@ module _ (depth : ℕ) (in_flow : Bool) (start : List Token) (was : WriterState)
           were = all_left stop (so_far.taken ++ refuses.taken) left refuses.inside;
           gave = refuses.gave was so_far.taken so_far.stood;
         }
+
+    -- within an open collection more are open than before
+    pub open_within : (outer : List CollectionKind) (kind : CollectionKind) → levels ≡ outer ++ kind ∷ [] → (later : WriterState)
+        → later.levels ≡ now.levels → length later.levels ≤ length was.levels → ⊥
+    open_within outer kind is later same fewer =
+        let stood = so_far.stood in
+        let count : length later.levels ≡ length was.levels + length levels =
+        ap length (same ∙ stood.gave.levels ∙ stood.opened) ∙ length-append was.levels levels in
+        let more : length levels ≡ length outer + 1 = ap length is ∙ length-append outer (kind ∷ []) in
+        omega (arith, count, more, fewer)
 
     -- nothing is open: the value was given
     pub all_written : levels ≡ [] → WroteValue depth in_flow start was ahead now

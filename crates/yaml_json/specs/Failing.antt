@@ -1,5 +1,5 @@
 -- Why a writer fails that is given the events of a text, and the events that it was given until then.
-use Rattle.std.specs.Prelude.{◌≡◌, ◌≢◌, ◌⊎◌, ℕ, ◌<◌, ◌≤◌, Bool, Option, None, Some, unwrap_or, Result, Ok, Err, List, [], ◌++◌, flat_map}
+use Rattle.std.specs.Prelude.{◌≡◌, ◌≢◌, ◌⊎◌, ℕ, ◌<◌, ◌≤◌, Bool, Option, None, Some, unwrap_or, Result, Ok, Err, List, [], ◌++◌, flat_map, length}
 use Rattle.json.specs.Token.{Token}
 use Rattle.json.specs.Lex.{tokens}
 use Rattle.json.specs.Json.{Json, value}
@@ -83,6 +83,20 @@ FailedInText depth in_flow text was error now = FailedInValue depth in_flow (tok
 -- the events of some texts, after each of which a document begins
 abbrev pub events_with_separators : (canonical in_flow : Bool) → List (List ℕ × Json) → List Event
 events_with_separators canonical in_flow parts = flat_map (λ part. json_events canonical in_flow part.1 ++ between) parts
+
+-- ---- that nothing changed
+
+-- If the emitter has no error, nothing changed.
+abbrev pub StaysUnlessFailed : WriterState → WriterState → Type 0
+StaysUnlessFailed was now = now.emitter.error ≡ None → now ≡ was
+
+-- If the emitter has no error, the same collections are open.
+abbrev pub StaysLevelUnlessFailed : WriterState → WriterState → Type 0
+StaysLevelUnlessFailed was now = now.emitter.error ≡ None → now.levels ≡ was.levels
+
+-- If the emitter has no error, and no more collections are open than before, nothing changed.
+abbrev pub StaysUnlessOpened : WriterState → WriterState → Type 0
+StaysUnlessOpened was now = now.emitter.error ≡ None → length now.levels ≤ length was.levels → now ≡ was
 
 -- ---- the result of a call
 

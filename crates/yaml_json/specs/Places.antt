@@ -98,13 +98,3 @@ pub record MovesPlace (before after : List ℕ) (old new : Place) : Type 0 where
   pub dropped : List ℕ
   pub parts : dropped ++ after ≡ before
   pub follows : (front : List ℕ) → IsPlaceAfter front old → IsPlaceAfter (front ++ dropped) new
-
--- of the texts in a text, the one that begins at `start` has the offset in it
-pub record HasInText (text : List ℕ) (offset start : ℕ) : Type 0 where
-  pub before : List (List ℕ)
-  pub first : List ℕ
-  pub later : List (List ℕ)
-  pub cut : before ++ first ∷ later ≡ texts_in text
-  pub joined : flat_map (λ part. part) before ++ drop start text ≡ text
-  pub begins : start ≤ offset
-  pub reaches : offset < start + length first

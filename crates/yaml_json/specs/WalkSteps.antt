@@ -1,9 +1,9 @@
 -- The calls of a walk over the tokens of a text, by their results.
-use Rattle.std.specs.Prelude.{◌≡◌, ℕ, true, IfSome, Result, Ok, Err, List, [], ◌∷◌}
+use Rattle.std.specs.Prelude.{◌≡◌, ℕ, true, IfSome, IsSome, Result, Ok, Err, List, [], ◌∷◌}
 use Rattle.json.specs.Lex.{tokens}
 use Rattle.json.specs.Token.{Token}
 use Rattle.yaml_writer.specs.Writing.{WriterState}
-use Rattle.yaml_json.specs.Failing.{FailedInText, FailedInValue, Kept, failure_of}
+use Rattle.yaml_json.specs.Failing.{FailedInText, FailedInValue, Kept, StaysLevelUnlessFailed, StaysUnlessFailed, StaysUnlessOpened, failure_of}
 use Rattle.yaml_json.specs.Names.{NamesOnce}
 use Rattle.yaml_json.specs.Nests.{HasNoneOpen, IsNesting}
 use Rattle.yaml_json.specs.Offsets.{StopsAtLexeme}
@@ -37,6 +37,7 @@ pub record TokenGiven {A : Type 0} (settings : JsonSettings) (token : Token) (be
 pub record TokenStopped {A : Type 0} (settings : JsonSettings) (token : Token) (before : JsonWalk A) (stop : Stop) (after : JsonWalk A) : Type 0 where
   pub refused : RefusesToken settings.depth before.nest.kinds.items token stop
   pub same : IsByText stop → after.writer ≡ before.writer
+  pub unmoved : StaysUnlessFailed before.writer after.writer
   pub kept : Kept before.writer (Err stop) after.writer
   pub failed :
       IfSome (failure_of after.writer stop)
@@ -62,6 +63,7 @@ pub record FirstStopped {A : Type 0} (settings : JsonSettings) (reader : Reader)
     : Type 0 where
   pub refused : RefusesFirst settings.depth before.nest.kinds.items reader.ahead stop
   pub same : IsByText stop → after.writer ≡ before.writer
+  pub unmoved : StaysUnlessFailed before.writer after.writer
   pub kept : Kept before.writer (Err stop) after.writer
   pub failed :
       IfSome (failure_of after.writer stop)
@@ -89,6 +91,7 @@ pub record WalkStopped {A : Type 0} (settings : JsonSettings) (reader : Reader) 
       IsByText stop
       → Refuses settings.depth settings.unique_names settings.flow before.nest.kinds.items before.nest.names reader.ahead left.before before.writer stop
       after.writer
+  pub level : StaysLevelUnlessFailed before.writer after.writer
   pub kept : Kept before.writer (Err stop) after.writer
   pub failed :
       IfSome (failure_of after.writer stop)
@@ -122,6 +125,7 @@ pub record ValueStopped {A : Type 0} (settings : JsonSettings) (reader : Reader)
   pub refused :
       IsByText stop
       → TextStopsWriting settings.depth settings.unique_names settings.flow reader.ahead left.before before.writer stop after.writer
+  pub unopened : IsSome (failure_of after.writer stop) → StaysUnlessOpened before.writer after.writer
   pub kept : Kept before.writer (Err stop) after.writer
   pub failed :
       IfSome (failure_of after.writer stop) (λ error. FailedInValue settings.depth settings.flow reader.ahead before.writer error after.writer)
@@ -146,6 +150,7 @@ pub record TextGiven (settings : JsonSettings) (text : List ℕ) (before after :
 pub record TextStopped (settings : JsonSettings) (text : List ℕ) (before : WriterState) (stop : Stop) (offset : ℕ) (after : WriterState) : Type 0 where
   pub refused : IsByText stop → StopsText settings.depth settings.unique_names settings.flow text before stop after
   pub place : IsByText stop → StopsAtLexeme settings.depth text offset stop
+  pub unopened : IsSome (failure_of after stop) → StaysUnlessOpened before after
   pub kept : Kept before (Err stop) after
   pub failed : IfSome (failure_of after stop) (λ error. FailedInText settings.depth settings.flow text before error after)
 

@@ -1,10 +1,10 @@
 -- The calls that write JSON texts, by their results.
-use Rattle.std.specs.Prelude.{ℕ, Bool, Result, Ok, Err, Vec, IfSome, List}
+use Rattle.std.specs.Prelude.{ℕ, Bool, Result, Ok, Err, Vec, IfSome, IsSome, List}
 use Rattle.yaml_base.specs.Settings.{Settings}
 use Rattle.yaml_emitter.specs.Given.{seen_settings}
 use Rattle.yaml_pen.specs.Wrote.{Grows}
 use Rattle.yaml_writer.specs.Writing.{WriterState}
-use Rattle.yaml_json.specs.Failing.{IsSound, JsonFailsBy, writers_error}
+use Rattle.yaml_json.specs.Failing.{IsSound, JsonFailsBy, StaysUnlessOpened, writers_error}
 use Rattle.yaml_json.specs.Places.{HasPlace}
 use Rattle.yaml_json.specs.Refused.{DeniesJson, ExplainsError, HasNamesOnce, HaveNamesOnce, IsNotJson}
 use Rattle.yaml_json.specs.Stopped.{StopsInText, StopsInTexts}
@@ -23,13 +23,15 @@ pub record TextWritten (settings : JsonSettings) (text : List ℕ) (was now : Wr
   pub names : HasNamesOnce settings.unique_names text
 
 -- The writer was given the events of the text's first tokens, and no more, since the text is refused or the writer failed; earlier output
--- stays, and an error of the emitter is the one that is returned.
+-- stays, and an error of the emitter is the one that is returned. If memory ran out that isn't the emitter's, a collection of the text is
+-- open, or nothing changed.
 pub record TextUnwritten (settings : JsonSettings) (text : List ℕ) (was : WriterState) (error : JsonError) (now : WriterState) : Type 0 where
   pub grows : Grows was.emitter.page now.emitter.page
   pub sound : IsSound was (Err error) now
   pub refused : DeniesJson error → IsNotJson settings.depth text
   pub stopped : StopsInText settings.depth settings.unique_names settings.flow text was error now
   pub place : HasPlace settings.depth text error
+  pub unopened : IsSome (writers_error error) → StaysUnlessOpened was now
 
 abbrev pub WritesText : JsonSettings → List ℕ → WriterState → Result (Unit {0}) JsonError → WriterState → Type 0
 WritesText settings text was (Ok done) now = TextWritten settings text was now

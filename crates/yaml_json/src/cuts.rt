@@ -4,7 +4,6 @@ ghost use Rattle.std.specs.Simd.Lanes.{chunk};
 ghost use Rattle.json.specs.Ascii as ascii;
 ghost use Rattle.yaml_json.specs.Texts.{CutsFirstText, after_byte, scan_first_byte, scan_in_string, is_closer, is_inner_byte, is_opener, scan_within};
 ghost use Rattle.yaml_json.specs.Cuts.{CutsAt, HasScanned};
-ghost use Rattle.yaml_json.specs.Places.{HasInText};
 ghost use Rattle.yaml_json.specs.Specials.{IsInside, MayBeSpecial};
 
 use crate::words::{is_blank, is_operator};
@@ -323,22 +322,4 @@ pub(crate) fn first_cut(text: &str) -> (&str, &str)
         Some(end) => text.split_at(end),
         None => (text, ""),
     }
-}
-
-/// Returns the offset at which a JSON text begins: of the JSON texts that follow one another in a text, the one that holds this offset.
-/// Offsets are in bytes. The given one must be before the text's end.
-pub fn text_around(text: &[u8], offset: usize) -> usize
-    requires { offset < length text.now }
-    ensures { HasInText text.now offset result }
-{
-    let mut rest = text;
-    'texts: while let Some(end) = find_end(rest, &mut new_cut()) {
-        let start = text.len() - rest.len();
-        let left = offset - start;
-        if left < end {
-            return start;
-        }
-        rest = &rest[end..];
-    }
-    text.len() - rest.len()
 }

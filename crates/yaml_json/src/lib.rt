@@ -18,7 +18,6 @@ mod tokens;
 mod values;
 mod words;
 
-pub use cuts::text_around;
 pub use error::{JsonError, StreamError};
 pub use expecting::Expected;
 pub use laws::faults_differ;

@@ -1,3 +1,5 @@
+use Rattle.yaml_json.proofs.Common.{IsSome, Option, subst}
+use Rattle.yaml_base.specs.declared.errors.yaml_error_t.{yaml_error_t}
 use Rattle.yaml_json.specs.Failing.{writers_error}
 use Rattle.yaml_json.proofs.{Refusing.why_no_json, TextStops.explained, TextStops.placed_as, TextStops.said_as, TextStops.text_stopped, TextsInTurn.text_names}
 use Rattle.yaml_json.proofs.texts.write_json.Goals as goal
@@ -24,6 +26,7 @@ returns-in-Err g c =
               c.error_of.ensures.expected,
         ),
       );
+      unopened = λ some. failed.unopened (subst (λ (e : Option yaml_error_t). IsSome e) c.error_of.ensures.by_writer some);
     }
 
 pub returns-in-Ok : goal.returns-in-Ok

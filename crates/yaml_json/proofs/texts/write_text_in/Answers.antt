@@ -34,6 +34,7 @@ returns-in-Err g c =
         refused = λ by_text. (reader.before, stopped by_text);
         place = λ by_text. stops_at_lexeme s.depth s.unique_names s.flow text reader.before c.args.writer.now now c.last_offset.result
             c.offset_of-at.result from stop (stopped by_text) c.offset_of-at.ensures;
+        unopened = failed.unopened;
         kept = failed.kept;
         failed = rw c.new-tokens.ensures.ahead at failed.failed;
       };

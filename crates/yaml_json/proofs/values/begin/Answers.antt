@@ -9,6 +9,7 @@ returns-then-len-settings g c =
     record {
       refused = ((c.args.kind, refl), grind arith);
       same = λ by_text. refl;
+      unmoved = λ sound. refl;
       kept = kept_same c.args.writer.now c.args.writer.now stops.TooDeep refl tt;
       failed = tt;
     }

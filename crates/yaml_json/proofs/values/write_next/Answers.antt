@@ -4,7 +4,7 @@ use Rattle.json.specs.Token as tokens
 use Rattle.yaml_base.specs.declared.kinds.CollectionKind.TheVariants.{Mapping, Sequence}
 use Rattle.yaml_json.proofs.Closing.{closes_is, closes_not, no_name, no_string}
 use Rattle.yaml_json.proofs.Stops.{again_stopped, member_stopped, string_stopped}
-use Rattle.yaml_json.proofs.WalkCalls.{key_kept, key_wrote, walk_closed, walk_item, walk_member, walk_missing, walk_refused, walk_unnamed, walk_without_memory}
+use Rattle.yaml_json.proofs.WalkCalls.{key_kept, key_unmoved, key_wrote, walk_closed, walk_item, walk_member, walk_missing, walk_refused, walk_unnamed, walk_without_memory}
 use Rattle.yaml_json.specs.WalkSteps.{at}
 use Rattle.yaml_json.specs.declared.values.Spot.TheVariants.{At, PastString}
 use Rattle.yaml_json.specs.declared.values.Stop.TheVariants as stops
@@ -74,6 +74,7 @@ returns-in-Err-answer_of-clause-steps g c =
     let wrote = key_wrote a.writer.now c.text.new.self key c.requires.bare c.text.result (Err stop) answers c.text.ensures in
     walk_unnamed a.settings.now a.reader.now c.next_token.new.reader c.next_token.new.reader (at a.nest.now a.writer.now) (at a.nest.now a.writer.now)
     inner.outer c.requires.fits is key first c.add.new.self c.text.new.self stop wrote.1
+    (key_unmoved a.writer.now c.text.new.self key c.requires.bare c.text.result (Err stop) answers c.text.ensures)
     (key_kept a.writer.now c.text.new.self key c.requires.bare c.text.result (Err stop) answers c.text.ensures) wrote.2
 
 pub returns-in_default-answer_of-clause-steps : goal.returns-in_default-answer_of-clause-steps

@@ -1,4 +1,4 @@
-use Rattle.yaml_json.proofs.Common.{ℕ, Bool, true, Err, List, [], ◌∷◌, ◌++◌, refl, ◌≡◌, append_assoc, append_cancel_right, sym, ◌∙◌, json_tokens}
+use Rattle.yaml_json.proofs.Common.{ℕ, Bool, true, false≢true, Err, List, [], ◌∷◌, ◌++◌, refl, ◌≡◌, append_assoc, append_cancel_right, sym, ◌∙◌, json_tokens}
 use Rattle.yaml_writer.proofs.OpenLevels.{gave_same}
 use Rattle.json.proofs.Unique.Spelling.{value-json_tokens_back}
 use Rattle.yaml_json.proofs.Common.{NamesOnce, json_events, tokens_events, Token, WriterState}
@@ -55,6 +55,7 @@ returns-else-is_at_end-clause-steps g c =
           c.write_value.new.reader.before last.front last.last a.writer.now now step.written
           (value_names s.depth s.unique_names a.reader.now.ahead c.write_value.new.reader.ahead step.written.json step.written.read step.names)
           last.parts last.were (c.is_at_end.ensures.more c.if-is_at_end.false);
+      unopened = λ some. absurd (false≢true some);
       kept = kept_then a.writer.now now now (Err (stops.NotJson PastValue)) step.kept (kept_same now now (stops.NotJson PastValue) refl tt);
       failed = tt;
     }

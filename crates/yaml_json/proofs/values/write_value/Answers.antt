@@ -2,7 +2,7 @@ use Rattle.yaml_json.proofs.Common.{IfSome, Err, Ok, List, [], ◌≡◌, ◌∙
 use Rattle.yaml_json.proofs.{KeepingNames.names_begin, KeepingNames.names_done, KeepingNames.names_on, Stopping.if_some, Stopping.kept_then}
 use Rattle.yaml_json.proofs.{Stops.gave_no_more, Stops.first_stopped_writing}
 use Rattle.yaml_json.proofs.{HeldNameLemmas.no_item, Taking.stood_nothing, Reaching.last_on}
-use Rattle.yaml_json.proofs.WholeWalk.{all_written, first_failed, first_so_far, step_failed, step_stopped, steps_on}
+use Rattle.yaml_json.proofs.WholeWalk.{all_written, first_failed, first_so_far, open_within, step_failed, step_stopped, steps_on}
 use Rattle.yaml_base.specs.declared.kinds.CollectionKind.{CollectionKind}
 use Rattle.yaml_json.proofs.values.write_value.Goals as goal
 
@@ -18,6 +18,7 @@ returns-in-Err-clause-steps g c =
       refused = λ by_text. first_stopped_writing s.depth s.unique_names s.flow a.reader.now.ahead c.write_first.new.reader.before
           c.in-Err.ensures.before a.writer.now now stop refuses
           (gave_no_more s.flow [] a.writer.now now (step.same by_text) a.writer.now [] (stood_nothing s.flow a.writer.now c.requires.bare));
+      unopened = λ some sound fewer. step.unmoved sound;
       kept = step.kept;
       failed = if_some (failure_of now stop)
           (λ error. first_failed s.depth s.flow a.reader.now.ahead a.writer.now error now c.requires.bare)
@@ -68,6 +69,9 @@ returns-in-Err-write_next-clause-steps g c =
     record {
       refused = λ by_text. step_stopped s.depth s.flow a.reader.now.ahead a.writer.now l.reader.ahead l.nest.kinds.items l.writer l.invariant.0
           s.unique_names l.nest.names l.invariant.2 stop now c.write_next.new.reader.before (step.refused by_text);
+      unopened = λ some sound fewer. absurd
+          (open_within s.depth s.flow a.reader.now.ahead a.writer.now l.reader.ahead l.nest.kinds.items l.writer l.invariant.0
+          c.in-Some.ensures.outer c.in-Some.kind c.in-Some.ensures.is now (step.level sound) fewer);
       kept = kept_then a.writer.now l.writer now (Err stop) l.invariant.3 step.kept;
       failed = if_some (failure_of now stop)
           (λ error. step_failed s.depth s.flow a.reader.now.ahead a.writer.now l.reader.ahead l.nest.kinds.items l.writer l.invariant.0 error now)
