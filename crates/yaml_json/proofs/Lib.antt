@@ -50,3 +50,11 @@ pub mod RowsPlaces
 pub mod PlacesAfter
 pub mod ModeSteps
 pub mod WordModes
+pub mod Completing
+pub mod Following
+pub mod FollowingSteps
+pub mod NamedLexemes
+pub mod Possible
+pub mod WordBytes
+pub mod LastTokens
+pub mod ExpectedThere

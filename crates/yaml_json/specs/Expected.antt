@@ -1,10 +1,13 @@
 -- The input that is possible at the place where a text breaks off, by the bytes before: by the last token, and by the innermost open bracket.
-use Rattle.std.specs.Prelude.{◌≡◌, ℕ, Bool, true, false, ◌==◌, ◌&&◌, nat_le, Option, None, Some, List, [], ◌∷◌, codes, drop, length, suc, take, if◌then◌else◌}
+use Rattle.std.specs.Prelude.{◌≡◌, ◌⊎◌, ℕ, Bool, true, false, ◌==◌, ◌&&◌, nat_le, Option, None, Some, List, [], ◌∷◌, codes, drop, length, suc, take, if◌then◌else◌}
 use Rattle.json.specs.Ascii as ascii
+use Rattle.json.specs.Lex.{Lexeme, colon, comma, token}
+use Rattle.json.specs.Token.{Token}
 use Rattle.json.specs.Word.{is_space}
 use Rattle.yaml_base.specs.declared.kinds.CollectionKind.{CollectionKind}
 use Rattle.yaml_base.specs.declared.kinds.CollectionKind.TheVariants.{Mapping, Sequence}
 use Rattle.yaml_json.specs.Texts.{is_closer, is_opener}
+use Rattle.yaml_json.specs.Walk.{IsOpener, IsScalar}
 use Rattle.yaml_json.specs.declared.error.JsonError.{JsonError}
 use Rattle.yaml_json.specs.declared.error.JsonError.TheVariants as errors
 use Rattle.yaml_json.specs.declared.expecting.Depth.{Depth}
@@ -145,6 +148,29 @@ words expected.CommaOrBracket = codes "expected ',' or ']'"
 words expected.CommaOrBrace = codes "expected ',' or '}'"
 words expected.End = codes "expected the end of the text"
 words expected.Utf8 = codes "not UTF-8"
+
+-- ---- the lexemes of that input
+
+-- The next lexeme is a literal, a number, a string, or a bracket that opens.
+abbrev pub BeginsValue : Option Lexeme → Type 0
+BeginsValue next = (t : Token) × ((next ≡ Some (token t)) × (IsScalar t ⊎ IsOpener t))
+
+-- the next lexeme is a string
+abbrev pub IsText : Option Lexeme → Type 0
+IsText next = (text : List ℕ) × (next ≡ Some (token (Token.string text)))
+
+-- The input names the next lexeme; or, if there is none, the end of the text.
+abbrev pub Names : Expected → Option Lexeme → Type 0
+Names expected.Text next = BeginsValue next
+Names expected.Value next = BeginsValue next
+Names expected.ItemOrEnd next = BeginsValue next ⊎ (next ≡ Some (token Token.end_array))
+Names expected.NameOrEnd next = IsText next ⊎ (next ≡ Some (token Token.end_object))
+Names expected.Name next = IsText next
+Names expected.Colon next = next ≡ Some colon
+Names expected.CommaOrBracket next = (next ≡ Some comma) ⊎ (next ≡ Some (token Token.end_array))
+Names expected.CommaOrBrace next = (next ≡ Some comma) ⊎ (next ≡ Some (token Token.end_object))
+Names expected.End next = next ≡ None
+Names expected.Utf8 next = ⊥
 
 -- ---- by counting
 

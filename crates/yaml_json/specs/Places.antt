@@ -1,5 +1,5 @@
 -- The places of errors in a text.
-use Rattle.std.specs.Prelude.{◌≡◌, ℕ, ◌+◌, ◌<◌, ◌≤◌, List, [], ◌∷◌, ◌++◌, drop, flat_map, length, take}
+use Rattle.std.specs.Prelude.{◌≡◌, ◌↔◌, ℕ, ◌+◌, ◌<◌, ◌≤◌, Option, None, Some, List, [], ◌∷◌, ◌++◌, drop, flat_map, length, take}
 use Rattle.std.specs.Str.{IsValidUpTo}
 use Rattle.json.specs.Json.{Json}
 use Rattle.json.specs.Lex.{Lexeme, between, fresh, lex, punctuate}
@@ -7,7 +7,7 @@ use Rattle.json.specs.Strict.{HasUniqueKeys}
 use Rattle.json.specs.Tree.{depth as nesting, json_tokens}
 use Rattle.yaml_writer.specs.Places.{AreOf}
 use Rattle.yaml_json.specs.Ahead.{IsTrimmed}
-use Rattle.yaml_json.specs.Expected.{expected_at}
+use Rattle.yaml_json.specs.Expected.{Names, expected_at}
 use Rattle.yaml_json.specs.Lexing.{MayBegin, mode_over}
 use Rattle.yaml_json.specs.Texts.{texts_in}
 use Rattle.yaml_json.specs.declared.error.JsonError.{JsonError}
@@ -52,6 +52,17 @@ pub record CannotStandAt (allowed : Json → Type 0) (text : List ℕ) (at : ℕ
 
 abbrev pub IsAny : Json → Type 0
 IsAny json = Unit {0}
+
+-- Some value goes on after these lexemes with the next; or, if there is none, it ends here.
+abbrev pub MayFollow : (before : List Lexeme) → Option Lexeme → Type 0
+MayFollow before None = (json : Json) × (punctuate fresh before ≡ json_tokens json)
+MayFollow before (Some next) = BeginLexemes IsAny (before ++ next ∷ [])
+
+-- At the first lexeme that isn't possible, the input that an error names there is what may follow, and nothing else may.
+abbrev pub ExpectedIsPossible : Type 0
+ExpectedIsPossible =
+    (text : List ℕ) (at : ℕ) → (place : CannotStandAt IsAny text at)
+    → (next : Option Lexeme) → MayFollow place.before next ↔ Names (expected_at text at) next
 
 -- it nests at most `depth` deep
 abbrev pub IsWithinDepth : (depth : ℕ) → Json → Type 0

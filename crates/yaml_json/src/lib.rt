@@ -20,7 +20,7 @@ mod words;
 
 pub use error::{JsonError, StreamError};
 pub use expecting::Expected;
-pub use laws::faults_differ;
+pub use laws::{expected_is_possible, faults_differ};
 pub use settings::JsonSettings;
 pub use several::write_json_texts;
 pub use stream::send_json_texts;

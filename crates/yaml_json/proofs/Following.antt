@@ -1,0 +1,223 @@
+-- The lexemes that follow one another in a value of JSON, by the last token and the arrays and objects that are open.
+use Rattle.std.proofs.Common.{◌≡◌, ◌↔◌, ℕ, Bool, true, false, ◌||◌, List, [], ◌∷◌, drop, refl, sym, subst, ◌∙◌}
+use Rattle.std.proofs.lemmas.Bool.{true≢false}
+use Rattle.json.specs.Lex.{Lexeme, Place, after_comma, after_key, after_value, begins_colon, colon, comma, fresh, if_allowed, may_begin, place_token, punctuate}
+use Rattle.json.specs.Lex.{token}
+use Rattle.json.specs.Token.{Token, begin_object, end_object, begin_array, end_array, key, string, number, boolean, null, bad}
+use Rattle.yaml_base.specs.declared.kinds.CollectionKind.{CollectionKind}
+use Rattle.yaml_base.specs.declared.kinds.CollectionKind.TheVariants.{Mapping, Sequence}
+use Rattle.yaml_json.proofs.Completing.{Completes}
+use Rattle.yaml_json.proofs.PunctuateSteps.{as_placed}
+use Rattle.yaml_json.specs.Expected.{after_word_byte}
+use Rattle.yaml_json.specs.Walk.{closes}
+use Rattle.yaml_json.specs.declared.expecting.Expected.{Expected}
+use Rattle.yaml_json.specs.declared.expecting.Expected.TheVariants as expected
+use Rattle.yaml_json.specs.declared.expecting.Last.{Last}
+use Rattle.yaml_json.specs.declared.expecting.Last.TheVariants.{Nothing, Opener, Comma, Colon, First, Value}
+
+-- ---- after a lexeme
+
+-- the kind of the last token
+abbrev pub last_by : Last → Token → Last
+last_by last begin_object = Opener
+last_by last end_object = Value
+last_by last begin_array = Opener
+last_by last end_array = Value
+last_by last (key s) = after_word_byte last
+last_by last (string s) = after_word_byte last
+last_by last (number s) = after_word_byte last
+last_by last (boolean b) = after_word_byte last
+last_by last null = after_word_byte last
+last_by last bad = after_word_byte last
+
+abbrev pub last_next : Last → Lexeme → Last
+last_next last (token t) = last_by last t
+last_next last comma = Comma
+last_next last colon = Colon
+
+-- the open arrays and objects
+abbrev pub kinds_by : List CollectionKind → Token → List CollectionKind
+kinds_by kinds begin_object = Mapping ∷ kinds
+kinds_by kinds end_object = drop 1 kinds
+kinds_by kinds begin_array = Sequence ∷ kinds
+kinds_by kinds end_array = drop 1 kinds
+kinds_by kinds (key s) = kinds
+kinds_by kinds (string s) = kinds
+kinds_by kinds (number s) = kinds
+kinds_by kinds (boolean b) = kinds
+kinds_by kinds null = kinds
+kinds_by kinds bad = kinds
+
+abbrev pub kinds_next : List CollectionKind → Lexeme → List CollectionKind
+kinds_next kinds (token t) = kinds_by kinds t
+kinds_next kinds comma = kinds
+kinds_next kinds colon = kinds
+
+-- ---- the lexemes that an input names
+
+abbrev pub begins : Token → Bool
+begins begin_object = true
+begins end_object = false
+begins begin_array = true
+begins end_array = false
+begins (key s) = false
+begins (string s) = true
+begins (number s) = true
+begins (boolean b) = true
+begins null = true
+begins bad = false
+
+abbrev pub is_text : Token → Bool
+is_text begin_object = false
+is_text end_object = false
+is_text begin_array = false
+is_text end_array = false
+is_text (key s) = false
+is_text (string s) = true
+is_text (number s) = false
+is_text (boolean b) = false
+is_text null = false
+is_text bad = false
+
+abbrev pub by_token : (Token → Bool) → Lexeme → Bool
+by_token f (token t) = f t
+by_token f comma = false
+by_token f colon = false
+
+abbrev pub is_comma : Lexeme → Bool
+is_comma (token t) = false
+is_comma comma = true
+is_comma colon = false
+
+abbrev pub is_colon : Lexeme → Bool
+is_colon (token t) = false
+is_colon comma = false
+is_colon colon = true
+
+abbrev pub names : Expected → Lexeme → Bool
+names expected.Text l = by_token begins l
+names expected.Value l = by_token begins l
+names expected.ItemOrEnd l = by_token begins l || by_token (λ t. closes t Sequence) l
+names expected.NameOrEnd l = by_token is_text l || by_token (λ t. closes t Mapping) l
+names expected.Name l = by_token is_text l
+names expected.Colon l = is_colon l
+names expected.CommaOrBracket l = is_comma l || by_token (λ t. closes t Sequence) l
+names expected.CommaOrBrace l = is_comma l || by_token (λ t. closes t Mapping) l
+names expected.End l = false
+names expected.Utf8 l = false
+
+-- ---- the rest of a value
+
+-- The lexemes go on with a value after this last token, with these open.
+abbrev pub Rest : Last → List CollectionKind → List Lexeme → Type 0
+Rest Nothing kinds ls = Completes true kinds (punctuate fresh ls)
+Rest Opener kinds ls = Completes false kinds (punctuate fresh ls)
+Rest Comma kinds ls = Completes false kinds (punctuate after_comma ls)
+Rest Colon kinds ls = Completes true kinds (punctuate fresh ls)
+Rest First [] ls = Completes false [] (punctuate after_value ls)
+Rest First (Sequence ∷ kinds) ls = Completes false (Sequence ∷ kinds) (punctuate after_value ls)
+Rest First (Mapping ∷ kinds) ls = Completes true (Mapping ∷ kinds) (punctuate after_key ls)
+Rest Value kinds ls = Completes false kinds (punctuate after_value ls)
+
+-- A bracket that was opened, or a comma, is within what is open.
+abbrev pub IsReachable : Last → List CollectionKind → Type 0
+IsReachable Opener [] = ⊥
+IsReachable Comma [] = ⊥
+IsReachable _ _ = Unit {0}
+
+abbrev pub If : Bool → Type 0 → Type 0
+If true X = X
+If false X = ⊥
+
+pub same : {X : Type 0} → X ↔ X
+same = (λ x. x, λ x. x)
+
+-- ---- a string
+
+name_put : (p : Place) (s : List ℕ) (ls : List Lexeme) → may_begin p ≡ true → begins_colon ls ≡ true
+    → punctuate p (token (string s) ∷ ls) ≡ key s ∷ punctuate after_key ls
+name_put p s ls may e =
+    as_placed p (string s) ls ∙ (λ i. place_token p (string s) (e i) (λ next. punctuate next ls))
+    ∙ (λ i. if_allowed (may i) (key s) (λ next. punctuate next ls) after_key)
+
+text_put : (p : Place) (s : List ℕ) (ls : List Lexeme) → may_begin p ≡ true → begins_colon ls ≡ false
+    → punctuate p (token (string s) ∷ ls) ≡ string s ∷ punctuate after_value ls
+text_put p s ls may e =
+    as_placed p (string s) ls ∙ (λ i. place_token p (string s) (e i) (λ next. punctuate next ls))
+    ∙ (λ i. if_allowed (may i) (string s) (λ next. punctuate next ls) after_value)
+
+-- it is a name before a colon, and else a value
+either_text : (P : List Token → Type 0) (X : Type 0) (p : Place) (s : List ℕ) (ls : List Lexeme) → may_begin p ≡ true
+    → (begins_colon ls ≡ true → P (key s ∷ punctuate after_key ls) ↔ X)
+    → (begins_colon ls ≡ false → P (string s ∷ punctuate after_value ls) ↔ X)
+    → P (punctuate p (token (string s) ∷ ls)) ↔ X
+either_text P X p s ls may f g = go (begins_colon ls) refl
+  where
+    go : (b : Bool) → begins_colon ls ≡ b → P (punctuate p (token (string s) ∷ ls)) ↔ X
+    go true e = subst (λ (ts : List Token). P ts ↔ X) (sym (name_put p s ls may e)) (f e)
+    go false e = subst (λ (ts : List Token). P ts ↔ X) (sym (text_put p s ls may e)) (g e)
+
+-- no colon follows a value
+no_colon : (ls : List Lexeme) (kinds : List CollectionKind) → begins_colon ls ≡ true → Completes false kinds (punctuate after_value ls) → ⊥
+unfolding punctuate
+no_colon [] kinds e so = true≢false (sym e)
+no_colon (token t ∷ ls) kinds e so = true≢false (sym e)
+no_colon (comma ∷ ls) kinds e so = true≢false (sym e)
+no_colon (colon ∷ ls) [] e so = so
+no_colon (colon ∷ ls) (Sequence ∷ kinds) e so = so
+no_colon (colon ∷ ls) (Mapping ∷ kinds) e so = so
+
+late_name : (t : Token) (b : Bool) (k : Place → List Token) → place_token after_key t b k ≡ bad ∷ []
+late_name begin_object b k = refl
+late_name end_object b k = refl
+late_name begin_array b k = refl
+late_name end_array b k = refl
+late_name (key s) b k = refl
+late_name (string s) true k = refl
+late_name (string s) false k = refl
+late_name (number s) b k = refl
+late_name (boolean v) b k = refl
+late_name null b k = refl
+late_name bad b k = refl
+
+-- nothing else follows a name
+pub no_token : (t : Token) (ls : List Lexeme) (kinds : List CollectionKind) → Completes true kinds (punctuate after_key (token t ∷ ls)) → ⊥
+no_token t ls kinds so =
+    subst (Completes true kinds) (as_placed after_key t ls ∙ late_name t (begins_colon ls) (λ next. punctuate next ls)) so
+
+no_other : (ls : List Lexeme) (kinds : List CollectionKind) → begins_colon ls ≡ false → Completes true kinds (punctuate after_key ls) → ⊥
+unfolding punctuate
+no_other [] kinds e so = so
+no_other (token t ∷ ls) kinds e so = no_token t ls kinds so
+no_other (comma ∷ ls) kinds e so = so
+no_other (colon ∷ ls) kinds e so = true≢false e
+
+pub text_owed : (p : Place) (kinds : List CollectionKind) (s : List ℕ) (ls : List Lexeme) → may_begin p ≡ true
+    → Completes true kinds (punctuate p (token (string s) ∷ ls)) ↔ Completes false kinds (punctuate after_value ls)
+text_owed p kinds s ls may =
+    either_text (Completes true kinds) (Completes false kinds (punctuate after_value ls)) p s ls may
+    (λ e. (λ never. absurd never, λ so. absurd (no_colon ls kinds e so))) (λ e. same)
+
+pub text_item : (p : Place) (kinds : List CollectionKind) (s : List ℕ) (ls : List Lexeme) → may_begin p ≡ true
+    → Completes false (Sequence ∷ kinds) (punctuate p (token (string s) ∷ ls)) ↔ Completes false (Sequence ∷ kinds) (punctuate after_value ls)
+text_item p kinds s ls may =
+    either_text (Completes false (Sequence ∷ kinds)) (Completes false (Sequence ∷ kinds) (punctuate after_value ls)) p s ls may
+    (λ e. (λ never. absurd never, λ so. absurd (no_colon ls (Sequence ∷ kinds) e so))) (λ e. same)
+
+pub text_name : (p : Place) (kinds : List CollectionKind) (s : List ℕ) (ls : List Lexeme) → may_begin p ≡ true
+    → Completes false (Mapping ∷ kinds) (punctuate p (token (string s) ∷ ls)) ↔ Completes true (Mapping ∷ kinds) (punctuate after_key ls)
+text_name p kinds s ls may =
+    either_text (Completes false (Mapping ∷ kinds)) (Completes true (Mapping ∷ kinds) (punctuate after_key ls)) p s ls may
+    (λ e. same) (λ e. (λ never. absurd never, λ so. absurd (no_other ls (Mapping ∷ kinds) e so)))
+
+-- a string doesn't follow a value
+late_text : (b : Bool) (s : List ℕ) (k : Place → List Token) → place_token after_value (string s) b k ≡ bad ∷ []
+late_text true s k = refl
+late_text false s k = refl
+
+late_put : (s : List ℕ) (ls : List Lexeme) → punctuate after_value (token (string s) ∷ ls) ≡ bad ∷ []
+late_put s ls = as_placed after_value (string s) ls ∙ late_text (begins_colon ls) s (λ next. punctuate next ls)
+
+pub never_late : (P : List Token → Type 0) (s : List ℕ) (ls : List Lexeme) → (P (bad ∷ []) → ⊥)
+    → P (punctuate after_value (token (string s) ∷ ls)) ↔ ⊥
+never_late P s ls refused = (λ so. refused (subst P (late_put s ls) so), λ never. absurd never)
