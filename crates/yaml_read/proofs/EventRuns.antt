@@ -303,7 +303,7 @@ pub fails_at_event : (whole : List ℕ) (found : List Event) (levels : List Pend
 fails_at_event whole found levels bytes stop.Memory begun due none place = record { stops = tt; reads = λ events node run in_node is. refl }
 fails_at_event whole found levels bytes (stop.Refused left) begun due none place =
     record {
-      stops = in_event levels begun.events begun.text bytes begun.begun begun.parts none place;
+      stops = in_event levels begun.events begun.text bytes begun.begun begun.in_node begun.parts none place;
       reads = no_run whole found levels bytes due none (stop.Refused left);
     }
 fails_at_event whole found levels bytes (stop.TooDeep left) begun due none place = absurd place
@@ -334,7 +334,7 @@ run_ends whole found new end (Err error) root read =
   where
     end_stops : (whole : List ℕ) (found : List Event) (bytes : List ℕ) (error : Stop) → RunEnded whole found bytes
         → StopsBy (λ left. LacksEnd bytes (stop.Refused left)) error → RunStops whole error
-    end_stops whole found bytes (stop.Refused left) ended lacks = after_root ended.events ended.text bytes ended.run ended.parts lacks
+    end_stops whole found bytes (stop.Refused left) ended lacks = after_root ended.events ended.text bytes ended.run ended.in_node ended.parts lacks
     end_stops whole found bytes (stop.TooDeep left) ended lacks = absurd lacks
     end_stops whole found bytes stop.Memory ended lacks = tt
 

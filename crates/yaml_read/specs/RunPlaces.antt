@@ -1,5 +1,5 @@
 -- The places at which the bytes of a document stop to be those of a node's events.
-use Rattle.std.specs.Prelude.{ℕ, ◌≡◌, ◌≢◌, true, None, List, [], ◌∷◌, ◌++◌, length}
+use Rattle.std.specs.Prelude.{ℕ, ◌≡◌, ◌≢◌, true, None, List, [], ◌∷◌, ◌++◌, All, length}
 use Rattle.std.specs.Str.{encode_utf8_all}
 use Rattle.yaml_base.specs.Characters.{Text}
 use Rattle.yaml_base.specs.Event.{DocumentStart, Event, document_start, document_end}
@@ -41,8 +41,8 @@ pub data IsEventPlace (levels : List Pending) (bytes : List ℕ) (left : ℕ) : 
 -- or they are those of a node, and its line's end is missing at the place, or more follows that.
 pub data StopsInRun (whole : List ℕ) (left : ℕ) : Type 0 where
   in_event : (levels : List Pending) (events : List Event) (text : Text) (bytes : List ℕ) → HasBegunText levels events text
-      → whole ≡ encode_utf8_all text ++ bytes → NoEventBegins levels bytes → IsEventPlace levels bytes left → StopsInRun whole left
-  after_root : (events : List Event) (text : Text) (bytes : List ℕ) → HasRunText [] events text
+      → All IsInNode events → whole ≡ encode_utf8_all text ++ bytes → NoEventBegins levels bytes → IsEventPlace levels bytes left → StopsInRun whole left
+  after_root : (events : List Event) (text : Text) (bytes : List ℕ) → HasRunText [] events text → All IsInNode events
       → whole ≡ encode_utf8_all text ++ bytes → LacksEnd bytes (stop.Refused left) → StopsInRun whole left
 
 -- Reading stops at a place with this property, or memory gave out.
