@@ -2,16 +2,17 @@
 use Rattle.yaml_base.proofs.Common.{ℕ, [], ◌∷◌, ◌++◌, ◌≡◌, ◌∙◌, false≢true, ◌⊎◌, ◌<◌, true, false, Option, None, Some, List, refl, ap, subst, sym, append_assoc}
 use Rattle.yaml_base.proofs.Common.{All, All-head, All-tail, codes, inl, inr, line_feed, Text, encode_utf8_all, Event, alias, scalar, sequence_start}
 use Rattle.yaml_base.proofs.Common.{sequence_end, mapping_start, mapping_end, stream_start, stream_end, document_start, document_end, length, arith}
-use Rattle.yaml_base.{proofs.Common.length-append, proofs.Common.length-le-encodes, specs.values.ValueText.in_quotes}
+use Rattle.yaml_base.proofs.Common.{length-append, length-le-encodes}
 use Rattle.std.specs.{Prelude.Result, Prelude.Ok, Prelude.Err, Prelude.map, Borrow.Bor}
 use Rattle.std.proofs.lemmas.{List.append_cancel_left, List.map-append, List.Elements.All-nil, List.Elements.All-push, Str.encodes-append}
 use Rattle.yaml_read.specs.EventTexts.{Pending, HasBegunText, HasRunText, IsInNode, closing_text, ends_name, event_text, item_awaited, key_awaited, lead_text}
-use Rattle.yaml_read.specs.EventTexts.{may_come, more_come, none_begun, one_more, next_open, left_open, outside, root_ends, value_awaited, BeginsNode}
-use Rattle.yaml_read.specs.EventTexts.{begins_node, ends_mapping, ends_sequence, is_alias, is_mapping, is_scalar, is_sequence, opening_text, trail_text}
+use Rattle.yaml_read.specs.EventTexts.{may_come, more_come, none_begun, one_more, next_open, left_open, outside, root_ends, value_awaited}
+use Rattle.yaml_read.specs.EventTexts.{IsOver, begins_node, ends_mapping, ends_sequence, opening_text, trail_text}
 use Rattle.yaml_read.specs.RunPlaces.{IsEventPlace, RunStops, StopsBy, after_root, bare_start, in_document, in_event, NoEventBegins}
 use Rattle.yaml_read.specs.Beginnings.{ReadOr}
 use Rattle.yaml_read.specs.Places.{LacksEnd, more_follows, no_end}
 use Rattle.yaml_read.specs.EventReads.{EndDue, EndRead, IsEventRead, RootRead, RunAnswer, RunEnded, RunFails}
+use Rattle.yaml_read.proofs.NameEnds.{longer_over, nothing_over, opening_some}
 use Rattle.yaml_read.proofs.EventSteps.{behind_text, end_shorter, mapping_ends, node_event, sequence_ends}
 use Rattle.yaml_read.specs.EventSteps.{ReadsEvent, await_opened, text_behind_lead, trail_behind_opening}
 use Rattle.yaml_read.{specs.Words.OrMemory, specs.declared.errors.Stop.Stop, proofs.Encoded.word_encoded, proofs.Words.no_word}
@@ -96,6 +97,7 @@ pub record RunBegun (whole : List ℕ) (found : List Event) (levels : List Pendi
   pub begun : HasBegunText levels events text
   pub in_node : All IsInNode events
   pub parts : whole ≡ encode_utf8_all text ++ bytes
+  pub over : IsOver text bytes
 
 -- or those of the whole root, by what is open
 abbrev pub RunRead : (whole : List ℕ) (found : List Event) → Option (List Pending) → (bytes : List ℕ) → Type 0
@@ -103,7 +105,8 @@ RunRead whole found None bytes = RunEnded whole found bytes
 RunRead whole found (Some levels) bytes = RunBegun whole found levels bytes
 
 pub nothing_read : (whole : List ℕ) → RunBegun whole (document_start bare_start ∷ []) [] whole
-nothing_read whole = record { events = []; text = []; found_are = refl; begun = none_begun; in_node = All-nil IsInNode; parts = refl }
+nothing_read whole =
+    record { events = []; text = []; found_are = refl; begun = none_begun; in_node = All-nil IsInNode; parts = refl; over = nothing_over whole }
 
 -- the bytes with one more event
 one_more_parts : (whole bytes rest : List ℕ) (text own : Text) → whole ≡ encode_utf8_all text ++ bytes → bytes ≡ encode_utf8_all own ++ rest
@@ -111,6 +114,24 @@ one_more_parts : (whole bytes rest : List ℕ) (text own : Text) → whole ≡ e
 one_more_parts whole bytes rest text own is also =
     is ∙ ap (λ t. encode_utf8_all text ++ t) also ∙ sym (append_assoc (encode_utf8_all text) (encode_utf8_all own) rest)
     ∙ ap (λ t. t ++ rest) (sym (encodes-append text own))
+
+-- an event's text isn't empty
+event_some : (levels : List Pending) (event : Event) → IsInNode event → may_come levels event ≡ true → 0 < length (event_text levels event)
+event_some levels _ (begins_node event begins) comes =
+    let known = node_event levels event begins in
+    omega (
+      arith,
+      ap length known.text,
+      length-append (lead_text levels) (text_behind_lead levels event),
+      length-append (opening_text event) (trail_behind_opening levels (await_opened event)),
+      opening_some event begins,
+    )
+event_some levels _ ends_sequence comes =
+    let less = end_shorter levels (event_text levels sequence_end) (trail_text (outside levels)) (sequence_ends levels comes).0 refl in
+    omega (arith, less)
+event_some levels _ ends_mapping comes =
+    let less = end_shorter levels (event_text levels mapping_end) (trail_text (outside levels)) (mapping_ends levels comes).0 refl in
+    omega (arith, less)
 
 -- one more event is read
 pub event_more : (whole : List ℕ) (found : List Event) (levels : List Pending) (bytes rest : List ℕ) (after : Option (List Pending)) (event : Event)
@@ -125,6 +146,7 @@ event_more whole found levels bytes rest None event begun read =
           (root_ends levels event (event_text levels event) read.comes read.opened refl);
       in_node = All-push IsInNode begun.events event begun.in_node read.in_node;
       parts = one_more_parts whole bytes rest begun.text (event_text levels event) begun.parts read.parts;
+      over = longer_over begun.text (event_text levels event) rest (event_some levels event read.in_node read.comes) read.over;
     }
 event_more whole found levels bytes rest (Some next) event begun read =
     record {
@@ -134,6 +156,7 @@ event_more whole found levels bytes rest (Some next) event begun read =
       begun = one_more levels next begun.events event begun.text begun.begun read.comes read.opened;
       in_node = All-push IsInNode begun.events event begun.in_node read.in_node;
       parts = one_more_parts whole bytes rest begun.text (event_text levels event) begun.parts read.parts;
+      over = longer_over begun.text (event_text levels event) rest (event_some levels event read.in_node read.comes) read.over;
     }
 
 -- ---- the events that are due
@@ -303,7 +326,7 @@ pub fails_at_event : (whole : List ℕ) (found : List Event) (levels : List Pend
 fails_at_event whole found levels bytes stop.Memory begun due none place = record { stops = tt; reads = λ events node run in_node is. refl }
 fails_at_event whole found levels bytes (stop.Refused left) begun due none place =
     record {
-      stops = in_event levels begun.events begun.text bytes begun.begun begun.in_node begun.parts none place;
+      stops = in_event levels begun.events begun.text bytes begun.begun begun.in_node begun.parts begun.over none place;
       reads = no_run whole found levels bytes due none (stop.Refused left);
     }
 fails_at_event whole found levels bytes (stop.TooDeep left) begun due none place = absurd place
@@ -334,7 +357,7 @@ run_ends whole found new end (Err error) root read =
   where
     end_stops : (whole : List ℕ) (found : List Event) (bytes : List ℕ) (error : Stop) → RunEnded whole found bytes
         → StopsBy (λ left. LacksEnd bytes (stop.Refused left)) error → RunStops whole error
-    end_stops whole found bytes (stop.Refused left) ended lacks = after_root ended.events ended.text bytes ended.run ended.in_node ended.parts lacks
+    end_stops whole found bytes (stop.Refused left) ended lacks = after_root ended.events ended.text bytes ended.run ended.in_node ended.parts ended.over lacks
     end_stops whole found bytes (stop.TooDeep left) ended lacks = absurd lacks
     end_stops whole found bytes stop.Memory ended lacks = tt
 
@@ -360,32 +383,6 @@ end_lacking bytes error (more_follows end is some place) = (
 )
 
 -- ---- less is left
-
-some_behind : (front back : List ℕ) → 0 < length back → 0 < length (front ++ back)
-some_behind front back some = omega (arith, some, length-append front back)
-
-opening_some : (event : Event) → BeginsNode event → 0 < length (opening_text event)
-opening_some _ (is_alias name named) = omega arith
-opening_some _ (is_scalar anchor tag value parts) = some_behind _ (in_quotes value) (omega arith)
-opening_some _ (is_sequence anchor tag parts) = some_behind _ (codes "[") (omega arith)
-opening_some _ (is_mapping anchor tag parts) = some_behind _ (codes "{") (omega arith)
-
-event_some : (levels : List Pending) (event : Event) → IsInNode event → may_come levels event ≡ true → 0 < length (event_text levels event)
-event_some levels _ (begins_node event begins) comes =
-    let known = node_event levels event begins in
-    omega (
-      arith,
-      ap length known.text,
-      length-append (lead_text levels) (text_behind_lead levels event),
-      length-append (opening_text event) (trail_behind_opening levels (await_opened event)),
-      opening_some event begins,
-    )
-event_some levels _ ends_sequence comes =
-    let less = end_shorter levels (event_text levels sequence_end) (trail_text (outside levels)) (sequence_ends levels comes).0 refl in
-    omega (arith, less)
-event_some levels _ ends_mapping comes =
-    let less = end_shorter levels (event_text levels mapping_end) (trail_text (outside levels)) (mapping_ends levels comes).0 refl in
-    omega (arith, less)
 
 pub event_shorter : (levels : List Pending) (bytes rest : List ℕ) (after : Option (List Pending)) (event : Event)
     → ReadsEvent levels bytes after event rest → length rest < length bytes

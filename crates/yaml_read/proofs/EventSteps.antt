@@ -7,7 +7,8 @@ use Rattle.std.{proofs.lemmas.List.append_cancel_left, proofs.lemmas.Str.encodes
 use Rattle.yaml_read.specs.EventSteps.{GoesTo, ReadsEvent, ReadsNode, await_opened, open_behind_opening, text_behind_lead, trail_behind_opening}
 use Rattle.yaml_read.specs.EventTexts.{Pending, BeginsNode, IsInNode, begins_node, closing_text, ends_mapping, ends_name, ends_sequence, event_text, is_alias}
 use Rattle.yaml_read.specs.EventTexts.{is_mapping, is_scalar, is_sequence, item_awaited, key_awaited, lead_text, may_come, next_open, left_open, opening_text}
-use Rattle.yaml_read.specs.EventTexts.{outside, trail_text, value_awaited}
+use Rattle.yaml_read.specs.EventTexts.{IsOver, outside, trail_text, value_awaited}
+use Rattle.yaml_read.proofs.NameEnds.{behind_over, end_over, longer_over, opening_some}
 use Rattle.yaml_read.specs.{Awaits.IsInnermostAwait, Awaits.LeadStands, Awaits.can_end, Awaits.closing_event, Awaits.seen_await, declared.leads.Await.Await}
 use Rattle.yaml_read.specs.{declared.errors.Stop.Stop, declared.steps.Progress.TheVariants.Continues}
 use Rattle.yaml_read.proofs.{Awaits.closing_encoded, Awaits.lead_encoded, Awaits.lead_or_end, Awaits.trail_encoded, Words.no_word}
@@ -122,9 +123,9 @@ behind_text levels bytes rest event tail is also = cut_text bytes rest (event_te
 
 -- a node was read, with its beginning and what follows that
 pub node_read : (levels : List Pending) (text middle rest : List ℕ) (after : Option (List Pending)) (event : Event) → BeginsNode event
-    → text ≡ encode_utf8_all (opening_text event) ++ middle → open_behind_opening levels (await_opened event) ≡ after
+    → text ≡ encode_utf8_all (opening_text event) ++ middle → IsOver (opening_text event) middle → open_behind_opening levels (await_opened event) ≡ after
     → middle ≡ trail_behind_opening levels (await_opened event) ++ rest → ReadsNode levels text after event rest
-node_read levels text middle rest after event begins is opened behind =
+node_read levels text middle rest after event begins is over opened behind =
     let trail = trail_behind_opening levels (await_opened event) in
     record {
       begins = begins;
@@ -136,6 +137,7 @@ node_read levels text middle rest after event begins is opened behind =
           (ap (λ t. encode_utf8_all (opening_text event) ++ t)
           (sym (append-nil trail) ∙ sym (behind_encoded levels (await_opened event) []) ∙ ap encode_utf8_all (append-nil trail))
           ∙ sym (encodes-append (opening_text event) trail));
+      over = behind_over levels (await_opened event) (opening_text event) middle rest behind over;
     }
 
 -- after what leads to it
@@ -151,6 +153,14 @@ event_read levels text behind rest after event is node =
           is ∙ ap (λ t. lead_text levels ++ t) node.parts
           ∙ sym (append_assoc (lead_text levels) (encode_utf8_all (text_behind_lead levels event)) rest)
           ∙ ap (λ t. t ++ rest) (sym (lead_encoded levels (text_behind_lead levels event)) ∙ ap encode_utf8_all (sym known.text));
+      over =
+          subst (λ (t : Text). IsOver t rest) (sym known.text)
+          (longer_over (lead_text levels) (text_behind_lead levels event) rest
+          (omega (
+            arith,
+            length-append (opening_text event) (trail_behind_opening levels (await_opened event)),
+            opening_some event node.begins,
+          )) node.over);
     }
 
 -- a collection's end was read
@@ -172,6 +182,7 @@ end_read levels text behind rest after event can is same opened follows =
           (ap (λ t. closing_text levels ++ t)
           (sym (append-nil trail) ∙ sym (trail_encoded (outside levels) []) ∙ ap encode_utf8_all (append-nil trail))
           ∙ sym (closing_encoded levels trail) ∙ ap encode_utf8_all (sym known.text));
+      over = subst (λ (t : Text). IsOver t rest) (sym known.text) (end_over levels behind rest can follows);
     })
 
 -- less is left after a collection's end

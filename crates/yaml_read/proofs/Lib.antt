@@ -42,6 +42,7 @@ pub mod Awaits
 pub mod EventSteps
 pub mod EventRuns
 pub mod NameTexts
+pub mod NameEnds
 pub mod TagBytes
 pub mod TagTexts
 pub mod TagPrefixes

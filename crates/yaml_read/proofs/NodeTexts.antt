@@ -7,9 +7,10 @@ use Rattle.std.{specs.Prelude.Result, specs.Prelude.Ok, specs.Prelude.Err, specs
 use Rattle.std.{proofs.lemmas.Str.encodes-append, proofs.lemmas.Str.IsUtf8-string_bytes, proofs.lemmas.Str.scalars-chars, specs.String.string_bytes}
 use Rattle.yaml_read.proofs.TagTexts.{IsSpelled, is_spelled, of_document, of_type, whole}
 use Rattle.yaml_read.specs.{Places.IsWholeWord, Words.OrMemory, Words.past_word}
-use Rattle.yaml_read.specs.EventTexts.{BeginsNode, IsAnchor, ends_name, is_alias, is_mapping, is_scalar, is_sequence, opening_text}
+use Rattle.yaml_read.specs.EventTexts.{BeginsNode, IsAnchor, IsOver, ends_name, is_alias, is_mapping, is_scalar, is_sequence, opening_text}
 use Rattle.yaml_read.specs.WrittenTags.{HasHeldText, mapping_opened, sequence_opened, value_quoted}
 use Rattle.yaml_read.specs.Beginnings.{IsHeldRead, IsOpeningRead, IsScalarRead, IsTaggedRead, ReadOr}
+use Rattle.yaml_read.proofs.NameEnds.{held_over}
 use Rattle.yaml_read.proofs.NameTexts.{anchor_absent, anchor_there, space_there}
 use Rattle.yaml_read.proofs.{Encoded.word_encoded, TagBytes.same_first, Turns.cut_is, Words.no_word}
 use Rattle.yaml_read.specs.declared.errors.Stop.{Stop}
@@ -259,9 +260,8 @@ pub record IsTaggedAt (anchor : Option Text) (event : Event) (rest : Text) (behi
 
 -- no event has an anchor if the text doesn't begin with `&`
 pub behind_none : (text : List ℕ) → past_word (codes "*") text ≡ None → past_word (codes "&") text ≡ None
-    → (event : Event) (rest : Text) → BeginsNode event → ends_name rest ≡ true → text ≡ encode_utf8_all (opening_text event ++ rest)
-    → IsTaggedAt None event rest text
-behind_none text none also event rest begins ends is =
+    → (event : Event) (rest : Text) → BeginsNode event → text ≡ encode_utf8_all (opening_text event ++ rest) → IsTaggedAt None event rest text
+behind_none text none also event rest begins is =
     let at = at_parts event (opening_text event) rest text (opening_of event begins) is none in
     let absent = anchor_absent at.anchor (tag_text (Some at.tag) false ++ (at.written ++ rest)) text also at.stands in
     record {
@@ -311,9 +311,9 @@ pub behind_space : (name : Text) (inside behind after : List ℕ)
     → ((other rest : Text) → alias_fault other ≡ None → ends_name rest ≡ true → inside ≡ encode_utf8_all (other ++ rest)
     → (name ≡ other) × (behind ≡ encode_utf8_all rest))
     → behind ≡ codes " " ++ after
-    → (event : Event) (rest : Text) → BeginsNode event → ends_name rest ≡ true → codes "&" ++ inside ≡ encode_utf8_all (opening_text event ++ rest)
+    → (event : Event) (rest : Text) → BeginsNode event → codes "&" ++ inside ≡ encode_utf8_all (opening_text event ++ rest)
     → IsTaggedAt (Some name) event rest after
-behind_space name inside behind after one cut event rest begins ends is =
+behind_space name inside behind after one cut event rest begins is =
     let at = behind_mark inside event rest begins is in
     let same = one at.name (space ∷ at.more) at.named refl at.stands in
     subst (λ (n : Text). IsTaggedAt (Some n) event rest after) (sym same.0)
@@ -325,15 +325,14 @@ pub no_space : (name : Text) (inside behind : List ℕ)
     → ((other rest : Text) → alias_fault other ≡ None → ends_name rest ≡ true → inside ≡ encode_utf8_all (other ++ rest)
     → (name ≡ other) × (behind ≡ encode_utf8_all rest))
     → past_word (codes " ") behind ≡ None
-    → (event : Event) (rest : Text) → BeginsNode event → ends_name rest ≡ true → codes "&" ++ inside ≡ encode_utf8_all (opening_text event ++ rest) → ⊥
-no_space name inside behind one none event rest begins ends is =
+    → (event : Event) (rest : Text) → BeginsNode event → codes "&" ++ inside ≡ encode_utf8_all (opening_text event ++ rest) → ⊥
+no_space name inside behind one none event rest begins is =
     let at = behind_mark inside event rest begins is in
     space_there at.more behind (one at.name (space ∷ at.more) at.named refl at.stands).1 none
 
 -- an anchor, if there is one, and the text after it
 pub opening_read : (anchor : Option Text) (text behind rest : List ℕ) (event : Event) → IsAnchor anchor → text ≡ encode_utf8_all (anchor_text anchor) ++ behind
-    → ((other : Event) (after : Text) → BeginsNode other → ends_name after ≡ true → text ≡ encode_utf8_all (opening_text other ++ after)
-    → IsTaggedAt anchor other after behind)
+    → ((other : Event) (after : Text) → BeginsNode other → text ≡ encode_utf8_all (opening_text other ++ after) → IsTaggedAt anchor other after behind)
     → IsTaggedRead anchor behind event rest → IsOpeningRead text event rest
 opening_read anchor text behind rest event named is one read =
     let begins = begins_by anchor read.tag read.held read.written named read.sound read.scalars read.has in
@@ -342,9 +341,13 @@ opening_read anchor text behind rest event named is one read =
       parts = both_read (anchor_text anchor) (tag_text (Some read.tag) false ++ read.written) text behind rest is read.parts
           ∙ ap (λ t. encode_utf8_all t ++ rest) (sym begins.1 ∙ ap opening_text (sym read.is));
       only = λ other after begins ends is.
-          let at = one other after begins ends is in
+          let at = one other after begins is in
           let same = read.only at.tag at.held at.written after at.sound at.scalars at.has at.stands in
           (same.0 ∙ at.is, same.1);
+      over =
+          subst (λ (t : Text). IsOver t rest) (sym (ap opening_text read.is ∙ begins.1))
+          (subst (λ (t : Text). IsOver t rest) (append_assoc (anchor_text anchor) (tag_text (Some read.tag) false) read.written)
+          (held_over read.held read.written (anchor_text anchor ++ tag_text (Some read.tag) false) rest read.has));
     }
 
 -- ---- answers

@@ -8,7 +8,7 @@ use Rattle.yaml_base.specs.Tags.{alias_fault, tag_fault}
 use Rattle.yaml_base.specs.graphs.DumpedText.{tag_text}
 use Rattle.yaml_base.specs.graphs.Meetings.{Held, opening_event_of, scalar_held}
 use Rattle.yaml_base.specs.values.ValueText.{in_quotes}
-use Rattle.yaml_read.specs.EventTexts.{BeginsNode, ends_name, opening_text}
+use Rattle.yaml_read.specs.EventTexts.{BeginsNode, IsOver, ends_name, opening_text}
 use Rattle.yaml_read.specs.WrittenTags.{HasHeldText, ends_tag}
 use Rattle.yaml_read.specs.declared.errors.Stop.{Stop}
 use Rattle.yaml_read.specs.declared.errors.Stop.TheVariants as stop
@@ -25,6 +25,7 @@ pub record IsNameRead (text : List ℕ) (name : Text) (rest : List ℕ) : Type 0
   pub parts : text ≡ encode_utf8_all name ++ rest
   pub only : (other after : Text) → alias_fault other ≡ None → ends_name after ≡ true → text ≡ encode_utf8_all (other ++ after)
       → (name ≡ other) × (rest ≡ encode_utf8_all after)
+  pub ends : ends_name rest ≡ true
 
 abbrev pub NoName : (text : List ℕ) → Type 0
 NoName text = (name rest : Text) → alias_fault name ≡ None → ends_name rest ≡ true → text ≡ encode_utf8_all (name ++ rest) → ⊥
@@ -95,6 +96,8 @@ pub record IsOpeningRead (text : List ℕ) (event : Event) (rest : List ℕ) : T
   pub parts : text ≡ encode_utf8_all (opening_text event) ++ rest
   pub only : (other : Event) (after : Text) → BeginsNode other → ends_name after ≡ true → text ≡ encode_utf8_all (opening_text other ++ after)
       → (event ≡ other) × (rest ≡ encode_utf8_all after)
+  pub over : IsOver (opening_text event) rest
 
 abbrev pub NoOpening : (text : List ℕ) → Type 0
-NoOpening text = (event : Event) (rest : Text) → BeginsNode event → ends_name rest ≡ true → text ≡ encode_utf8_all (opening_text event ++ rest) → ⊥
+NoOpening text =
+    (event : Event) (rest : Text) → BeginsNode event → IsOver (opening_text event) rest → text ≡ encode_utf8_all (opening_text event ++ rest) → ⊥

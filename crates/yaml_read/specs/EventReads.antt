@@ -5,7 +5,7 @@ use Rattle.std.specs.Str.{encode_utf8_all}
 use Rattle.yaml_base.specs.Characters.{Text, line_feed}
 use Rattle.yaml_base.specs.Event.{Event, document_start, document_end}
 use Rattle.yaml_read.specs.EventSteps.{ReadsEvent, ReadsNode, text_behind_lead}
-use Rattle.yaml_read.specs.EventTexts.{Pending, BeginsNode, HasRunText, IsInNode, ends_name, event_text, may_come}
+use Rattle.yaml_read.specs.EventTexts.{Pending, BeginsNode, HasRunText, IsInNode, IsOver, ends_name, event_text, may_come}
 use Rattle.yaml_read.specs.Places.{LacksEnd}
 use Rattle.yaml_read.specs.RunPlaces.{RunStops, StopsBy, bare_start, in_document}
 use Rattle.yaml_read.specs.declared.errors.Stop.{Stop}
@@ -43,6 +43,7 @@ pub record RunEnded (whole : List ℕ) (found : List Event) (bytes : List ℕ) :
   pub run : HasRunText [] events text
   pub in_node : All IsInNode events
   pub parts : whole ≡ encode_utf8_all text ++ bytes
+  pub over : IsOver text bytes
 
 -- nothing but the document's end is due, after the root
 pub record EndDue (events found : List Event) (bytes : List ℕ) : Type 0 where

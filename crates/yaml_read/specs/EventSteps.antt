@@ -4,7 +4,7 @@ use Rattle.std.specs.Str.{encode_utf8_all}
 use Rattle.yaml_base.specs.Characters.{Text}
 use Rattle.yaml_base.specs.Event.{Event, sequence_start, mapping_start}
 use Rattle.yaml_read.specs.Awaits.{seen_await}
-use Rattle.yaml_read.specs.EventTexts.{Pending, BeginsNode, IsInNode, event_text, may_come, next_open, left_open, opening_text, trail_text}
+use Rattle.yaml_read.specs.EventTexts.{Pending, BeginsNode, IsInNode, IsOver, event_text, may_come, next_open, left_open, opening_text, trail_text}
 use Rattle.yaml_read.specs.declared.leads.Await.{Await}
 use Rattle.yaml_read.specs.declared.leads.Await.TheVariants as code
 use Rattle.yaml_read.specs.declared.steps.Progress.{Progress}
@@ -51,6 +51,7 @@ pub record ReadsNode (before : List Pending) (text : List ℕ) (after : Option (
   pub begins : BeginsNode event
   pub opened : open_behind_opening before (await_opened event) ≡ after
   pub parts : text ≡ encode_utf8_all (text_behind_lead before event) ++ rest
+  pub over : IsOver (text_behind_lead before event) rest
 
 -- an event was read, with what leads to it and what follows it
 pub record ReadsEvent (before : List Pending) (text : List ℕ) (after : Option (List Pending)) (event : Event) (rest : List ℕ) : Type 0 where
@@ -58,3 +59,4 @@ pub record ReadsEvent (before : List Pending) (text : List ℕ) (after : Option 
   pub comes : may_come before event ≡ true
   pub opened : next_open before event ≡ after
   pub parts : text ≡ encode_utf8_all (event_text before event) ++ rest
+  pub over : IsOver (event_text before event) rest

@@ -1,5 +1,5 @@
 -- The canonical text of a document's node, event by event.
-use Rattle.std.specs.Prelude.{◌*◌, ◌≡◌, Bool, true, false, not, Option, None, Some, List, [], ◌∷◌, ◌++◌, codes, length}
+use Rattle.std.specs.Prelude.{ℕ, ◌*◌, ◌≡◌, Bool, true, false, not, Option, None, Some, List, [], ◌∷◌, ◌++◌, codes, length}
 use Rattle.std.specs.Str.{all_scalars}
 use Rattle.yaml_base.specs.Characters.{Text, is_alpha}
 use Rattle.yaml_base.specs.Event.{Event, alias, scalar, sequence_start, sequence_end, mapping_start, mapping_end, any_style, any_layout}
@@ -136,3 +136,13 @@ pub data IsInNode : Event → Type 0 where
 abbrev pub ends_name : Text → Bool
 ends_name [] = true
 ends_name (c ∷ rest) = not (is_alpha c)
+
+-- a text ends with a character of a name
+abbrev pub ends_in_name : Text → Bool
+ends_in_name [] = false
+ends_in_name (c ∷ []) = is_alpha c
+ends_in_name (c ∷ next ∷ rest) = ends_in_name (next ∷ rest)
+
+-- no name goes on from a text into the bytes after it
+pub record IsOver (text : Text) (bytes : List ℕ) : Type 0 where
+  pub ends : ends_in_name text ≡ true → ends_name bytes ≡ true

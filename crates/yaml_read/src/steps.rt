@@ -135,7 +135,7 @@ fn read_node<'a, A: Allocator + Copy>(
     ensures reads { ReadOr (λ found. IsNodeRead (map seen_event events.old.items) (seen_awaits awaits.old.items) text.now
         (map seen_event events.new.items) (open_now (seen_awaits awaits.new.items) found) (bytes_behind found))
         (NoNode (seen_awaits awaits.old.items) text.now) result }
-    ensures placed { IfErr result (StopsBy (IsNodePlace text.now)) }
+    ensures placed { IfErr result (StopsBy (IsNodePlace (seen_awaits awaits.old.items) text.now)) }
 {
     match read_opening(alloc, text) {
         Ok((event, rest)) => {

@@ -1,4 +1,7 @@
-use Rattle.std.proofs.Common.{sym, ◌∙◌}
+use Rattle.std.proofs.Common.{ap, sym, ◌∙◌}
+use Rattle.std.specs.List.{prefix_len}
+use Rattle.yaml_base.specs.Characters.{is_alpha}
+use Rattle.yaml_read.proofs.NameEnds.{name_ends}
 use Rattle.yaml_read.proofs.NameTexts.{copied_name, name_boundary, name_cut, name_found, name_sound, name_there}
 use Rattle.yaml_read.{proofs.NodeTexts.none_read, specs.Beginnings.NoName}
 use Rattle.yaml_read.proofs.names.read_name.Goals as goal
@@ -28,4 +31,5 @@ returns-in-Ok g c =
       only = λ name rest named ends is.
           let found = name_found text c.split_at.result.0.now c.split_at.result.1.now name rest cut named ends is in
           (copied_name c.in-Ok.name text c.split_at.result.0.now c.split_at.result.1.now cut c.in-Ok.ensures.ok ∙ found.0, found.1);
+      ends = name_ends c.split_at.result.0.now c.split_at.result.1.now cut.letters (cut.run ∙ ap (prefix_len is_alpha) cut.parts);
     }

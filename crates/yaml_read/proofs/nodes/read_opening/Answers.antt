@@ -1,6 +1,8 @@
 use Rattle.std.proofs.Common.{◌++◌, ◌∷◌, ℕ, List, None, Some, ap, codes, refl, subst, sym, ◌∙◌}
-use Rattle.yaml_base.specs.{Characters.space, Event.alias, Seen.seen_event, Seen.seen_text}
+use Rattle.yaml_base.specs.{Characters.space, Event.Event, Event.alias, Seen.seen_event, Seen.seen_text}
 use Rattle.yaml_read.specs.{Beginnings.IsOpeningRead, Beginnings.NoName, Beginnings.NoOpening, Beginnings.ReadOr, EventTexts.is_alias, EventTexts.opening_text}
+use Rattle.yaml_read.specs.EventTexts.{ends_in_name}
+use Rattle.yaml_read.proofs.NameEnds.{alias_ends}
 use Rattle.yaml_read.proofs.NameTexts.{anchor_sound}
 use Rattle.yaml_read.proofs.NodeTexts.{absent_then, alias_read, at_alias, behind_mark, behind_none, behind_space, no_space, none_read, opening_of}
 use Rattle.yaml_read.proofs.NodeTexts.{opening_read, read_or_then}
@@ -17,20 +19,21 @@ returns-in-Ok g c =
           let at = at_alias other (opening_text other) after (codes "*" ++ inside) inside (opening_of other begins) is refl in
           let read = c.in-Ok.ensures.only at.name after at.named ends at.stands in
           (ap alias read.0 ∙ at.is, read.1);
+      over = record { ends = λ _. c.in-Ok.ensures.ends };
     })
 
 pub returns-in-Err : goal.returns-in-Err
 returns-in-Err g c =
     absent_then (NoName c.in-Some.inside.now) (NoOpening c.args.text.now) c.in-Err.stop
-    (λ none event rest begins ends is.
+    (λ none event rest begins over is.
     let at = at_alias event (opening_text event) rest c.args.text.now c.in-Some.inside.now (opening_of event begins) is c.in-Some.ensures.cut in
-    none at.name rest at.named ends at.stands)
+    none at.name rest at.named (over.ends (ap (λ (e : Event). ends_in_name (opening_text e)) (sym at.is) ∙ alias_ends at.name at.named)) at.stands)
     c.in-Err.ensures
 
 pub returns-in-Err-read_name : goal.returns-in-Err-read_name
 returns-in-Err-read_name g c =
     absent_then (NoName c.in-Some-past.inside.now) (NoOpening c.args.text.now) c.in-Err-read_name.stop
-    (λ none event rest begins ends is.
+    (λ none event rest begins over is.
     let at = behind_mark c.in-Some-past.inside.now event rest begins (sym c.in-Some-past.ensures.cut ∙ is) in
     none at.name (space ∷ at.more) at.named refl at.stands)
     c.in-Err-read_name.ensures
@@ -38,8 +41,8 @@ returns-in-Err-read_name g c =
 pub returns-in-Err-after : goal.returns-in-Err-after
 returns-in-Err-after g c =
     none_read (NoOpening c.args.text.now) c.in-Err-after.stop
-    (λ _ event rest begins ends is. no_space (seen_text c.in-Ok-read_name.name) c.in-Some-past.inside.now c.in-Ok-read_name.behind.now
-    c.in-Ok-read_name.ensures.only c.in-Err-after.ensures.cut event rest begins ends (sym c.in-Some-past.ensures.cut ∙ is))
+    (λ _ event rest begins over is. no_space (seen_text c.in-Ok-read_name.name) c.in-Some-past.inside.now c.in-Ok-read_name.behind.now
+    c.in-Ok-read_name.ensures.only c.in-Err-after.ensures.cut event rest begins (sym c.in-Some-past.ensures.cut ∙ is))
 
 pub returns-in-Ok-after : goal.returns-in-Ok-after
 returns-in-Ok-after g c =
@@ -53,8 +56,8 @@ returns-in-Ok-after g c =
     (sym c.in-Some-past.ensures.cut)
     (read_or_then _ _ c.read_tagged.result
     (λ found read. opening_read (Some name) text c.in-Ok-after.rest.now found.1.now (seen_event found.0) anchor.0 anchor.1 one read)
-    (λ none event rest begins ends is.
-    let at = one event rest begins ends is in
+    (λ none event rest begins over is.
+    let at = one event rest begins is in
     none at.tag at.held at.written rest at.sound at.scalars at.has at.stands)
     c.read_tagged.ensures)
 
@@ -63,7 +66,7 @@ returns-in-None-past g c =
     let one = behind_none c.args.text.now c.in-None.ensures.cut c.in-None-past.ensures.cut in
     read_or_then _ _ c.read_tagged-in-None-past.result
     (λ found read. opening_read None c.args.text.now c.args.text.now found.1.now (seen_event found.0) tt refl one read)
-    (λ none event rest begins ends is.
-    let at = one event rest begins ends is in
+    (λ none event rest begins over is.
+    let at = one event rest begins is in
     none at.tag at.held at.written rest at.sound at.scalars at.has at.stands)
     c.read_tagged-in-None-past.ensures

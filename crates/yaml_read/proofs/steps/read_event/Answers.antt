@@ -84,7 +84,9 @@ pub returns-in-Ok-push-clause-placed : goal.returns-in-Ok-push-clause-placed
 returns-in-Ok-push-clause-placed g c =
     let stands = lead_at c.args.awaits.now.items c.innermost-last.result c.len.result c.args.text.now c.in-Ok.lead (End c.in-End.rest)
     c.innermost-last.ensures (c.len.ensures ∙ c.args.awaits.now.ok.0) c.in-End.is c.in-Ok.ensures in
-    bracket_placed (seen_awaits c.args.awaits.now.items) c.args.text.now c.in-End.rest.now c.leave_node.result stands.0 stands.1 c.leave_node.ensures.placed
+    let off = taken_off c.args.awaits.now c.pop-last.new.self c.pop-last.result c.pop-last.ensures.items c.pop-last.ensures.cases in
+    bracket_placed _ (seen_awaits c.args.awaits.now.items) _ c.args.text.now c.in-End.rest.now c.leave_node.result off stands c.leave_node.ensures.goes
+    c.leave_node.ensures.placed
 
 pub returns-in-Err-push-clause-placed : goal.returns-in-Err-push-clause-placed
 returns-in-Err-push-clause-placed g c =
@@ -92,5 +94,8 @@ returns-in-Err-push-clause-placed g c =
 
 pub returns-in-Err-clause-placed : goal.returns-in-Err-clause-placed
 returns-in-Err-clause-placed g c =
+    let stands = c.in-Err.ensures (seen_awaits c.args.awaits.now.items)
+    (innermost_is c.args.awaits.now.items c.innermost-last.result c.innermost-last.ensures)
+    (c.len.ensures ∙ c.args.awaits.now.ok.0 ∙ sym (awaits_length c.args.awaits.now.items)) in
     whole_placed_at (IsEventPlace (seen_awaits c.args.awaits.now.items) c.args.text.now) c.args.text.now c.in-Err.stop c.refused_whole.result
-    (at_event refl) c.refused_whole.ensures
+    (at_event stands.0 stands.1 refl) c.refused_whole.ensures

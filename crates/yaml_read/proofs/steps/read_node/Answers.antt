@@ -4,7 +4,7 @@ use Rattle.yaml_base.specs.Seen.{seen_event}
 use Rattle.yaml_read.specs.EventSteps.{await_opened, bytes_behind, open_behind_opening, open_now, trail_behind_opening}
 use Rattle.yaml_read.specs.{Awaits.seen_awaits, Beginnings.NoOpening, EventReads.NoNode, EventTexts.opening_text, declared.leads.Await.Await}
 use Rattle.yaml_read.proofs.EventSteps.{behind_encoded, node_read, trail_ends}
-use Rattle.yaml_read.proofs.EventPlaces.{memory_placed, node_placed, whole_placed_at}
+use Rattle.yaml_read.proofs.EventPlaces.{memory_placed, node_placed, whole_placed}
 use Rattle.yaml_read.proofs.{NodeTexts.absent_then, NodeTexts.memory_reads, NodeTexts.read_or_then, NodeTexts.whole_absent, Words.no_word}
 use Rattle.yaml_read.specs.RunPlaces.{IsNodePlace, at_node}
 use Rattle.yaml_read.proofs.steps.read_node.Goals as goal
@@ -22,7 +22,7 @@ returns-in-Ok-push-clause-reads g c =
       pushed = ap (map seen_event) c.in-Ok-push.ensures ∙ map-append seen_event c.args.events.now.items (c.in-Ok.event ∷ []);
       node =
           node_read levels text rest (bytes_behind found) (open_now now found) (seen_event c.in-Ok.event) c.in-Ok.ensures.begins c.in-Ok.ensures.parts
-          (ap (open_behind_opening levels) (sym c.opened_by-opened.ensures) ∙ goes.0)
+          c.in-Ok.ensures.over (ap (open_behind_opening levels) (sym c.opened_by-opened.ensures) ∙ goes.0)
           (goes.1 ∙ ap (λ (o : Option Await). trail_behind_opening levels o ++ bytes_behind found) c.opened_by-opened.ensures);
       only = λ other tail begins ends is.
           let trail = trail_behind_opening levels (await_opened other) in
@@ -48,18 +48,19 @@ returns-in-Err-clause-reads g c =
     (absent_then (NoOpening c.args.text.now) (NoNode levels c.args.text.now) c.in-Err.stop
     (λ none event tail begins ends is.
     let trail = trail_behind_opening levels (await_opened event) in
-    none event (trail ++ tail) begins (trail_ends levels (await_opened event) tail ends)
+    none event (trail ++ tail) begins (record { ends = λ _. trail_ends levels (await_opened event) tail ends })
     (is ∙ ap encode_utf8_all (append_assoc (opening_text event) trail tail)))
     c.in-Err.ensures)
 
 pub returns-in-Ok-push-clause-placed : goal.returns-in-Ok-push-clause-placed
 returns-in-Ok-push-clause-placed g c =
-    node_placed c.args.text.now c.in-Ok.rest.now (seen_event c.in-Ok.event) c.go_behind.result c.in-Ok.ensures.begins c.in-Ok.ensures.parts
-    c.go_behind.ensures.placed
+    node_placed _ (seen_awaits c.args.awaits.now.items) c.opened_by-opened.result c.args.text.now c.in-Ok.rest.now (seen_event c.in-Ok.event)
+    c.go_behind.result c.in-Ok.ensures c.go_behind.ensures.goes c.go_behind.ensures.placed
 
 pub returns-in-Err-push-clause-placed : goal.returns-in-Err-push-clause-placed
-returns-in-Err-push-clause-placed g c = memory_placed (IsNodePlace c.args.text.now) c.in-Err-push.stop c.in-Err-push.ensures
+returns-in-Err-push-clause-placed g c = memory_placed (IsNodePlace (seen_awaits c.args.awaits.now.items) c.args.text.now) c.in-Err-push.stop c.in-Err-push.ensures
 
 pub returns-in-Err-clause-placed : goal.returns-in-Err-clause-placed
 returns-in-Err-clause-placed g c =
-    whole_placed_at (IsNodePlace c.args.text.now) c.args.text.now c.in-Err.stop c.refused_whole.result (at_node refl) c.refused_whole.ensures
+    whole_placed (NoOpening c.args.text.now) (IsNodePlace (seen_awaits c.args.awaits.now.items) c.args.text.now) c.args.text.now c.in-Err.stop
+    c.refused_whole.result (λ none. at_node none refl) c.refused_whole.ensures c.in-Err.ensures
