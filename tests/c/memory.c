@@ -260,34 +260,77 @@ static void expect_failed(struct yaml_c_emitter *kept) {
     if (yaml_c_emitter_take_output(kept, out, sizeof out, &result) != YAML_DONE || result.length != 0) fail(name, "there is output");
 }
 
-/* Refuses each growth of a call with a text in turn. Without an error the text is given again, and written; with one the emitter has failed. */
-static void refuse_each_of_text(void) {
-    static const char text[] = "[\"a\\u0041\", {\"b\": [1, \"c\\u0041\"]}]";
-    const char *name = "yaml_c_emitter_emit_json, given again";
+/* Gives the emitter a text, which may follow the start of a list. */
+static int32_t give_json(struct yaml_c_emitter *kept, const char *text) {
+    memset(&result, 0xff, sizeof result);
+    return yaml_c_emitter_emit_json(kept, (const uint8_t *)text, strlen(text), NULL, &result);
+}
+
+/* Begins a document, and in it a list if that is asked for. */
+static int begin_document(struct yaml_c_emitter *kept, int in_list) {
+    return give_kind(kept, YAML_C_STREAM_START) == YAML_DONE && give_kind(kept, YAML_C_DOCUMENT_START) == YAML_DONE
+        && (!in_list || give_kind(kept, YAML_C_SEQUENCE_START) == YAML_DONE);
+}
+
+/* Ends the document, unless that is refused its memory, and takes its YAML. Returns whether it is ended. */
+static int end_document(struct yaml_c_emitter *kept, const char *text, int in_list) {
+    if ((in_list && give_kind(kept, YAML_C_SEQUENCE_END) != YAML_DONE) || give_kind(kept, YAML_C_DOCUMENT_END) != YAML_DONE) {
+        if (growths < refused_at || result.error != YAML_EMITTER_NO_MEMORY) fail(text, "its document isn't ended");
+        return 0;
+    }
+    if (yaml_c_emitter_take_output(kept, out, sizeof out, &result) != YAML_DONE) fail(text, "its YAML isn't taken");
+    return 1;
+}
+
+/* Refuses each growth of a call with a text in turn. Without an error the text is given again, and its YAML is whole; with one the emitter
+ * has failed. Counts both. */
+static void refuse_each_of_text(const char *text, int in_list, int *again, int *failed) {
+    static uint8_t whole[sizeof out];
     struct yaml_c_settings settings = yaml_c_value_settings();
     struct yaml_c_emitter kept;
-    int again = 0, failed = 0;
-    for (refused_at = 1;; refused_at++) {
+    size_t length = 0;
+    *again = *failed = 0;
+    for (refused_at = 0;; refused_at++) {
         growths = 0;
         if (yaml_c_emitter_new(&settings, &kept) != YAML_DONE) continue;
-        if (give_kind(&kept, YAML_C_STREAM_START) == YAML_DONE && give_kind(&kept, YAML_C_DOCUMENT_START) == YAML_DONE) {
-            int32_t status = yaml_c_emitter_emit_json(&kept, (const uint8_t *)text, sizeof text - 1, NULL, &result);
+        if (begin_document(&kept, in_list)) {
+            int32_t status = give_json(&kept, text);
             if (status == YAML_NO_MEMORY && result.error == 0) {
-                again++;
-                status = yaml_c_emitter_emit_json(&kept, (const uint8_t *)text, sizeof text - 1, NULL, &result);
+                ++*again;
+                status = give_json(&kept, text);
+                if (status != YAML_DONE) fail(text, "it isn't written although memory ran out before");
             }
             if (status == YAML_NO_MEMORY) {
-                failed++;
+                ++*failed;
                 expect_failed(&kept);
-            } else if (status != YAML_DONE || give_kind(&kept, YAML_C_DOCUMENT_END) != YAML_DONE) {
-                if (growths < refused_at || result.error != YAML_EMITTER_NO_MEMORY) fail(name, "another status");
+            } else if (status != YAML_DONE) {
+                fail(text, "another status");
+            } else if (end_document(&kept, text, in_list)) {
+                if (refused_at == 0) memcpy(whole, out, length = result.length);
+                if (result.length != length || memcmp(out, whole, length) != 0) fail(text, "other YAML");
             }
         }
         yaml_c_emitter_delete(&kept);
-        if (blocks != 0) fail(name, "a block is left");
+        if (blocks != 0) fail(text, "a block is left");
         if (growths < refused_at) break;
     }
-    if (!again || !failed) fail(name, "no growth is refused before the text, or none within it");
+}
+
+/* A text that needs no memory of its own is given again only if the call's own growths are refused; the others also if their first token or
+ * the lists of what is open need memory, or a text that waits for its place in a list. Texts with brackets are refused a growth within, too. */
+static void refuse_each_of_texts(void) {
+    static const char *const texts_of_json[] = {"\"a\\u0041\"", "[\"a\\u0041\", {\"b\": [1, \"c\\u0041\"]}]", "{\"a\\u0041\": [{\"b\": 1}]}", "[]"};
+    int least, again, failed;
+    size_t i;
+    refuse_each_of_text("1", 0, &least, &failed);
+    if (least == 0 || failed != 0) fail("1", "no growth is refused before it, or one within it");
+    refuse_each_of_text("\"" LETTERS "\"", 1, &again, &failed);
+    if (again <= least) fail("a text in a list", "its copy isn't refused");
+    for (i = 0; i < sizeof texts_of_json / sizeof *texts_of_json; i++) {
+        refuse_each_of_text(texts_of_json[i], 0, &again, &failed);
+        if (again <= least) fail(texts_of_json[i], "no growth is refused between its start and the first event");
+        if ((i == 1 || i == 2) != (failed != 0)) fail(texts_of_json[i], "a growth is refused within it, or none");
+    }
 }
 
 int main(void) {
@@ -304,7 +347,7 @@ int main(void) {
     refuse_each("yaml_from_toml", from_toml);
     refuse_each("yaml_canonical_from_json", canonical_from_json);
     refuse_each("yaml_c_emitter_emit_json", json_in_stream);
-    refuse_each_of_text();
+    refuse_each_of_texts();
     if (!refused_new || !refused_texts || !refused_events || !refused_flushes)
         printf("refused: %d new, %d texts, %d events, %d flushes\n", refused_new, refused_texts, refused_events, refused_flushes);
     printf("each allocation refused in turn: %d times not as written\n", failures);

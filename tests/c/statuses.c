@@ -275,10 +275,10 @@ static void json_refused(void) {
     expect_json("no UTF-8", "\"\xff\"", given, YAML_NOT_JSON, 1, 2, "");
     expect_json("half a character in the third line", "[\n1,\n \"\xc3\xa9\xc3", given, YAML_NOT_JSON, 3, 4, "");
     expect_json("no UTF-8 in a text that is no JSON", "]\x80", given, YAML_NOT_JSON, 1, 2, "");
-    expect_json("no UTF-8 after a text that is no JSON", "]\xf0", given, YAML_NOT_JSON, 1, 1, "");
+    expect_json("no UTF-8 after a text that is no JSON", "]\xf0", given, YAML_NOT_JSON, 1, 2, "");
     expect_json("no UTF-8 after JSON", "1 \xf0", given, YAML_NOT_JSON, 1, 3, "");
-    expect_json("no UTF-8 after JSON and a text that is none", "[1] ]\xf0", given, YAML_NOT_JSON, 1, 5, "");
-    expect_json("no UTF-8 after a name twice", "{\"a\":1,\"a\":2}\xf0", given, YAML_DUPLICATE_NAME, 1, 8, "");
+    expect_json("no UTF-8 after JSON and a text that is none", "[1] ]\xf0", given, YAML_NOT_JSON, 1, 6, "");
+    expect_json("no UTF-8 after a name twice", "{\"a\":1,\"a\":2}\xf0", given, YAML_NOT_JSON, 1, 14, "");
     given.depth = 1;
     expect_json("too deep", "[[1]]", given, YAML_TOO_DEEP, 1, 2, "");
     expect_json("too deep in the second line", "[1,\n {}]", given, YAML_TOO_DEEP, 2, 2, "");

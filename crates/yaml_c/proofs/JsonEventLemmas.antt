@@ -1,19 +1,25 @@
 -- JSON texts whose events were given to an emitter, through a writer over it.
-use Rattle.std.specs.Prelude.{◌≡◌, ◌⊎◌, Bool, Option, None, Some, List, ℕ, Result, Ok, Err, IsUtf8, true, false, is_none, if◌then◌else◌}
-use Rattle.std.proofs.Common.{ap, inl, inr, refl, subst, sym, ◌∙◌}
+use Rattle.std.specs.Prelude.{◌≡◌, ◌≢◌, ◌⊎◌, Bool, Option, None, Some, List, [], ℕ, Result, Ok, Err, IsUtf8, true, false, is_none, length, ◌&&◌, if◌then◌else◌}
+use Rattle.std.proofs.Common.{ap, arith, inl, inr, refl, subst, sym, ◌∙◌}
+use Rattle.std.proofs.lemmas.Bool.{true≢false}
+use Rattle.json.specs.Token.{Token}
+use Rattle.yaml_base.specs.declared.kinds.CollectionKind.{CollectionKind}
 use Rattle.yaml_base.specs.declared.errors.yaml_error_t.{yaml_error_t}
 use Rattle.yaml_base.specs.declared.errors.yaml_error_t.TheVariants.{Memory}
 use Rattle.yaml_emitter.specs.State.{State}
 use Rattle.yaml_writer.specs.Writing.{WriterState, writer_over}
 use Rattle.yaml_json.specs.Failing.{IsSound, writers_error}
 use Rattle.yaml_writer.specs.Failing.{HasErrorSaid}
+use Rattle.yaml_writer.specs.WasGiven.{levels_after}
+use Rattle.yaml_json.specs.TokenEvents.{tokens_events}
 use Rattle.yaml_json.specs.WritingCalls.{WritesText}
 use Rattle.yaml_json.specs.declared.error.JsonError.{JsonError}
 use Rattle.yaml_json.specs.declared.error.JsonError.TheVariants as errors
 use Rattle.yaml_json.specs.declared.settings.JsonSettings.{JsonSettings}
-use Rattle.yaml_c.specs.JsonEvents.{GaveJson, closed_after}
+use Rattle.yaml_c.specs.JsonEvents.{GaveJson, SettlesAs, closed_after, is_writers_error}
 use Rattle.yaml_c.specs.Kept.{lasting_error}
-use Rattle.yaml_c.specs.declared.json_events.TextGiving.TheVariants.{Answered}
+use Rattle.yaml_c.specs.declared.json_events.TextGiving.{TextGiving}
+use Rattle.yaml_c.specs.declared.json_events.TextGiving.TheVariants.{Answered, NoMemory}
 
 -- An error that is said of a writer is said of its emitter.
 said_of_emitter : (was : WriterState) (found : Option yaml_error_t) (now : WriterState) → HasErrorSaid was found now
@@ -43,10 +49,62 @@ lasts was now error none unclosed sound code is =
     subst (λ (e : JsonError). lasting_error (closed_after (Err e) now.emitter) ≡ Some code) (sym is)
     (lasting_by now.emitter code now.emitter.error refl unclosed (sound_or_same was code now none said))
 
+-- The outcome of a text without an error of the writer's, with one that the emitter has, and with another, after which it is closed.
+pub settles_text : (result : Result (Unit {0}) JsonError) (levels : ℕ) (state : State) → is_writers_error result ≡ false
+    → SettlesAs result levels (Answered result) state state
+settles_text result levels state other = (
+  refl,
+  sym (ap (λ (writers : Bool). if writers && is_none state.error then record state { closed = true } else state) other),
+  λ writers. absurd (true≢false (sym writers ∙ other)),
+)
+
+still_open : (writers : Bool) (state : State) → (if writers && false then record state { closed = true } else state) ≡ state
+still_open true state = refl
+still_open false state = refl
+
+some_or_none : (found : Option yaml_error_t) (error : yaml_error_t) → found ≡ Some error → found ≡ None → ⊥
+some_or_none found error some none = cc
+
+pub settles_failed : (result : Result (Unit {0}) JsonError) (levels : ℕ) (state : State) (error : yaml_error_t) → state.error ≡ Some error
+    → SettlesAs result levels (Answered result) state state
+settles_failed result levels state error has = (
+  refl,
+  sym (ap (λ (found : Option yaml_error_t). if is_writers_error result && is_none found then record state { closed = true } else state) has
+      ∙ still_open (is_writers_error result) state),
+  λ writers none. absurd (some_or_none state.error error has none),
+)
+
+pub settles_closed : (result : Result (Unit {0}) JsonError) (levels : ℕ) (before after : State) → is_writers_error result ≡ true → before.error ≡ None
+    → levels ≢ 0 → after ≡ record before { closed = true } → SettlesAs result levels (Answered result) before after
+settles_closed result levels before after writers none some closes = (
+  refl,
+  closes ∙ sym
+      (ap (λ (yes : Bool). if yes && is_none before.error then record before { closed = true } else before) writers
+      ∙ ap (λ (found : Option yaml_error_t). if true && is_none found then record before { closed = true } else before) none),
+  λ also absent. some,
+)
+
+-- An emitter that was closed after a text had an error of memory alone.
+closed_by : (result : Result (Unit {0}) JsonError) (state : State) → state.closed ≡ false → (closed_after result state).closed ≡ true
+    → (is_writers_error result ≡ true) × (state.error ≡ None)
+closed_by result state unclosed closed = by_cases (is_writers_error result) state.error closed where
+  by_cases : (writers : Bool) (found : Option yaml_error_t)
+      → (if writers && is_none found then record state { closed = true } else state).closed ≡ true → (writers ≡ true) × (found ≡ None)
+  by_cases true None closed = (refl, refl)
+  by_cases true (Some error) closed = absurd (true≢false (sym closed ∙ unclosed))
+  by_cases false found closed = absurd (true≢false (sym closed ∙ unclosed))
+
+-- Without a token nothing is open.
+none_open : (canonical in_flow : Bool) (taken : List Token) (now : List CollectionKind) → now ≡ levels_after (tokens_events canonical in_flow taken) []
+    → length now ≢ 0 → taken ≢ []
+none_open canonical in_flow taken now levels some none =
+    some (ap length (levels ∙ ap (λ (ts : List Token). levels_after (tokens_events canonical in_flow ts) []) none))
+
 over_emitter : (settings : JsonSettings) (text : List ℕ) (before : State) (now : WriterState) (result : Result (Unit {0}) JsonError) → IsUtf8 text
     → before.error ≡ None → before.closed ≡ false → WritesText settings text (writer_over before) result now
+    → (is_writers_error result ≡ true → now.emitter.error ≡ None → length now.levels ≢ 0)
     → GaveJson settings.depth settings.unique_names settings.flow text (Answered result) before (closed_after result now.emitter)
-over_emitter settings text before now (Ok done) utf8 none unclosed writes =
+over_emitter settings text before now (Ok done) utf8 none unclosed writes some =
     let wrote = writes.written in
     record {
       utf8 = utf8;
@@ -57,8 +115,9 @@ over_emitter settings text before now (Ok done) utf8 none unclosed writes =
       grows = writes.grows;
       no_error = writes.sound;
     }
-over_emitter settings text before now (Err error) utf8 none unclosed writes =
+over_emitter settings text before now (Err error) utf8 none unclosed writes some =
     let stops = writes.stopped in
+    let still : now.emitter.closed ≡ false = stops.adds.set.closed ∙ unclosed in
     inr
     (record {
       stopped = now.emitter;
@@ -74,16 +133,41 @@ over_emitter settings text before now (Err error) utf8 none unclosed writes =
         place = writes.place;
       };
       closes = refl;
-      lasts = lasts (writer_over before) now error none (stops.adds.set.closed ∙ unclosed) writes.sound;
+      lasts = lasts (writer_over before) now error none still writes.sound;
+      begun = λ closed. let by = closed_by (Err error) now.emitter still closed in
+          none_open before.given.canonical settings.flow stops.taken now.levels stops.usable.levels (some by.0 by.1);
     })
+
+-- Nothing changed, since memory ran out before an event was given.
+same_emitter : (settings : JsonSettings) (text : List ℕ) (before : State) (now : WriterState) (result : Result (Unit {0}) JsonError)
+    → WritesText settings text (writer_over before) result now → is_writers_error result ≡ true → now.emitter.error ≡ None → length now.levels ≡ 0
+    → now.emitter ≡ before
+same_emitter settings text before now (Err (errors.Emitter code)) writes is sound none =
+    ap (λ (w : WriterState). w.emitter) (writes.unopened refl sound (omega (arith, none)))
+same_emitter settings text before now (Err (errors.NotJson line column says)) writes is sound none = absurd (true≢false (sym is))
+same_emitter settings text before now (Err (errors.Marked line column)) writes is sound none = absurd (true≢false (sym is))
+same_emitter settings text before now (Err (errors.TooDeep line column)) writes is sound none = absurd (true≢false (sym is))
+same_emitter settings text before now (Err (errors.DuplicateName line column)) writes is sound none = absurd (true≢false (sym is))
+same_emitter settings text before now (Ok done) writes is sound none = absurd (true≢false (sym is))
+
+by_outcome : (settings : JsonSettings) (text : List ℕ) (before after : State) (now : WriterState) (result : Result (Unit {0}) JsonError) (outcome : TextGiving)
+    → IsUtf8 text → before.error ≡ None → before.closed ≡ false → WritesText settings text (writer_over before) result now
+    → SettlesAs result (length now.levels) outcome now.emitter after
+    → GaveJson settings.depth settings.unique_names settings.flow text outcome before after
+by_outcome settings text before after now result (Answered same) utf8 none unclosed writes settles =
+    subst (λ (e : State). GaveJson settings.depth settings.unique_names settings.flow text (Answered same) before e) (sym settles.1)
+    (subst (λ (r : Result (Unit {0}) JsonError). GaveJson settings.depth settings.unique_names settings.flow text (Answered r) before (closed_after result now.emitter))
+    (sym settles.0) (over_emitter settings text before now result utf8 none unclosed writes settles.2))
+by_outcome settings text before after now result NoMemory utf8 none unclosed writes settles =
+    settles.3 ∙ same_emitter settings text before now result writes settles.0 settles.1 settles.2
 
 -- By a writer that was made of the emitter, which was put back and maybe closed.
 pub gave_json : (settings : JsonSettings) (text : List ℕ) (before stopped after : State) (was now : WriterState) (result : Result (Unit {0}) JsonError)
-    → was ≡ writer_over before → now.emitter ≡ stopped → after ≡ closed_after result stopped → IsUtf8 text → before.error ≡ None
-    → before.closed ≡ false → WritesText settings text was result now
-    → GaveJson settings.depth settings.unique_names settings.flow text (Answered result) before after
-gave_json settings text before stopped after was now result over back closes utf8 none unclosed writes =
-    subst (λ (e : State). GaveJson settings.depth settings.unique_names settings.flow text (Answered result) before e)
-    (ap (closed_after result) back ∙ sym closes)
-    (over_emitter settings text before now result utf8 none unclosed
-    (subst (λ (w : WriterState). WritesText settings text w result now) over writes))
+    (levels : ℕ) (outcome : TextGiving) → was ≡ writer_over before → now.emitter ≡ stopped → levels ≡ length now.levels
+    → SettlesAs result levels outcome stopped after → IsUtf8 text → before.error ≡ None → before.closed ≡ false → WritesText settings text was result now
+    → GaveJson settings.depth settings.unique_names settings.flow text outcome before after
+gave_json settings text before stopped after was now result levels outcome over back depth settles utf8 none unclosed writes =
+    by_outcome settings text before after now result outcome utf8 none unclosed
+    (subst (λ (w : WriterState). WritesText settings text w result now) over writes)
+    (subst (λ (s : State). SettlesAs result (length now.levels) outcome s after) (sym back)
+    (subst (λ (n : ℕ). SettlesAs result n outcome stopped after) depth settles))

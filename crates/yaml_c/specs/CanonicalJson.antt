@@ -4,8 +4,7 @@ use Rattle.yaml_json_value.specs.Typed.{ExplainsValueError, IsCanonicalOf}
 use Rattle.yaml_json_value.specs.declared.error.ValueError.{ValueError}
 use Rattle.yaml_json_value.specs.declared.error.ValueError.TheVariants as errors
 use Rattle.yaml_c.specs.Answers.{CallResults, CopiesToCaller, at_place, results_done, results_failed}
-use Rattle.yaml_c.specs.JsonAnswers.{error_results}
-use Rattle.yaml_c.specs.TomlAnswers.{IsNoText}
+use Rattle.yaml_c.specs.JsonAnswers.{IsNoText, error_results}
 use Rattle.yaml_c.specs.declared.results.CallResult.{CallResult}
 
 -- An answer: the canonical bytes of a text; the place at which the text stops to be UTF-8; or the error of a text that has none.

@@ -1,5 +1,5 @@
 -- The results of a call that gives an emitter the events of a JSON text, and the emitter after it.
-use Rattle.std.specs.Prelude.{◌≡◌, ◌⊎◌, ℕ, ℤ, pos, Bool, true, false, ◌&&◌, None, Some, List, [], ◌++◌, Result, Ok, Err, IsUtf8, is_none, if◌then◌else◌}
+use Rattle.std.specs.Prelude.{◌≡◌, ◌≢◌, ◌⊎◌, ℕ, ℤ, pos, Bool, true, false, ◌&&◌, None, Some, List, [], ◌++◌, Result, Ok, Err, IsUtf8, is_none, if◌then◌else◌}
 use Rattle.std.specs.Str.{IsValidUpTo}
 use Rattle.json.specs.Json.{Json, value}
 use Rattle.json.specs.Lex.{tokens}
@@ -69,15 +69,24 @@ is_writers_error result = false
 abbrev pub closed_after : Result (Unit {0}) JsonError → State → State
 closed_after result state = if is_writers_error result && is_none state.error then record state { closed = true } else state
 
+-- The outcome of a text by the result of giving it, of which so many arrays and objects are open, and the emitter after it. If memory ran
+-- out that wasn't the emitter's, the emitter is closed, unless nothing is open.
+abbrev pub SettlesAs : Result (Unit {0}) JsonError → (levels : ℕ) → TextGiving → State → State → Type 0
+SettlesAs result levels (Answered same) before after =
+    (same ≡ result) × (after ≡ closed_after result before) × (is_writers_error result ≡ true → before.error ≡ None → levels ≢ 0)
+SettlesAs result levels NoMemory before after =
+    (is_writers_error result ≡ true) × (before.error ≡ None) × (levels ≡ 0) × (after ≡ before)
+
 -- True if the events of the text's first tokens were given, and no more, for this reason. If it is the emitter's error, or memory that ran
--- out, each later call tells it.
+-- out, each later call tells it. The emitter is closed only if there were events.
 pub record FailedInText (depth : ℕ) (unique in_flow : Bool) (text : List ℕ) (before : State) (error : JsonError) (after : State) : Type 0 where
   pub stopped : State
   pub stops : StoppedInText depth unique in_flow text before error stopped
   pub closes : after ≡ closed_after (Err error) stopped
   pub lasts : (code : yaml_error_t) → error ≡ errors.Emitter code → lasting_error after ≡ Some code
+  pub begun : after.closed ≡ true → stops.taken ≢ []
 
--- True if the text was given with this outcome.
+-- True if the text was given with this outcome. If memory ran out before an event was given, nothing changed.
 abbrev pub GaveJson : (depth : ℕ) → (unique in_flow : Bool) → List ℕ → TextGiving → State → State → Type 0
 GaveJson depth unique in_flow text (Answered (Ok done)) before after = GaveText depth unique in_flow text before after
 GaveJson depth unique in_flow text (Answered (Err error)) before after =
@@ -85,7 +94,7 @@ GaveJson depth unique in_flow text (Answered (Err error)) before after =
 GaveJson depth unique in_flow text NoMemory before after = after ≡ before
 
 -- True if the status and the report are those of the outcome: 0 for a text that was given, 5 if it isn't JSON, 6 if it nests too deep, 7 if
--- an object gives a name twice; 3 or 1 by the emitter's error; 3 and no error if memory ran out before anything was given.
+-- an object gives a name twice; 3 or 1 by the emitter's error; 3 and no error if memory ran out before an event was given.
 abbrev pub TellsJson : TextGiving → (status : ℤ) → CallResult → Type 0
 TellsJson (Answered (Ok done)) status report = (status ≡ pos 0) × (report ≡ nothing_reported)
 TellsJson (Answered (Err (errors.NotJson line column says))) status report = (status ≡ pos 5) × (report ≡ at_place line column)

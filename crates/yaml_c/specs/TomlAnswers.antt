@@ -1,15 +1,14 @@
 -- The results of the function over TOML.
-use Rattle.std.specs.Prelude.{◌≡◌, ℕ, ℤ, Bool, List, Result, Ok, Err, Vec, IsUtf8}
-use Rattle.std.specs.Str.{IsValidUpTo}
+use Rattle.std.specs.Prelude.{ℕ, ℤ, Bool, List, Result, Ok, Err, Vec, IsUtf8}
 use Rattle.yaml_base.specs.Settings.{Settings}
 use Rattle.yaml_base.specs.declared.errors.yaml_error_t.TheVariants as emitter_errors
-use Rattle.yaml_base.specs.values.LinesAndColumns.{column_of, line_of}
 use Rattle.yaml_toml.specs.WritingCalls.{HasNoTomlYaml, HasTomlYaml}
 use Rattle.yaml_toml.specs.declared.error.TomlError.{TomlError}
 use Rattle.yaml_toml.specs.declared.error.TomlError.TheVariants as errors
 use Rattle.yaml_c.specs.Answers.{CallResults, CopiesToCaller, at_place, nothing_reported, results_done, results_failed}
 use Rattle.yaml_c.specs.Arena.{is_on}
 use Rattle.yaml_c.specs.JsonAnswers as json
+use Rattle.yaml_c.specs.JsonAnswers.{IsNoText}
 use Rattle.yaml_c.specs.declared.json_texts.JsonOptions.{JsonOptions}
 use Rattle.yaml_c.specs.declared.results.CallResult.{CallResult}
 use Rattle.yaml_c.specs.declared.toml_texts.TomlOptions.{TomlOptions}
@@ -36,14 +35,6 @@ pub data TomlAnswer : Type 0 where
   has_yaml : (yaml : List ℕ) → TomlAnswer
   is_no_text : (line column : ℕ) → TomlAnswer
   fails : TomlError → TomlAnswer
-
--- True if the text isn't UTF-8, and its longest prefix that is ends at this place.
-pub record IsNoText (text : List ℕ) (line column : ℕ) : Type 0 where
-  pub refused : IsUtf8 text → ⊥
-  pub at : ℕ
-  pub valid : IsValidUpTo text at
-  pub line_is : line ≡ line_of text at
-  pub column_is : column ≡ column_of text at
 
 -- True if the answer is right for the text. If the text is UTF-8, the YAML and the error are those that `yaml_toml` promises.
 abbrev pub IsTomlAnswer : Settings → (in_flow : Bool) → (depth : ℕ) → (text : List ℕ) → TomlAnswer → Type 0

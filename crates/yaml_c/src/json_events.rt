@@ -3,7 +3,7 @@ ghost use Rattle.std.specs.Prelude.{◌≡◌, false, true};
 ghost use Rattle.yaml_c.specs.JsonAnswers.{depth_given};
 ghost use Rattle.yaml_c.specs.Arena.{is_off, is_on};
 ghost use Rattle.yaml_c.specs.Kept.{Changes, IsOpenEmitter, UnlessClosed};
-ghost use Rattle.yaml_c.specs.JsonEvents.{GaveJson, GivesJson, TellsJson, closed_after};
+ghost use Rattle.yaml_c.specs.JsonEvents.{GaveJson, GivesJson, SettlesAs, TellsJson};
 ghost use Rattle.yaml_c.specs.JsonEvents as meaning;
 
 use crate::emitters::{status_of, tell_closed};
@@ -22,7 +22,7 @@ use yaml_json::{Expected, JsonError, JsonSettings, Writer, place_of, write_json}
 pub(crate) enum TextGiving {
     /// The text was given up to its end or to an error.
     Answered(Result<(), JsonError>),
-    /// An allocation failed before anything was given: nothing changed.
+    /// An allocation failed before an event was given: nothing changed.
     NoMemory,
 }
 
@@ -112,19 +112,34 @@ fn give_text<A: Allocator + Copy>(
     };
     let mut writer = Writer::over(alloc, replace(emitter, spare));
     let answer = write_json(alloc, &mut writer, text, settings);
+    let levels = writer.depth();
     *emitter = writer.into_emitter();
-    close_after(emitter, &answer);
-    TextGiving::Answered(answer)
+    settle(emitter, answer, levels)
 }
 
-/// Closes an emitter if memory ran out within a text that wasn't the emitter's: the node stays without its end.
-fn close_after<A: Allocator + Copy>(emitter: &mut yaml_emitter_t<A>, answer: &Result<(), JsonError>)
-    ensures closes { emitter.new ≡ closed_after answer.now emitter.old }
+/// Returns the outcome of a text, of which so many arrays and objects are open. If memory ran out that wasn't the emitter's, the node
+/// stays without its end, and the emitter is closed, unless nothing is open.
+#[tactic(auto, using(crate::proofs::JsonEventLemmas::settles_text, crate::proofs::JsonEventLemmas::settles_failed, crate::proofs::JsonEventLemmas::settles_closed))]
+fn settle<A: Allocator + Copy>(
+    emitter: &mut yaml_emitter_t<A>,
+    answer: Result<(), JsonError>,
+    levels: usize,
+) -> TextGiving
+    ensures settles { SettlesAs answer levels result emitter.old emitter.new }
     ensures output { emitter.new.has_output ≡ emitter.old.has_output }
 {
-    if is_writers_error(answer) && emitter.error().is_none() {
-        emitter.mark_closed();
+    if !is_writers_error(&answer) {
+        return TextGiving::Answered(answer);
     }
+    match emitter.error() {
+        Some(_) => return TextGiving::Answered(answer),
+        None => {}
+    }
+    if levels == 0 {
+        return TextGiving::NoMemory;
+    }
+    emitter.mark_closed();
+    TextGiving::Answered(answer)
 }
 
 /// Returns whether an answer is an error of the emitter or of memory.
