@@ -6,7 +6,7 @@ from sources import ROOT
 GENERATED = ROOT / "docs/REFERENCE.md"
 # The greatest number of words of a page, of README.md and docs/ without docs/REFERENCE.md, and of characters of a line or a cell.
 MOST_WORDS = {
-    "README.md": 700, "docs/GUIDE.md": 3500, "docs/PROVED.md": 2000, "docs/MAP.md": 1500, "docs/DECISIONS.md": 3000, "docs/PROVING.md": 1200,
+    "README.md": 700, "docs/GUIDE.md": 3500, "docs/PROVED.md": 2200, "docs/MAP.md": 1500, "docs/DECISIONS.md": 3000, "docs/PROVING.md": 1200,
     "docs/BENCH.md": 900,
 }
 MOST_WORDS_IN_ALL = 20000
