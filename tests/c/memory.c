@@ -317,19 +317,20 @@ static void refuse_each_of_text(const char *text, int in_list, int *again, int *
 }
 
 /* A text that needs no memory of its own is given again only if the call's own growths are refused; the others also if their first token or
- * the lists of what is open need memory, or a text that waits for its place in a list. Texts with brackets are refused a growth within, too. */
+ * the lists of what is open need memory, or a text that waits for its place in a list. Texts of several tokens are refused more growths once
+ * an event was given than those that the emitter needs. */
 static void refuse_each_of_texts(void) {
-    static const char *const texts_of_json[] = {"\"a\\u0041\"", "[\"a\\u0041\", {\"b\": [1, \"c\\u0041\"]}]", "{\"a\\u0041\": [{\"b\": 1}]}", "[]"};
-    int least, again, failed;
+    static const char *const texts_of_json[] = {"[\"a\\u0041\", {\"b\": [1, \"c\\u0041\"]}]", "{\"a\\u0041\": [{\"b\": 1}]}", "\"a\\u0041\"", "[]"};
+    int least, own, again, failed;
     size_t i;
-    refuse_each_of_text("1", 0, &least, &failed);
-    if (least == 0 || failed != 0) fail("1", "no growth is refused before it, or one within it");
+    refuse_each_of_text("1", 0, &least, &own);
+    if (least == 0 || own == 0) fail("1", "no growth of the call or of the emitter is refused");
     refuse_each_of_text("\"" LETTERS "\"", 1, &again, &failed);
     if (again <= least) fail("a text in a list", "its copy isn't refused");
     for (i = 0; i < sizeof texts_of_json / sizeof *texts_of_json; i++) {
         refuse_each_of_text(texts_of_json[i], 0, &again, &failed);
         if (again <= least) fail(texts_of_json[i], "no growth is refused between its start and the first event");
-        if ((i == 1 || i == 2) != (failed != 0)) fail(texts_of_json[i], "a growth is refused within it, or none");
+        if (i < 2 && failed <= own) fail(texts_of_json[i], "no growth is refused within it");
     }
 }
 
