@@ -17,7 +17,7 @@ use Rattle.yaml_json.proofs.Taking.{event_keeps, fails_scalar, gives_scalar, inn
 use Rattle.yaml_json.proofs.Taking.{scalar_failed, scalar_keeps, step_closes, step_item, step_member, step_no_item, step_no_member, step_unclosed, step_unnamed}
 use Rattle.yaml_json.proofs.Taking.{step_unread, step_without_memory}
 use Rattle.yaml_writer.proofs.GivenLemmas.{on_err, on_ok, text_is, wrote_event}
-use Rattle.yaml_json.specs.Failing.{IsWritersAnswer, Kept, StaysLevelUnlessFailed, StaysUnlessFailed}
+use Rattle.yaml_json.specs.Failing.{IsWritersAnswer, Kept, StaysUnlessFailed}
 use Rattle.yaml_json.specs.{Nests.IsNesting, Reached.Reader, Refused.IsByText, declared.names.Names.Names, declared.settings.JsonSettings.JsonSettings}
 use Rattle.yaml_json.specs.{declared.values.Nesting.Nesting, declared.values.Spot.Spot, declared.values.Stop.Stop}
 use Rattle.yaml_json.specs.Walk.{GivesTaken as GivesTokens, LeavesNames, ReadsNone, StepFailed}

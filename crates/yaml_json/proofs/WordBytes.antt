@@ -153,12 +153,15 @@ number_free t (Some rest) is good =
 pub good_word : (t : List ℕ) → (word t ≡ bad → ⊥) → QuoteFree t
 unfolding word
 good_word t good =
-    let third = literal ascii.null_text null t in
-    let last = number_before t (after_number t) in
-    by_bit (head t == ascii.lower_t) (literal ascii.true_text (boolean true) t)
-    (cond (head t == ascii.lower_f) (literal ascii.false_text (boolean false) t) (cond (head t == ascii.lower_n) third last)) good
+    let numeric = number_before t (after_number t) in
+    let nothing = literal ascii.null_text null t in
+    let denial = literal ascii.false_text (boolean false) t in
+    let assent = literal ascii.true_text (boolean true) t in
+    let later = cond (head t == ascii.lower_n) nothing numeric in
+    let others = cond (head t == ascii.lower_f) denial later in
+    by_bit (head t == ascii.lower_t) assent others good
     (λ is so. literal_free ascii.true_text t (boolean true) (refl, (refl, (refl, (refl, tt)))) so)
-    (λ so. by_bit (head t == ascii.lower_f) (literal ascii.false_text (boolean false) t) (cond (head t == ascii.lower_n) third last) so
+    (λ so. by_bit (head t == ascii.lower_f) denial later so
     (λ is then. literal_free ascii.false_text t (boolean false) (refl, (refl, (refl, (refl, (refl, tt))))) then)
-    (λ then. by_bit (head t == ascii.lower_n) third last then
+    (λ then. by_bit (head t == ascii.lower_n) nothing numeric then
     (λ is now. literal_free ascii.null_text t null (refl, (refl, (refl, (refl, tt)))) now) (λ now. number_free t (after_number t) refl now)))

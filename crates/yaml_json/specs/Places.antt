@@ -1,5 +1,5 @@
 -- The places of errors in a text.
-use Rattle.std.specs.Prelude.{◌≡◌, ◌↔◌, ℕ, ◌+◌, ◌<◌, ◌≤◌, Option, None, Some, List, [], ◌∷◌, ◌++◌, drop, flat_map, length, take}
+use Rattle.std.specs.Prelude.{◌≡◌, ◌↔◌, ℕ, ◌+◌, ◌<◌, ◌≤◌, Option, None, Some, List, [], ◌∷◌, ◌++◌, drop, length, take}
 use Rattle.std.specs.Str.{IsValidUpTo}
 use Rattle.json.specs.Json.{Json}
 use Rattle.json.specs.Lex.{Lexeme, between, fresh, lex, punctuate}
@@ -9,7 +9,6 @@ use Rattle.yaml_writer.specs.Places.{AreOf}
 use Rattle.yaml_json.specs.Ahead.{IsTrimmed}
 use Rattle.yaml_json.specs.Expected.{Names, expected_at}
 use Rattle.yaml_json.specs.Lexing.{MayBegin, mode_over}
-use Rattle.yaml_json.specs.Texts.{texts_in}
 use Rattle.yaml_json.specs.declared.error.JsonError.{JsonError}
 use Rattle.yaml_json.specs.declared.error.JsonError.TheVariants as errors
 use Rattle.yaml_json.specs.declared.error.StreamError.{StreamError}
