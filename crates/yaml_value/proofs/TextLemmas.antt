@@ -14,14 +14,14 @@ use Rattle.yaml_base.specs.scalars.DoubleQuoted.{double_fold, may_fold, quote}
 use Rattle.yaml_base.specs.Characters.{is_space}
 use Rattle.yaml_base.specs.values.TypedValues.{TypedValue, null_value, bool_value, int_value, text_value, list_value, map_value, TypedValues, no_values}
 use Rattle.yaml_base.specs.values.TypedValues.{values_and, TypedPairs, no_value_pairs, value_pairs_and, null_tag, bool_tag, int_tag, bool_text, value_node}
-use Rattle.yaml_base.specs.values.TypedValues.{value_nodes, value_pairs, value_stream, typed_settings, tagged_collection, typed_output}
+use Rattle.yaml_base.specs.values.TypedValues.{value_events, value_nodes, value_pairs, value_stream, typed_settings, tagged_collection, typed_output}
 use Rattle.yaml_base.proofs.Common.{document_start_piece, document_end_piece, stream_end_piece, first_standing, Stream}
 use Rattle.yaml_base.proofs.Common.{with_breaks_written, line_feed_break, encode, option_map, unwrap_or, bytes_written, eqb-true, arith, length, nat_tests}
 use Rattle.yaml_base.proofs.Trees.{tree_of-stream_events}
 use Rattle.std.specs.Fmt.{signed_decimal}
 use Rattle.std.specs.Prelude.{◌<◌, Err, IfOk, Ok, Result, Vec}
 use Rattle.std.proofs.lemmas.List.{length-take, take_all}
-use Rattle.yaml_base.specs.Settings.{largest_usize}
+use Rattle.yaml_base.specs.{Output.settings_for, Pieces.list_layout, Settings.largest_usize}
 use Rattle.yaml_base.specs.declared.errors.yaml_error_t.{yaml_error_t}
 use Rattle.yaml_base.specs.values.TypedValues.{WritesValue}
 use Rattle.yaml_value.proofs.WritingLemmas.{below_limit}
@@ -403,11 +403,17 @@ breaks_same (c ∷ rest) = by (c == line_feed) refl (breaks_same rest)
     by true e same = ap (λ d. d ∷ with_breaks_written line_feed_break rest) (sym (eqb-true c line_feed e)) ∙ ap (λ t. c ∷ t) same
     by false e same = ap (λ t. c ∷ t) same
 
+-- the bytes of a value, before any limit
+pub bytes_are : (value : TypedValue)
+    → bytes_written (settings_for typed_settings (value_events value)) (list_layout (settings_for typed_settings (value_events value)) (value_events value))
+    ≡ encode (Some utf8) (document_text value)
+bytes_are value =
+    ap (λ (t : Option Stream). bytes_written s (unwrap_or (option_map (layout s) t) [])) (tree_of-stream_events (value_stream value))
+    ∙ ap (λ t. encode (Some utf8) t) (breaks_same (text_of (layout s (value_stream value))) ∙ layout_is value)
+
 -- the bytes of a value are those of its canonical text
 pub output_is : (value : TypedValue) → typed_output value ≡ cut s.limit (encode (Some utf8) (document_text value))
-output_is value =
-    ap (λ (t : Option Stream). cut s.limit (bytes_written s (unwrap_or (option_map (layout s) t) []))) (tree_of-stream_events (value_stream value))
-    ∙ ap (λ t. cut s.limit (encode (Some utf8) t)) (breaks_same (text_of (layout s (value_stream value))) ∙ layout_is value)
+output_is value = ap (cut s.limit) (bytes_are value)
 
 -- bytes that a limit could have cut, and that are fewer, are whole
 whole_below : (limit : ℕ) (bytes : List ℕ) → length (cut limit bytes) < limit → cut limit bytes ≡ bytes

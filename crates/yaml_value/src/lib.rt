@@ -2,6 +2,7 @@
 #![tactic(auto)]
 
 mod events;
+mod keys;
 mod laws;
 mod levels;
 mod size;
@@ -10,6 +11,7 @@ mod value;
 mod walk;
 mod writing;
 
+pub use keys::Keys;
 pub use laws::equal_bytes_equal_values;
 pub use levels::Level;
 pub use value::Value;

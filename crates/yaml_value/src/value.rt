@@ -22,8 +22,9 @@ pub enum Value<A: Allocator> {
     Text(String<A>),
     /// Values in order.
     List(Vec<Value<A>, A>),
-    /// Pairs of a key and its value in order; equal keys may occur more than once. The order counts: the same pairs in another are
-    /// another value, with other canonical bytes and another digest.
+    /// Pairs of a key and its value in order. Equal keys may occur more than once, which not all readers of YAML accept, unless the
+    /// value was read with `Keys::Unique`. The order counts: the same pairs in another are another value, with other canonical bytes
+    /// and another digest.
     Map(Vec<(Value<A>, Value<A>), A>),
 }
 
