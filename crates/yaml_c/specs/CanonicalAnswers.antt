@@ -26,6 +26,7 @@ abbrev pub IsTold : Option ReadError → (status : ℤ) → CallResult → Type 
 IsTold None status report = (status ≡ pos 0) × (report ≡ nothing_reported)
 IsTold (Some (errors.NotCanonical line column)) status report = (status ≡ pos 10) × (report ≡ at_place line column)
 IsTold (Some (errors.TooDeep line column)) status report = (status ≡ pos 6) × (report ≡ at_place line column)
+IsTold (Some (errors.DuplicateKey line column)) status report = ⊥
 IsTold (Some errors.NotNumbered) status report = ⊥
 IsTold (Some errors.Memory) status report = (status ≡ pos 3) × (report ≡ nothing_reported)
 

@@ -22,7 +22,8 @@ pub extern "C" fn yaml_is_canonical(alloc: Global, bytes: &[u8], report: &mut Ca
             *report = CallResult::at_place(line, column);
             TOO_DEEP
         }
-        // `read_canonical` doesn't return it.
+        // `read_canonical` returns neither.
+        Err(ReadError::DuplicateKey { .. }) => NOT_CANONICAL,
         Err(ReadError::NotNumbered) => NOT_CANONICAL,
         Err(ReadError::Memory) => NO_MEMORY,
     }

@@ -10,6 +10,8 @@ use Rattle.yaml_read.specs.Grammar.{behind_in, behind_tag, characters, these_or_
 use Rattle.yaml_read.specs.Heads.{ReadsCharacter, tag_word}
 use Rattle.yaml_read.specs.Places.{BreaksAt, BreaksOff, IsHere, IsHereOrMemory, IsWholeWord, LacksEnd, StopsIn, behind_all, behind_node, in_node, more_follows}
 use Rattle.yaml_value.specs.OpenLevels.{OpenLevel, items_open, pairs_open, value_due}
+use Rattle.yaml_value.specs.declared.keys.Keys.{Keys}
+use Rattle.yaml_read.specs.AllowedKeys.{KeysAllow, OpenKeysAllow}
 use Rattle.yaml_read.specs.{Opened.HasRead, Opened.IsOpen, Opened.OpenCanBeRead, Places.no_end, Sound.IsCharacter, Words.OrMemory}
 use Rattle.yaml_read.specs.{Words.past_word, declared.errors.Stop.Stop, declared.heads.Kind.Kind}
 use Rattle.yaml_read.proofs.{Breaking.here, Breaking.missing, Breaking.passed, Breaking.passed_at, Breaking.second_of}
@@ -172,30 +174,31 @@ no_map depth bytes rest error is none place =
 -- ---- after a node
 
 -- the bytes of a document break off after a value
-pub value_stops : (whole : List ℕ) (levels : List OpenLevel) (level : OpenLevel) (value : TypedValue) (bytes : List ℕ) (depth : ℕ) (error : Stop)
-    → depth ≡ length levels → HasRead whole (level ∷ levels) value bytes → BreaksAt (behind_in depth level) bytes error → StopsIn whole error
-value_stops whole levels level value bytes depth (stop.Refused left) same read breaks =
-    behind_node (level ∷ levels) value bytes read (subst (λ n. BreaksOff (behind_in n level) bytes left) same breaks)
-value_stops whole levels level value bytes depth (stop.TooDeep left) same read breaks = absurd breaks
-value_stops whole levels level value bytes depth stop.Memory same read breaks = tt
+pub value_stops : (mode : Keys) (whole : List ℕ) (levels : List OpenLevel) (level : OpenLevel) (value : TypedValue) (bytes : List ℕ) (depth : ℕ)
+    (error : Stop) → depth ≡ length levels → HasRead whole (level ∷ levels) value bytes → OpenKeysAllow mode (level ∷ levels) → KeysAllow mode value
+    → BreaksAt (behind_in depth level) bytes error → StopsIn mode whole error
+value_stops mode whole levels level value bytes depth (stop.Refused left) same read open_allow allow breaks =
+    behind_node (level ∷ levels) value bytes read open_allow allow (subst (λ n. BreaksOff (behind_in n level) bytes left) same breaks)
+value_stops mode whole levels level value bytes depth (stop.TooDeep left) same read open_allow allow breaks = absurd breaks
+value_stops mode whole levels level value bytes depth stop.Memory same read open_allow allow breaks = tt
 
 -- and after the outermost value
-pub end_lacks : (whole : List ℕ) (value : TypedValue) (bytes : List ℕ) (error : Stop) → HasRead whole [] value bytes → LacksEnd bytes error
-    → StopsIn whole error
-end_lacks whole value bytes error read (no_end none place) =
-    subst (StopsIn whole) (sym place)
-    (behind_node [] value bytes read (missing (codes "\n") bytes nothing (stop.Refused (length bytes)) [] none refl tt))
-end_lacks whole value bytes error read (more_follows rest is some place) =
-    subst (StopsIn whole) (sym place) (behind_all value bytes rest read is some refl)
+pub end_lacks : (mode : Keys) (whole : List ℕ) (value : TypedValue) (bytes : List ℕ) (error : Stop) → HasRead whole [] value bytes
+    → OpenKeysAllow mode [] → KeysAllow mode value → LacksEnd bytes error → StopsIn mode whole error
+end_lacks mode whole value bytes error read open_allow allow (no_end none place) =
+    subst (StopsIn mode whole) (sym place)
+    (behind_node [] value bytes read open_allow allow (missing (codes "\n") bytes nothing (stop.Refused (length bytes)) [] none refl tt))
+end_lacks mode whole value bytes error read open_allow allow (more_follows rest is some place) =
+    subst (StopsIn mode whole) (sym place) (behind_all value bytes rest read allow is some refl)
 
 -- ---- at a node
 
 -- the bytes of a document break off in a node
-pub node_stops : (whole : List ℕ) (levels : List OpenLevel) (bytes : List ℕ) (error : Stop) → IsOpen whole levels bytes
-    → BreaksAt (node (length levels)) bytes error → StopsIn whole error
-node_stops whole levels bytes (stop.Refused left) opened breaks = in_node levels bytes opened breaks
-node_stops whole levels bytes (stop.TooDeep left) opened breaks = absurd breaks
-node_stops whole levels bytes stop.Memory opened breaks = tt
+pub node_stops : (mode : Keys) (whole : List ℕ) (levels : List OpenLevel) (bytes : List ℕ) (error : Stop) → IsOpen whole levels bytes
+    → OpenKeysAllow mode levels → BreaksAt (node (length levels)) bytes error → StopsIn mode whole error
+node_stops mode whole levels bytes (stop.Refused left) opened allow breaks = in_node levels bytes opened allow breaks
+node_stops mode whole levels bytes (stop.TooDeep left) opened allow breaks = absurd breaks
+node_stops mode whole levels bytes stop.Memory opened allow breaks = tt
 
 -- after the opening bracket of a list or a map that has entries
 inside_out : (depth : ℕ) (More : List (List ℕ) → Type 0) (words : List (List ℕ)) → depth < most_nested → unless_deep depth More words → More words
@@ -233,15 +236,16 @@ few_open (items_open items ∷ levels) readable = omega (arith, readable.1.0)
 few_open (pairs_open pairs ∷ levels) readable = omega (arith, readable.1.0)
 few_open (value_due pairs key ∷ levels) readable = omega (arith, readable.1.0)
 
-pub opens_deep : (whole : List ℕ) (levels : List OpenLevel) (bytes inside : List ℕ) (error : Stop) → IsOpen whole levels bytes
-    → most_nested ≤ length levels → (bytes ≡ codes "!!seq [" ++ inside) ⊎ (bytes ≡ codes "!!map {" ++ inside)
-    → error ≡ stop.TooDeep (length bytes) → StopsIn whole error
-opens_deep whole levels bytes inside error opened many begins place =
-    subst (StopsIn whole) (sym place)
+pub opens_deep : (mode : Keys) (whole : List ℕ) (levels : List OpenLevel) (bytes inside : List ℕ) (error : Stop) → IsOpen whole levels bytes
+    → OpenKeysAllow mode levels → most_nested ≤ length levels → (bytes ≡ codes "!!seq [" ++ inside) ⊎ (bytes ≡ codes "!!map {" ++ inside)
+    → error ≡ stop.TooDeep (length bytes) → StopsIn mode whole error
+opens_deep mode whole levels bytes inside error opened allow many begins place =
+    subst (StopsIn mode whole) (sym place)
     (record {
       levels = levels;
       bytes = bytes;
       opened = opened;
+      allowed = allow;
       full = omega (arith, many, few_open levels opened.readable);
       inside = inside;
       begins = begins;

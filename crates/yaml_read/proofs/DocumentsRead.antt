@@ -102,6 +102,7 @@ composed_complete bytes all events (Err told.NotNumbered) whole reads composes =
     composes (unstyled_graph graph) run.whole (run.is_list ∙ sym is ∙ whole))
 composed_complete bytes all events (Err (told.NotCanonical line column)) whole reads composes = absurd composes
 composed_complete bytes all events (Err (told.TooDeep line column)) whole reads composes = absurd composes
+composed_complete bytes all events (Err (told.DuplicateKey line column)) whole reads composes = absurd composes
 
 pub composed_placed : {A : Type 0} (bytes : List ℕ) (events : List Event) (answer : Result (yaml_document_t A) ReadError) → AreRunBytes bytes events
     → ComposesNode events answer → IfErr answer (IsDocumentPlaced bytes)
@@ -110,6 +111,7 @@ composed_placed bytes events (Err told.Memory) run composes = tt
 composed_placed bytes events (Err told.NotNumbered) run composes = record { events = events; run = run; none = composes }
 composed_placed bytes events (Err (told.NotCanonical line column)) run composes = absurd composes
 composed_placed bytes events (Err (told.TooDeep line column)) run composes = absurd composes
+composed_placed bytes events (Err (told.DuplicateKey line column)) run composes = absurd composes
 
 -- ---- errors
 

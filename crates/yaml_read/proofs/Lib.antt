@@ -12,6 +12,7 @@ pub mod FirstCharacters
 pub mod Completeness
 pub mod Texts
 pub mod ReadBack
+pub mod UniqueSoFar
 pub mod Opening
 pub mod CharactersRead
 pub mod DigitsRead
@@ -20,6 +21,11 @@ pub mod Stepping
 pub mod Taken
 pub mod Begun
 pub mod WrittenValues
+pub mod KeyTexts
+pub mod HeldKeys
+pub mod SettledLevels
+pub mod UniqueTexts
+pub mod ChosenKeys
 pub mod Breaking
 pub mod Entries
 pub mod BreakingNodes

@@ -13,6 +13,7 @@ use Rattle.yaml_read.specs.Opened.{HasRead, IsOpen, OpenCanBeRead, opened_text}
 use Rattle.yaml_read.specs.Places.{BreaksInValue, BreaksOff, CannotStand, IsBehindMarker, IsPlaced, OpensPastDepth, behind_all, behind_node, in_node}
 use Rattle.yaml_read.specs.Readable.{AllCanBeReadAt, CanBeRead, CanBeReadAt, PairsCanBeReadAt}
 use Rattle.yaml_read.specs.Remaining.{column_in}
+use Rattle.yaml_value.specs.declared.keys.Keys.TheVariants as keys
 use Rattle.yaml_read.specs.declared.errors.ReadError.{ReadError}
 use Rattle.yaml_read.specs.declared.errors.ReadError.TheVariants as told
 use Rattle.yaml_read.specs.declared.heads.Kind.TheVariants as kind
@@ -160,22 +161,22 @@ behind_bare (value_due pairs key ∷ levels) bytes left breaks_off =
 behind_bare (pairs_open pairs ∷ levels) bytes left breaks_off =
     subst (λ n. BreaksOff (line_then n (word_then (codes "  : ") nothing)) bytes left) (bare_length levels) breaks_off
 
-breaks_found : (whole : List ℕ) (left : ℕ) → BreaksInValue whole left → Found whole false left
-breaks_found whole left (in_node levels bytes opened breaks_off) =
+breaks_found : (whole : List ℕ) (left : ℕ) → BreaksInValue keys.MayRepeat whole left → Found whole false left
+breaks_found whole left (in_node levels bytes opened allowed breaks_off) =
     record {
       spot = at_node (bare levels);
       bytes = bytes;
       walk = opened_walk whole bytes levels opened;
       stops = breaks (at_node (bare levels)) bytes left (subst (λ n. BreaksOff (node n) bytes left) (bare_length levels) breaks_off);
     }
-breaks_found whole left (behind_node levels value bytes read breaks_off) =
+breaks_found whole left (behind_node levels value bytes read levels_allowed value_allowed breaks_off) =
     record {
       spot = after_node (bare levels);
       bytes = bytes;
       walk = read_walk whole bytes levels value read;
       stops = breaks (after_node (bare levels)) bytes left (behind_bare levels bytes left breaks_off);
     }
-breaks_found whole left (behind_all value bytes rest read is some place) =
+breaks_found whole left (behind_all value bytes rest read allowed is some place) =
     record {
       spot = at_end;
       bytes = rest;
@@ -191,7 +192,7 @@ deep_by levels bytes inside many (inl is) =
 deep_by levels bytes inside many (inr is) =
     too_deep levels bytes (codes "!!map " ∷ codes "{" ∷ []) inside (kind.Map, (refl, (refl, inr (many, tt)))) refl is
 
-deep_found : (whole : List ℕ) (left : ℕ) → OpensPastDepth whole left → Found whole true left
+deep_found : (whole : List ℕ) (left : ℕ) → OpensPastDepth keys.MayRepeat whole left → Found whole true left
 deep_found whole left deep =
     record {
       spot = at_node (bare deep.levels);
@@ -214,31 +215,31 @@ behind_marker : (bytes : List ℕ) (Holds Held : List ℕ → Type 0) → IsBehi
 behind_marker bytes Holds Held one other =
     (one.0, one.2, subst Held (append_cancel_left (codes "---\n") other.0 one.0 (sym other.1 ∙ one.1)) other.2)
 
-stands_once : (bytes : List ℕ) (left other : ℕ) → CannotStand bytes left → CannotStand bytes other → left ≡ other
+stands_once : (bytes : List ℕ) (left other : ℕ) → CannotStand keys.MayRepeat bytes left → CannotStand keys.MayRepeat bytes other → left ≡ other
 stands_once bytes left other (inl first) (inl second) =
     place_same (word_then (codes "---\n") nothing) bytes left other (word_way (codes "---\n") nothing nothing_way) first second
 stands_once bytes left other (inl first) (inr second) = absurd (marker_is bytes second.0 left first second.1)
 stands_once bytes left other (inr first) (inl second) = absurd (marker_is bytes first.0 other second first.1)
 stands_once bytes left other (inr first) (inr second) =
-    let both = behind_marker bytes (λ whole. BreaksInValue whole left) (λ whole. BreaksInValue whole other) first second in
+    let both = behind_marker bytes (λ whole. BreaksInValue keys.MayRepeat whole left) (λ whole. BreaksInValue keys.MayRepeat whole other) first second in
     (found_once both.0 false false left other (breaks_found both.0 left both.1) (breaks_found both.0 other both.2)).1
 
-deep_once : (bytes : List ℕ) (left other : ℕ) → IsBehindMarker bytes (λ whole. OpensPastDepth whole left)
-    → IsBehindMarker bytes (λ whole. OpensPastDepth whole other) → left ≡ other
+deep_once : (bytes : List ℕ) (left other : ℕ) → IsBehindMarker bytes (λ whole. OpensPastDepth keys.MayRepeat whole left)
+    → IsBehindMarker bytes (λ whole. OpensPastDepth keys.MayRepeat whole other) → left ≡ other
 deep_once bytes left other first second =
-    let both = behind_marker bytes (λ whole. OpensPastDepth whole left) (λ whole. OpensPastDepth whole other) first second in
+    let both = behind_marker bytes (λ whole. OpensPastDepth keys.MayRepeat whole left) (λ whole. OpensPastDepth keys.MayRepeat whole other) first second in
     (found_once both.0 true true left other (deep_found both.0 left both.1) (deep_found both.0 other both.2)).1
 
-not_both : (bytes : List ℕ) (left other : ℕ) → CannotStand bytes left → IsBehindMarker bytes (λ whole. OpensPastDepth whole other) → ⊥
+not_both : (bytes : List ℕ) (left other : ℕ) → CannotStand keys.MayRepeat bytes left → IsBehindMarker bytes (λ whole. OpensPastDepth keys.MayRepeat whole other) → ⊥
 not_both bytes left other (inl first) second = marker_is bytes second.0 left first second.1
 not_both bytes left other (inr first) second =
-    let both = behind_marker bytes (λ whole. BreaksInValue whole left) (λ whole. OpensPastDepth whole other) first second in
+    let both = behind_marker bytes (λ whole. BreaksInValue keys.MayRepeat whole left) (λ whole. OpensPastDepth keys.MayRepeat whole other) first second in
     true≢false (sym (found_once both.0 false true left other (breaks_found both.0 left both.1) (deep_found both.0 other both.2)).0)
 
 -- ---- errors
 
 abbrev IsFault : List ℕ → ℕ → Type 0
-IsFault bytes offset = ((IsUtf8 bytes → ⊥) × IsValidUpTo bytes offset) ⊎ ((left : ℕ) × IsUtf8 bytes × (offset ≡ length bytes - left) × CannotStand bytes left)
+IsFault bytes offset = ((IsUtf8 bytes → ⊥) × IsValidUpTo bytes offset) ⊎ ((left : ℕ) × IsUtf8 bytes × (offset ≡ length bytes - left) × CannotStand keys.MayRepeat bytes left)
 
 fault_once : (bytes : List ℕ) (one other : ℕ) → IsFault bytes one → IsFault bytes other → one ≡ other
 fault_once bytes one other (inl first) (inl second) =
@@ -248,7 +249,7 @@ fault_once bytes one other (inr first) (inl second) = absurd (second.0 first.1)
 fault_once bytes one other (inr first) (inr second) =
     first.2 ∙ ap (λ n. length bytes - n) (stands_once bytes first.0 second.0 first.3 second.3) ∙ sym second.2
 
-no_fault : (bytes : List ℕ) (one other : ℕ) → IsFault bytes one → IsUtf8 bytes → IsBehindMarker bytes (λ whole. OpensPastDepth whole other) → ⊥
+no_fault : (bytes : List ℕ) (one other : ℕ) → IsFault bytes one → IsUtf8 bytes → IsBehindMarker bytes (λ whole. OpensPastDepth keys.MayRepeat whole other) → ⊥
 no_fault bytes one other (inl first) valid second = first.0 valid
 no_fault bytes one other (inr first) valid second = not_both bytes first.0 other first.3 second
 
@@ -263,8 +264,10 @@ pub one_place : (bytes : List ℕ) (one other : ReadError) → IsPlaced bytes on
     → (one ≡ told.Memory) ⊎ ((other ≡ told.Memory) ⊎ (one ≡ other))
 one_place bytes told.Memory other first second = inl refl
 one_place bytes told.NotNumbered other first second = absurd first
+one_place bytes (told.DuplicateKey line column) other first second = absurd first
 one_place bytes one told.Memory first second = inr (inl refl)
 one_place bytes one told.NotNumbered first second = absurd second
+one_place bytes one (told.DuplicateKey line column) first second = absurd second
 one_place bytes (told.NotCanonical line column) (told.NotCanonical next across) first second =
     inr (inr (lines_same (λ l c. told.NotCanonical l c) bytes first.0 second.0 line column next across
     (fault_once bytes first.0 second.0 first.3 second.3) first.1 first.2 second.1 second.2))
@@ -300,7 +303,7 @@ not_found value whole deep left readable is found =
     ends_right deep found.bytes left same.bytes (subst (λ (s : Spot). Stops s found.bytes deep left) same.spot found.stops)
 
 stands_not : (value : TypedValue) (bytes : List ℕ) (left : ℕ) → CanBeReadAt 0 value
-    → bytes ≡ codes "---\n" ++ encode_utf8_all (value_text 0 value ++ line_feed ∷ []) → CannotStand bytes left → ⊥
+    → bytes ≡ codes "---\n" ++ encode_utf8_all (value_text 0 value ++ line_feed ∷ []) → CannotStand keys.MayRepeat bytes left → ⊥
 stands_not value bytes left readable is (inl first) =
     marker_is bytes (encode_utf8_all (value_text 0 value ++ line_feed ∷ [])) left first is
 stands_not value bytes left readable is (inr first) =
@@ -313,6 +316,7 @@ nowhere : (value : TypedValue) (bytes : List ℕ) (error : ReadError) → CanBeR
     → bytes ≡ codes "---\n" ++ encode_utf8_all (value_text 0 value ++ line_feed ∷ []) → IsPlaced bytes error → error ≡ told.Memory
 nowhere value bytes told.Memory readable valid is placed = refl
 nowhere value bytes told.NotNumbered readable valid is placed = absurd placed
+nowhere value bytes (told.DuplicateKey line column) readable valid is placed = absurd placed
 nowhere value bytes (told.NotCanonical line column) readable valid is placed = absurd (by placed.3)
   where
     by : IsFault bytes placed.0 → ⊥

@@ -16,6 +16,8 @@ use Rattle.yaml_read.specs.Places.{BreaksAt, IsHere, IsHereOrMemory}
 use Rattle.yaml_value.specs.OpenLevels.{OpenLevel, items_open, pairs_open}
 use Rattle.yaml_value.proofs.SeenLevels.{seen_null, seen_string}
 use Rattle.yaml_read.specs.Remaining.{IsDue, Reached, column_in}
+use Rattle.yaml_base.specs.values.UniqueKeys.{HasUniqueKeys}
+use Rattle.yaml_read.specs.Settled.{NextMoved, NextTook, begins_list, begins_map, level_opened, value_given}
 use Rattle.yaml_read.specs.Stepped.{BracketLacks, Entered, EntryLacks, NextShorter, ScalarRead, ValueSettled, NodeStepped, no_bracket, no_lead, no_line}
 use Rattle.yaml_read.specs.Stepped.{no_memory, no_room}
 use Rattle.yaml_read.specs.{Readable.CanBeReadAt, Sound.IsInteger, Sound.IsScalarValue, Sound.IsTruth, Words.OrMemory, Words.past_word}
@@ -25,7 +27,7 @@ use Rattle.yaml_read.proofs.HeadTexts.{list_bracket, list_empty, map_bracket, ma
 use Rattle.yaml_read.proofs.HeadsRead.{empty_list, empty_map, integer_read, null_read, string_read, truth_read}
 use Rattle.yaml_read.proofs.Opening.{list_in, map_in, value_in}
 use Rattle.yaml_read.proofs.Turns.{Opens, cut_is, into, list_opens, map_opens, whole_read}
-use Rattle.yaml_read.proofs.{Encoded.word_encoded, Words.error_stays, Words.no_word}
+use Rattle.yaml_read.proofs.{Encoded.word_encoded, UniqueSoFar.scalar_unique, UniqueSoFar.unique_allows, Words.error_stays, Words.no_word}
 use Rattle.yaml_value.{specs.SeenValues.seen_value, specs.declared.value.Value.Value}
 use Rattle.yaml_value.specs.declared.value.Value as declared
 use Rattle.yaml_read.specs.declared.errors.Stop.{Stop}
@@ -51,17 +53,25 @@ behind_tag_less kind.Map text behind is = omega (arith, ap length is)
 
 -- ---- values on their line
 
+-- a value that repeats no key was given
+next_moved : {A : Type 0} (before after : List OpenLevel) (first : TypedValue) (next : Next A) → HasUniqueKeys first → NextTook before first after next
+    → NextMoved before after next
+next_moved before after first (Done value) unique took = (first, unique, took)
+next_moved before after first (Node rest) unique took = value_given first unique took
+
 -- a value was read whole
 value_steps : {A : Type 0} (before after : List OpenLevel) (text rest : List ℕ) (value : TypedValue) (result : Result (Next A) Stop)
-    → text ≡ encode_utf8_all (value_text (column_in before) value) ++ rest → CanBeReadAt (length before) value
+    → HasUniqueKeys value → text ≡ encode_utf8_all (value_text (column_in before) value) ++ rest → CanBeReadAt (length before) value
     → ((root : TypedValue) (due : IsDue root before text) → (value ≡ due.value) × (rest ≡ encode_utf8_all due.rest)) → length rest < length text
     → ValueSettled before after value rest result → NodeStepped before after text result
-value_steps before after text rest value result is readable reads less settled =
+value_steps before after text rest value result unique is readable reads less settled =
     record {
       reached = λ root due. settled.reached root (whole_read root value before text rest due (reads root due));
       read = λ whole opened. settled.read whole (value_in whole before value text rest opened is readable);
-      stops = λ whole opened. settled.stops whole (value_in whole before value text rest opened is readable);
+      stops = λ mode whole opened allow.
+          settled.stops mode whole (value_in whole before value text rest opened is readable) allow (unique_allows mode value unique);
       shorter = IfOk-weaker result _ _ (λ next is. next_less text rest next (omega (arith, less)) is) settled.shorter;
+      moved = IfOk-weaker result _ _ (λ next took. next_moved before after value next unique took) settled.took;
     }
 
 pub scalar_steps : {A : Type 0} (before after : List OpenLevel) (k : Kind) (text behind rest : List ℕ) (value : TypedValue) (result : Result (Next A) Stop)
@@ -70,7 +80,7 @@ pub scalar_steps : {A : Type 0} (before after : List OpenLevel) (k : Kind) (text
     → (value ≡ v) × (rest ≡ encode_utf8_all t)) → length rest < length behind
     → ValueSettled before after value rest result → NodeStepped before after text result
 scalar_steps before after k text behind rest value result tagged found reads less settled =
-    value_steps before after text rest value result (tagged ∙ found.text (column_in before)) (found.readable (length before))
+    value_steps before after text rest value result (scalar_unique value found.readable) (tagged ∙ found.text (column_in before)) (found.readable (length before))
     (λ root due. reads (length before) (column_in before) due.value due.rest due.readable (sym tagged ∙ due.text))
     (omega (arith, less, behind_tag_less k text behind tagged)) settled
 
@@ -88,9 +98,10 @@ no_scalar_steps A before after k text behind error tagged lacks =
           no_scalar_reached A (IsWhole {A = A} due.value due.rest) root after error
           (lacks.reads (length before) (column_in before) due.value due.rest due.readable (sym tagged ∙ due.text));
       read = λ whole opened. tt;
-      stops = λ whole opened. node_stops whole before text error opened
+      stops = λ mode whole opened allow. node_stops mode whole before text error opened allow
           (tag_passed (length before) k k text behind error refl tagged (lacks.breaks (length before)));
       shorter = tt;
+      moved = tt;
     }
 
 pub no_tag_steps : (A : Type 0) (before after : List OpenLevel) (text : List ℕ) (error : Stop)
@@ -99,8 +110,9 @@ no_tag_steps A before after text error lacks =
     record {
       reached = λ root due. absurd (no_tag (column_in before) due.value due.rest text due.text lacks.0);
       read = λ whole opened. tt;
-      stops = λ whole opened. node_stops whole before text error opened (no_tag_there (length before) text error lacks.0 lacks.1);
+      stops = λ mode whole opened allow. node_stops mode whole before text error opened allow (no_tag_there (length before) text error lacks.0 lacks.1);
       shorter = tt;
+      moved = tt;
     }
 
 -- ---- scalars
@@ -239,7 +251,7 @@ pub empty_list_steps : {A : Type 0} (before after : List OpenLevel) (text behind
     → text ≡ tag_word kind.List ++ behind → (behind ≡ codes "[" ++ inside) × (length before < most_nested) → inside ≡ codes "]" ++ rest
     → value ≡ list_value no_values → ValueSettled before after value rest result → NodeStepped before after text result
 empty_list_steps before after text behind inside rest value result tagged bracket is same settled =
-    value_steps before after text rest (list_value no_values) result (empty_list (column_in before) text behind inside rest tagged bracket.0 is)
+    value_steps before after text rest (list_value no_values) result tt (empty_list (column_in before) text behind inside rest tagged bracket.0 is)
     (bracket.1, tt)
     (λ root due.
     let tail = tail_of kind.List (column_in before) due.value due.rest text behind due.text tagged in
@@ -256,8 +268,9 @@ no_list_steps A before after text behind error tagged (no_bracket none place) =
           let tail = tail_of kind.List (column_in before) due.value due.rest text behind due.text tagged in
           absurd (list_bracket (column_in before) tail.0 due.rest behind tail.2 none);
       read = λ whole opened. tt;
-      stops = λ whole opened. node_stops whole before text error opened (no_list (length before) text behind error tagged none place);
+      stops = λ mode whole opened allow. node_stops mode whole before text error opened allow (no_list (length before) text behind error tagged none place);
       shorter = tt;
+      moved = tt;
     }
 no_list_steps A before after text behind error tagged (no_room inside is many place) =
     record {
@@ -266,8 +279,9 @@ no_list_steps A before after text behind error tagged (no_room inside is many pl
           let room : CanBeReadAt (length before) (list_value tail.0) = subst (CanBeReadAt (length before)) tail.1 due.readable in
           absurd (omega (arith, many, room.0));
       read = λ whole opened. tt;
-      stops = λ whole opened. opens_deep whole before text inside error opened many (inl (tagged ∙ ap (λ t. codes "!!seq " ++ t) is)) place;
+      stops = λ mode whole opened allow. opens_deep mode whole before text inside error opened allow many (inl (tagged ∙ ap (λ t. codes "!!seq " ++ t) is)) place;
       shorter = tt;
+      moved = tt;
     }
 
 -- ---- into lists and maps
@@ -307,8 +321,9 @@ list_steps before after text behind inside (Ok (Node rest)) tagged bracket none 
       read = λ whole opened.
           subst (λ (inner : List OpenLevel). IsOpen whole inner rest.now) (sym entered.0)
           (list_in whole before text rest.now opened bracket.1 (there ∙ ap (λ t. codes "!!seq [" ++ t) word));
-      stops = λ whole opened. tt;
+      stops = λ mode whole opened allow. tt;
       shorter = omega (arith, ap length there, ap length entered.1, length-append (line_at (suc (length before) * 2)) rest.now);
+      moved = level_opened (items_open no_values) begins_list entered.0;
     }
 list_steps {A} before after text behind inside (Err error) tagged bracket none entered =
     let there = tagged ∙ ap (λ t. codes "!!seq " ++ t) bracket.0 in
@@ -316,9 +331,10 @@ list_steps {A} before after text behind inside (Err error) tagged bracket none e
       reached = λ root due.
           no_entry_reached A root before (items_open no_values ∷ before) after [] inside error (list_opens root before text inside due there none) entered;
       read = λ whole opened. tt;
-      stops = λ whole opened. node_stops whole before text error opened
+      stops = λ mode whole opened allow. node_stops mode whole before text error opened allow
           (list_line_breaks (length before) text inside error bracket.1 (there, none) (list_breaks (length before) inside error entered));
       shorter = tt;
+      moved = tt;
     }
 
 -- ---- maps
@@ -327,7 +343,7 @@ pub empty_map_steps : {A : Type 0} (before after : List OpenLevel) (text behind 
     → text ≡ tag_word kind.Map ++ behind → (behind ≡ codes "{" ++ inside) × (length before < most_nested) → inside ≡ codes "}" ++ rest
     → value ≡ map_value no_value_pairs → ValueSettled before after value rest result → NodeStepped before after text result
 empty_map_steps before after text behind inside rest value result tagged bracket is same settled =
-    value_steps before after text rest (map_value no_value_pairs) result (empty_map (column_in before) text behind inside rest tagged bracket.0 is)
+    value_steps before after text rest (map_value no_value_pairs) result tt (empty_map (column_in before) text behind inside rest tagged bracket.0 is)
     (bracket.1, tt)
     (λ root due.
     let tail = tail_of kind.Map (column_in before) due.value due.rest text behind due.text tagged in
@@ -343,8 +359,9 @@ no_map_steps A before after text behind error tagged (no_bracket none place) =
           let tail = tail_of kind.Map (column_in before) due.value due.rest text behind due.text tagged in
           absurd (map_bracket (column_in before) tail.0 due.rest behind tail.2 none);
       read = λ whole opened. tt;
-      stops = λ whole opened. node_stops whole before text error opened (no_map (length before) text behind error tagged none place);
+      stops = λ mode whole opened allow. node_stops mode whole before text error opened allow (no_map (length before) text behind error tagged none place);
       shorter = tt;
+      moved = tt;
     }
 no_map_steps A before after text behind error tagged (no_room inside is many place) =
     record {
@@ -353,8 +370,9 @@ no_map_steps A before after text behind error tagged (no_room inside is many pla
           let room : CanBeReadAt (length before) (map_value tail.0) = subst (CanBeReadAt (length before)) tail.1 due.readable in
           absurd (omega (arith, many, room.0));
       read = λ whole opened. tt;
-      stops = λ whole opened. opens_deep whole before text inside error opened many (inr (tagged ∙ ap (λ t. codes "!!map " ++ t) is)) place;
+      stops = λ mode whole opened allow. opens_deep mode whole before text inside error opened allow many (inr (tagged ∙ ap (λ t. codes "!!map " ++ t) is)) place;
       shorter = tt;
+      moved = tt;
     }
 
 pub map_steps : {A : Type 0} (before after : List OpenLevel) (text behind inside : List ℕ) (result : Result (Next A) Stop)
@@ -372,8 +390,9 @@ map_steps before after text behind inside (Ok (Node rest)) tagged bracket none e
       read = λ whole opened.
           subst (λ (inner : List OpenLevel). IsOpen whole inner rest.now) (sym entered.0)
           (map_in whole before text rest.now opened bracket.1 (there ∙ ap (λ t. codes "!!map {" ++ t) word));
-      stops = λ whole opened. tt;
+      stops = λ mode whole opened allow. tt;
       shorter = omega (arith, ap length there, ap length entered.1, length-append (line_at (suc (length before) * 2)) (codes "? " ++ rest.now));
+      moved = level_opened (pairs_open no_value_pairs) begins_map entered.0;
     }
 map_steps {A} before after text behind inside (Err error) tagged bracket none entered =
     let there = tagged ∙ ap (λ t. codes "!!map " ++ t) bracket.0 in
@@ -382,7 +401,8 @@ map_steps {A} before after text behind inside (Err error) tagged bracket none en
           no_entry_reached A root before (pairs_open no_value_pairs ∷ before) after (codes "? ") inside error
           (map_opens root before text inside due there none) entered;
       read = λ whole opened. tt;
-      stops = λ whole opened. node_stops whole before text error opened
+      stops = λ mode whole opened allow. node_stops mode whole before text error opened allow
           (map_line_breaks (length before) text inside error bracket.1 (there, none) (lead_breaks (suc (length before)) (codes "? ") inside error entered));
       shorter = tt;
+      moved = tt;
     }

@@ -31,6 +31,7 @@ taken_on depth (items_open items) value more text rest is found =
           (found.cut ∙ ap (λ n. codes "," ++ (line_at (n * 2) ++ (codes "  " ++ rest.now))) at));
       breaks = tt;
       shorter = found.shorter;
+      took = is;
     }
 taken_on depth (value_due pairs key) value more text rest is found =
     record {
@@ -43,6 +44,7 @@ taken_on depth (value_due pairs key) value more text rest is found =
           (found.cut ∙ ap (λ n. codes "," ++ (line_at (n * 2) ++ (codes "  ? " ++ rest.now))) at));
       breaks = tt;
       shorter = found.shorter;
+      took = is;
     }
 taken_on depth (pairs_open pairs) key more text rest is found =
     let line = line_at (depth * 2) in
@@ -58,6 +60,7 @@ taken_on depth (pairs_open pairs) key more text rest is found =
           (found.cut ∙ append_assoc line (codes "  : ") rest.now ∙ ap (λ n. line_at (n * 2) ++ (codes "  : " ++ rest.now)) at));
       breaks = tt;
       shorter = found.shorter;
+      took = is;
     }
 
 pub taken_goes_on : {A : Type 0} (depth : ℕ) (level : OpenLevel) (value : TypedValue) (more : Level A) (text : List ℕ) (rest : Bor (List ℕ))
@@ -81,6 +84,7 @@ taken_out depth (items_open items) value whole text rest is found =
           (found.cut ∙ ap (λ n. codes "," ++ (line_at (n * 2) ++ (codes "]" ++ rest.now))) at));
       breaks = tt;
       shorter = found.shorter;
+      took = is;
     }
 taken_out depth (value_due pairs key) value whole text rest is found =
     record {
@@ -93,6 +97,7 @@ taken_out depth (value_due pairs key) value whole text rest is found =
           (found.cut ∙ ap (λ n. codes "," ++ (line_at (n * 2) ++ (codes "}" ++ rest.now))) at));
       breaks = tt;
       shorter = found.shorter;
+      took = is;
     }
 taken_out depth (pairs_open pairs) key whole text rest is found = absurd found
 
@@ -112,6 +117,7 @@ taken_nowhere A depth (items_open items) value text error lacks =
       read = λ whole levels at read. tt;
       breaks = lacks.breaks;
       shorter = tt;
+      took = tt;
     }
 taken_nowhere A depth (value_due pairs key) value text error lacks =
     record {
@@ -119,6 +125,7 @@ taken_nowhere A depth (value_due pairs key) value text error lacks =
       read = λ whole levels at read. tt;
       breaks = lacks.breaks;
       shorter = tt;
+      took = tt;
     }
 taken_nowhere A depth (pairs_open pairs) key text error lacks =
     let line = line_at (depth * 2) in
@@ -130,6 +137,7 @@ taken_nowhere A depth (pairs_open pairs) key text error lacks =
       read = λ whole levels at read. tt;
       breaks = lead_breaks depth (codes "  : ") text error lacks.lacks;
       shorter = tt;
+      took = tt;
     }
 
 pub taken_lacks : (A : Type 0) (depth : ℕ) (level more : OpenLevel) (value : TypedValue) (text : List ℕ) (error : Stop) → more ≡ with_value level value

@@ -8,8 +8,9 @@ use Rattle.yaml_base.specs.values.TypedValues.{nesting, values_nesting, value_pa
 use Rattle.yaml_base.{proofs.Common.canonical_content, specs.values.TypedValues.ReadsAs, proofs.Decoding.text_bytes-utf8, specs.Settings.largest_usize}
 use Rattle.yaml_base.{proofs.Common.take, specs.values.TypedValues.typed_settings, specs.values.TypedValues.typed_output, specs.values.ValueText.document_text}
 use Rattle.std.proofs.lemmas.List.{length-take, take_all}
-use Rattle.yaml_emitter.{proofs.canonical.CanonicalOutput.output_reads, specs.Uncut.IsWrittenWhole}
-use Rattle.yaml_value.proofs.{AcceptedLemmas.value_accepted, ContentLemmas.content_of-value_events, ContentLemmas.stream_tells_value, TextLemmas.output_is}
+use Rattle.yaml_base.specs.Output.{encoding_asked}
+use Rattle.yaml_emitter.{proofs.canonical.Canonical.canonical_bytes_read, proofs.canonical.CanonicalOutput.output_reads, specs.Uncut.IsWrittenWhole}
+use Rattle.yaml_value.proofs.{AcceptedLemmas.value_accepted, ContentLemmas.content_of-value_events, ContentLemmas.stream_tells_value, TextLemmas.bytes_are, TextLemmas.output_is}
 use Rattle.yaml_read.{specs.Readable.CanBeReadAt, specs.Readable.AllCanBeReadAt, specs.Readable.PairsCanBeReadAt, proofs.Scalars.int_scalars}
 
 mutual
@@ -116,3 +117,19 @@ written_value value bytes readable is few =
       reads = reads;
       only = λ other other_bits also. stream_tells_value other value other_bits bits (sym also ∙ reads);
     }
+
+-- the canonical reader finds a value in its text, however long that is
+text_reads : (value : TypedValue) → CanBeReadAt 0 value → ReadsAs (encode (Some utf8) (document_text value)) value
+text_reads value readable =
+    ap (canonical_content false) (sym (bytes_are value))
+    ∙ canonical_bytes_read typed_settings (encoding_asked (value_events value)) (value_events value) refl
+    (value_accepted value (omega (arith, fits_of value 0 readable (omega arith)))) (stream_scalars value readable)
+    ∙ content_of-value_events value
+
+-- so values that have one text are equal
+pub text_tells : (first second : TypedValue) → CanBeReadAt 0 first → CanBeReadAt 0 second
+    → encode_utf8_all (document_text first) ≡ encode_utf8_all (document_text second) → first ≡ second
+text_tells first second one other same =
+    let bytes = text_bytes-utf8 (document_text first) ∙ same ∙ sym (text_bytes-utf8 (document_text second)) in
+    stream_tells_value first second (bits_of first 0 one) (bits_of second 0 other)
+    (sym (text_reads first one) ∙ ap (canonical_content false) bytes ∙ text_reads second other)

@@ -51,6 +51,7 @@ IsDocumentPlaced bytes (told.NotCanonical line column) =
     (at : ℕ) × (line ≡ line_of bytes at) × (column ≡ column_of bytes at)
     × (((IsUtf8 bytes → ⊥) × IsValidUpTo bytes at) ⊎ ((left : ℕ) × IsUtf8 bytes × (at ≡ length bytes - left) × StopsInDumpedBytes bytes left))
 IsDocumentPlaced bytes (told.TooDeep line column) = ⊥
+IsDocumentPlaced bytes (told.DuplicateKey line column) = ⊥
 IsDocumentPlaced bytes told.NotNumbered = AreNotNumbered bytes
 IsDocumentPlaced bytes told.Memory = Unit {0}
 

@@ -1,3 +1,4 @@
+pub mod Settled
 pub mod Stepped
 pub mod Words
 pub mod Readable
@@ -21,3 +22,6 @@ pub mod WrittenTags
 pub mod Beginnings
 pub mod EventReads
 pub mod Digits
+pub mod AllowedKeys
+pub mod RepeatedKeys
+pub mod HeldKeys

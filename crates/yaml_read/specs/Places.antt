@@ -7,6 +7,9 @@ use Rattle.yaml_base.specs.Characters.{space}
 use Rattle.yaml_base.specs.values.LinesAndColumns.{column_of, line_of}
 use Rattle.yaml_base.specs.values.TypedValues.{TypedValue, most_nested}
 use Rattle.yaml_base.specs.values.ValueText.{line_at}
+use Rattle.yaml_value.specs.declared.keys.Keys.{Keys}
+use Rattle.yaml_value.specs.declared.keys.Keys.TheVariants as keys
+use Rattle.yaml_read.specs.AllowedKeys.{KeysAllow, OpenKeysAllow}
 use Rattle.yaml_read.specs.Grammar.{behind_value, node, nothing, word_then}
 use Rattle.yaml_read.specs.Opened.{HasRead, IsOpen}
 use Rattle.yaml_value.specs.OpenLevels.{OpenLevel}
@@ -29,20 +32,21 @@ pub record BreaksOff (These : List (List ℕ) → Type 0) (bytes : List ℕ) (le
   pub none : (next : List ℕ) (after : List (List ℕ)) → These (read ++ next ∷ after) → past_word next rest ≡ None
 
 -- After a document's first line the bytes are a value's up to a node, or up to what follows one, and a word is missing from there on;
--- or they are a value's, and more follows.
-pub data BreaksInValue (whole : List ℕ) (left : ℕ) : Type 0 where
-  in_node : (levels : List OpenLevel) (bytes : List ℕ) → IsOpen whole levels bytes → BreaksOff (node (length levels)) bytes left
-      → BreaksInValue whole left
-  behind_node : (levels : List OpenLevel) (value : TypedValue) (bytes : List ℕ) → HasRead whole levels value bytes
-      → BreaksOff (behind_value levels) bytes left → BreaksInValue whole left
-  behind_all : (value : TypedValue) (bytes rest : List ℕ) → HasRead whole [] value bytes → bytes ≡ codes "\n" ++ rest → 0 < length rest
-      → left ≡ length rest → BreaksInValue whole left
+-- or they are a value's, and more follows. If keys must differ, none repeats up to there; one that no `: ` follows isn't compared.
+pub data BreaksInValue (mode : Keys) (whole : List ℕ) (left : ℕ) : Type 0 where
+  in_node : (levels : List OpenLevel) (bytes : List ℕ) → IsOpen whole levels bytes → OpenKeysAllow mode levels
+      → BreaksOff (node (length levels)) bytes left → BreaksInValue mode whole left
+  behind_node : (levels : List OpenLevel) (value : TypedValue) (bytes : List ℕ) → HasRead whole levels value bytes → OpenKeysAllow mode levels
+      → KeysAllow mode value → BreaksOff (behind_value levels) bytes left → BreaksInValue mode whole left
+  behind_all : (value : TypedValue) (bytes rest : List ℕ) → HasRead whole [] value bytes → KeysAllow mode value → bytes ≡ codes "\n" ++ rest
+      → 0 < length rest → left ≡ length rest → BreaksInValue mode whole left
 
 -- they are a value's up to a list or a map within as many others as may be open
-pub record OpensPastDepth (whole : List ℕ) (left : ℕ) : Type 0 where
+pub record OpensPastDepth (mode : Keys) (whole : List ℕ) (left : ℕ) : Type 0 where
   pub levels : List OpenLevel
   pub bytes : List ℕ
   pub opened : IsOpen whole levels bytes
+  pub allowed : OpenKeysAllow mode levels
   pub full : length levels ≡ most_nested
   pub inside : List ℕ
   pub begins : (bytes ≡ codes "!!seq [" ++ inside) ⊎ (bytes ≡ codes "!!map {" ++ inside)
@@ -55,19 +59,27 @@ abbrev pub IsBehindMarker : (bytes : List ℕ) → (Holds : List ℕ → Type 0)
 IsBehindMarker bytes Holds = (whole : List ℕ) × (bytes ≡ codes "---\n" ++ whole) × Holds whole
 
 -- the word so far before the end is impossible there
-abbrev pub CannotStand : (bytes : List ℕ) → (left : ℕ) → Type 0
-CannotStand bytes left =
-    BreaksOff (word_then (codes "---\n") nothing) bytes left ⊎ IsBehindMarker bytes (λ whole. BreaksInValue whole left)
+abbrev pub CannotStand : Keys → (bytes : List ℕ) → (left : ℕ) → Type 0
+CannotStand mode bytes left =
+    BreaksOff (word_then (codes "---\n") nothing) bytes left ⊎ IsBehindMarker bytes (λ whole. BreaksInValue mode whole left)
 
--- An error has the line and the column at which the bytes stop to be UTF-8, or else of the first word that is impossible there, or of
--- the first list or map that lies too deep
+-- the line and the column at which the bytes stop to be UTF-8, or else of the first word that is impossible there
+abbrev pub IsWordPlace : Keys → (bytes : List ℕ) → (line column : ℕ) → Type 0
+IsWordPlace mode bytes line column =
+    (at : ℕ) × (line ≡ line_of bytes at) × (column ≡ column_of bytes at)
+    × (((IsUtf8 bytes → ⊥) × IsValidUpTo bytes at) ⊎ ((left : ℕ) × IsUtf8 bytes × (at ≡ length bytes - left) × CannotStand mode bytes left))
+
+-- those of the first list or map that lies too deep
+abbrev pub IsDepthPlace : Keys → (bytes : List ℕ) → (line column : ℕ) → Type 0
+IsDepthPlace mode bytes line column =
+    (at : ℕ) × (line ≡ line_of bytes at) × (column ≡ column_of bytes at)
+    × ((left : ℕ) × IsUtf8 bytes × (at ≡ length bytes - left) × IsBehindMarker bytes (λ whole. OpensPastDepth mode whole left))
+
+-- An error has such a place; keys may repeat
 abbrev pub IsPlaced : (bytes : List ℕ) → ReadError → Type 0
-IsPlaced bytes (told.NotCanonical line column) =
-    (at : ℕ) × (line ≡ line_of bytes at) × (column ≡ column_of bytes at)
-    × (((IsUtf8 bytes → ⊥) × IsValidUpTo bytes at) ⊎ ((left : ℕ) × IsUtf8 bytes × (at ≡ length bytes - left) × CannotStand bytes left))
-IsPlaced bytes (told.TooDeep line column) =
-    (at : ℕ) × (line ≡ line_of bytes at) × (column ≡ column_of bytes at)
-    × ((left : ℕ) × IsUtf8 bytes × (at ≡ length bytes - left) × IsBehindMarker bytes (λ whole. OpensPastDepth whole left))
+IsPlaced bytes (told.NotCanonical line column) = IsWordPlace keys.MayRepeat bytes line column
+IsPlaced bytes (told.TooDeep line column) = IsDepthPlace keys.MayRepeat bytes line column
+IsPlaced bytes (told.DuplicateKey line column) = ⊥
 IsPlaced bytes told.NotNumbered = ⊥
 IsPlaced bytes told.Memory = Unit {0}
 
@@ -136,15 +148,15 @@ BreaksAt These bytes (stop.TooDeep left) = ⊥
 BreaksAt These bytes stop.Memory = Unit {0}
 
 -- why reading stops after a document's first line, and anywhere
-abbrev pub StopsIn : (whole : List ℕ) → Stop → Type 0
-StopsIn whole (stop.Refused left) = BreaksInValue whole left
-StopsIn whole (stop.TooDeep left) = OpensPastDepth whole left
-StopsIn whole stop.Memory = Unit {0}
+abbrev pub StopsIn : Keys → (whole : List ℕ) → Stop → Type 0
+StopsIn mode whole (stop.Refused left) = BreaksInValue mode whole left
+StopsIn mode whole (stop.TooDeep left) = OpensPastDepth mode whole left
+StopsIn mode whole stop.Memory = Unit {0}
 
-abbrev pub StopsAt : (bytes : List ℕ) → Stop → Type 0
-StopsAt bytes (stop.Refused left) = CannotStand bytes left
-StopsAt bytes (stop.TooDeep left) = IsBehindMarker bytes (λ whole. OpensPastDepth whole left)
-StopsAt bytes stop.Memory = Unit {0}
+abbrev pub StopsAt : Keys → (bytes : List ℕ) → Stop → Type 0
+StopsAt mode bytes (stop.Refused left) = CannotStand mode bytes left
+StopsAt mode bytes (stop.TooDeep left) = IsBehindMarker bytes (λ whole. OpensPastDepth mode whole left)
+StopsAt mode bytes stop.Memory = Unit {0}
 
 -- the error of an offset
 abbrev pub IsNotCanonicalAt : (bytes : List ℕ) → (at : ℕ) → ReadError → Type 0

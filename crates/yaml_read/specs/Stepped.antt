@@ -1,13 +1,17 @@
 -- The answers of the readers of a node and of the text after a node.
+pub use Rattle.yaml_read.specs.Settled.{closed_value}
 use Rattle.std.specs.Prelude.{ℕ, suc, ◌*◌, ◌<◌, ◌≤◌, ◌≡◌, None, Result, Ok, Err, IfErr, IfOk, List, [], ◌∷◌, ◌++◌, String, codes, length, true}
 use Rattle.std.specs.Borrow.{Bor}
 use Rattle.std.specs.Str.{all_scalars, encode_utf8_all}
 use Rattle.yaml_base.specs.Characters.{Text}
 use Rattle.yaml_base.specs.Seen.{seen_text}
-use Rattle.yaml_base.specs.values.TypedValues.{TypedValue, list_value, map_value, most_nested, no_value_pairs, no_values}
+use Rattle.yaml_base.specs.values.TypedValues.{TypedValue, most_nested, no_value_pairs, no_values}
 use Rattle.yaml_base.specs.values.ValueText.{document_text, in_quotes, line_at, value_text}
 use Rattle.yaml_value.specs.OpenLevels.{OpenLevel, items_open, pairs_open, value_due}
 use Rattle.yaml_value.specs.{SeenValues.seen_value, declared.value.Value.Value}
+use Rattle.yaml_value.specs.declared.keys.Keys.{Keys}
+use Rattle.yaml_value.specs.declared.keys.Keys.TheVariants as keys
+use Rattle.yaml_read.specs.AllowedKeys.{KeysAllow, OpenKeysAllow}
 use Rattle.yaml_read.specs.Awaits.{EntryStands}
 use Rattle.yaml_read.specs.Entries.{EntryFound}
 use Rattle.yaml_read.specs.Grammar.{behind_in, behind_tag, entry_end, line_then, nothing, quoted_text, these_or_those, word_then}
@@ -16,6 +20,7 @@ use Rattle.yaml_read.specs.Opened.{EntryCut, HasRead, IsOpen, NextRead, TurnRead
 use Rattle.yaml_read.specs.Places.{BreaksAt, IsDeepHere, IsHere, LacksLine, StopsAt, StopsIn}
 use Rattle.yaml_read.specs.Remaining.{IsDue, IsRead, Reached, TurnReached}
 use Rattle.yaml_read.specs.Readable.{CanBeRead, CanBeReadAt}
+use Rattle.yaml_read.specs.Settled.{NextMoved, NextTook, TurnTook}
 use Rattle.yaml_read.specs.Sound.{IsScalarValue}
 use Rattle.yaml_read.specs.Words.{Cuts, OrMemory, past_word}
 use Rattle.yaml_read.specs.declared.errors.Stop.{Stop}
@@ -52,15 +57,18 @@ NextShorter text (Node rest) = length rest.now < length text
 pub record NodeStepped {A : Type 0} (before after : List OpenLevel) (text : List ℕ) (result : Result (Next A) Stop) : Type 0 where
   pub reached : (root : TypedValue) → IsDue root before text → Reached root after result
   pub read : (whole : List ℕ) → IsOpen whole before text → IfOk result (NextRead whole after)
-  pub stops : (whole : List ℕ) → IsOpen whole before text → IfErr result (StopsIn whole)
+  pub stops : (mode : Keys) (whole : List ℕ) → IsOpen whole before text → OpenKeysAllow mode before → IfErr result (StopsIn mode whole)
   pub shorter : IfOk result (NextShorter text)
+  pub moved : IfOk result (NextMoved before after)
 
 -- after a value, in the same way
 pub record ValueSettled {A : Type 0} (before after : List OpenLevel) (value : TypedValue) (text : List ℕ) (result : Result (Next A) Stop) : Type 0 where
   pub reached : (root : TypedValue) → IsRead root before value text → Reached root after result
   pub read : (whole : List ℕ) → HasRead whole before value text → IfOk result (NextRead whole after)
-  pub stops : (whole : List ℕ) → HasRead whole before value text → IfErr result (StopsIn whole)
+  pub stops : (mode : Keys) (whole : List ℕ) → HasRead whole before value text → OpenKeysAllow mode before → KeysAllow mode value
+      → IfErr result (StopsIn mode whole)
   pub shorter : IfOk result (NextShorter text)
+  pub took : IfOk result (NextTook before value after)
 
 -- ---- tags and scalars
 
@@ -140,6 +148,7 @@ pub record ValueTaken {A : Type 0} (depth : ℕ) (level : OpenLevel) (value : Ty
       → IfOk result (TurnRead whole levels)
   pub breaks : IfErr result (BreaksAt (behind_in depth level) text)
   pub shorter : IfOk result (TurnShorter text)
+  pub took : IfOk result (TurnTook level value)
 
 -- after the value that such a list or a map took last: another node in it, or its end; a value follows a key
 abbrev pub BehindRead : (depth : ℕ) → OpenLevel → (text : List ℕ) → Result Entry Stop → Type 0
@@ -149,15 +158,9 @@ BehindRead depth (value_due pairs key) text (Ok (Another rest)) = LeadCut depth 
 BehindRead depth (value_due pairs key) text (Ok (End rest)) = ⊥
 BehindRead depth (value_due pairs key) text (Err error) = LeadCut depth (codes "  : ") text (Err error)
 
--- a list or a map as a value; a key that awaits its value isn't in it
-abbrev pub closed_value : OpenLevel → TypedValue
-closed_value (items_open items) = list_value items
-closed_value (pairs_open pairs) = map_value pairs
-closed_value (value_due pairs key) = map_value pairs
-
 -- ---- documents
 
 pub record TextRead {A : Type 0} (text : List ℕ) (result : Result (Value A) Stop) : Type 0 where
   pub reads : (value : TypedValue) → CanBeRead value → text ≡ encode_utf8_all (document_text value) → OrMemory (λ found. seen_value found ≡ value) result
   pub sound : IfOk result (λ value. (text ≡ encode_utf8_all (document_text (seen_value value))) × CanBeReadAt 0 (seen_value value))
-  pub stops : IfErr result (StopsAt text)
+  pub stops : IfErr result (StopsAt keys.MayRepeat text)

@@ -19,6 +19,10 @@ pub enum ReadError {
     /// Lists and maps nest more than 1,000 deep. The first that lies too deep begins here.
     #[error("line {line}, column {column}: lists and maps nest too deep")]
     TooDeep { line: usize, column: usize },
+    /// A map has a key twice, and keys must differ. The second of the two begins here, if `: ` follows it; no map has a key twice up to
+    /// here. Only `read_canonical_with` tells it.
+    #[error("line {line}, column {column}: a key that its map has already")]
+    DuplicateKey { line: usize, column: usize },
     /// They are laid out as those of a document, but no dump gives its nodes these anchors and aliases. It has no place.
     #[error("anchors and aliases are not those that a dump numbers")]
     NotNumbered,
@@ -35,6 +39,15 @@ pub(crate) enum Stop {
     /// The list or the map that begins so many bytes before the end lies too deep.
     TooDeep(usize),
     Memory,
+}
+
+/// The reason why the reader stops if keys must differ.
+#[derive(Clone, Copy, Drop)]
+pub(crate) enum KeyStop {
+    /// It would stop even if they may repeat.
+    Other(Stop),
+    /// The key that begins so many bytes before the end is one that its map has already.
+    Repeats(usize),
 }
 
 impl From<AllocError> for Stop {

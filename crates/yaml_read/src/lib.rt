@@ -5,6 +5,7 @@ mod cuts;
 mod documents;
 mod errors;
 mod heads;
+mod keys;
 mod laws;
 mod leads;
 mod levels;
@@ -15,6 +16,7 @@ mod reading;
 mod runs;
 mod steps;
 mod tags;
+mod unique;
 
 pub use documents::read_document;
 pub use errors::ReadError;
@@ -23,4 +25,5 @@ pub use laws::{
     words_are_those_of_texts, written_values_are_read,
 };
 pub use reading::read_canonical;
-pub use yaml_value::Value;
+pub use unique::{has_unique_keys, read_canonical_with};
+pub use yaml_value::{Keys, Value};

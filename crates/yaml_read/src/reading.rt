@@ -32,7 +32,7 @@ const MAP_WORDS: Words = Words {
 };
 
 /// Reads the next node, from its tag on.
-fn step<'a, A: Allocator + Copy>(
+pub(crate) fn step<'a, A: Allocator + Copy>(
     alloc: A,
     levels: &mut Vec<Level<A>, A>,
     text: &'a str,

@@ -2,6 +2,7 @@
 mod callers;
 mod documents;
 mod json;
+mod keys;
 mod places;
 mod random;
 mod refused;

@@ -21,6 +21,12 @@ returns-in-Err-TooDeep c =
     let reading = subst (λ (e : ReadError). IsReading c.args.bytes.now (Some e)) is (refused.ensures.complete, refused.ensures.placed) in
     (Some error, reading, (refl, c.at_place-in-Err-TooDeep.ensures))
 
+pub returns-in-Err-DuplicateKey : goal.returns-in-Err-DuplicateKey
+returns-in-Err-DuplicateKey c =
+    let refused = c.in-Err-DuplicateKey in
+    let is : refused.field-0 ≡ errors.DuplicateKey refused.line refused.column = search rules in
+    absurd (subst (IsPlaced c.args.bytes.now) is refused.ensures.placed)
+
 pub returns-in-Err-NotNumbered : goal.returns-in-Err-NotNumbered
 returns-in-Err-NotNumbered c =
     let refused = c.in-Err-NotNumbered in

@@ -1,13 +1,18 @@
-use Rattle.std.proofs.Common.{◌≡◌, ◌<◌, List, subst, sym, ◌∙◌, rules, arith, Ok, length}
+use Rattle.std.proofs.Common.{◌≡◌, ◌<◌, List, [], ◌∷◌, subst, sym, ◌∙◌, rules, arith, Ok, length}
 use Rattle.yaml_value.specs.{OpenLevels.OpenLevel, OpenLevels.seen_level, OpenLevels.seen_levels, SeenValues.seen_value}
 use Rattle.yaml_value.proofs.SeenLevels.{no_levels}
 use Rattle.yaml_read.specs.Remaining.{IsDue, IsRead, TurnReached}
 use Rattle.yaml_read.specs.Opened.{HasRead, IsOpen, TurnRead}
 use Rattle.yaml_read.proofs.BreakingNodes.{end_lacks, value_stops}
 use Rattle.yaml_read.proofs.Opening.{end_there, root_ends, value_out}
-use Rattle.yaml_read.specs.{declared.levels.Turn.Turn, Stepped.TurnShorter}
+use Rattle.yaml_read.specs.{declared.levels.Turn.Turn, Settled.Ended, Settled.none_ended, Settled.TurnTook, Stepped.TurnShorter}
+use Rattle.yaml_read.proofs.SettledLevels.{ended_on, off, took_on}
+use Rattle.yaml_read.proofs.UniqueSoFar.{ended_allows}
 use Rattle.yaml_read.proofs.{SeenLevels.levels_length, SeenLevels.pushed_on, Turns.popped, Turns.turn_error, Opening.taken}
 use Rattle.yaml_read.proofs.levels.settle.Goals as goal
+
+pub loop-level-init : goal.loop-level-init
+loop-level-init g c = (search rules, omega arith, record { read = λ root read. read }, record { read = λ whole read. read }, none_ended)
 
 pub returns-in-Err : goal.returns-in-Err
 returns-in-Err g c =
@@ -20,14 +25,19 @@ returns-in-Err g c =
           c.loop-level.levels.items c.pop.new.self.items c.in-Some.level root c.loop-level.invariant.2 c.in-Some.ensures.items read in
           turn_error g.row.A.Denot root inner inner c.in-Err.stop (c.in-Err.ensures.reached root inner depth taken);
       read = λ whole read. tt;
-      stops = λ whole read.
+      stops = λ mode whole read open_allow allow.
           let inner = seen_levels c.pop.new.self.items in
           let depth : c.len.result ≡ length inner = c.len.ensures ∙ c.pop.new.self.ok.0 ∙ sym (levels_length c.pop.new.self.items) in
           let before = taken (seen_levels c.args.levels.now.items) (seen_value c.args.value) (seen_value c.loop-level.value) c.args.text.now
           c.loop-level.text.now c.loop-level.levels.items c.pop.new.self.items c.in-Some.level whole c.loop-level.invariant.3 c.in-Some.ensures.items read in
-          value_stops whole inner (seen_level c.in-Some.level) (seen_value c.loop-level.value) c.loop-level.text.now c.len.result c.in-Err.stop depth
-          before c.in-Err.ensures.breaks;
+          let allowed = ended_allows mode (seen_levels c.args.levels.now.items) (seen_value c.args.value) (seen_level c.in-Some.level ∷ inner)
+          (seen_value c.loop-level.value)
+          (off (seen_levels c.args.levels.now.items) (seen_value c.args.value) (seen_value c.loop-level.value) c.loop-level.levels.items
+          c.pop.new.self.items c.in-Some.level c.loop-level.invariant.4 c.in-Some.ensures.items) open_allow allow in
+          value_stops mode whole inner (seen_level c.in-Some.level) (seen_value c.loop-level.value) c.loop-level.text.now c.len.result c.in-Err.stop depth
+          before allowed.0 allowed.1 c.in-Err.ensures.breaks;
       shorter = tt;
+      took = tt;
     }
 
 pub returns-in-Ok-push : goal.returns-in-Ok-push
@@ -52,10 +62,16 @@ returns-in-Ok-push g c =
           let opened = subst (λ (t : Turn g.row.A.Denot). TurnRead whole inner t) c.in-Continues.is turn in
           subst (λ (levels : List OpenLevel). IsOpen whole levels c.in-Continues.next.now)
           (sym (pushed_on c.in-Continues.level c.pop.new.self.items c.push.new.list.items c.in-Ok-push.ensures).0) opened;
-      stops = λ whole read. tt;
+      stops = λ mode whole read open_allow allow. tt;
       shorter = let less : length c.in-Continues.next.now < length c.loop-level.text.now =
           subst (λ (t : Turn g.row.A.Denot). TurnShorter c.loop-level.text.now t) c.in-Continues.is c.in-Ok.ensures.shorter in
           omega (arith, less, c.loop-level.invariant.1);
+      took =
+          took_on (seen_levels c.args.levels.now.items) (seen_levels c.push.new.list.items) (seen_value c.args.value) (seen_value c.loop-level.value)
+          c.loop-level.levels.items c.pop.new.self.items c.in-Some.level c.in-Continues.level c.loop-level.invariant.4 c.in-Some.ensures.items
+          (subst (λ (t : Turn g.row.A.Denot). TurnTook (seen_level c.in-Some.level) (seen_value c.loop-level.value) t) c.in-Continues.is
+          c.in-Ok.ensures.took)
+          (pushed_on c.in-Continues.level c.pop.new.self.items c.push.new.list.items c.in-Ok-push.ensures).0;
     }
 
 pub returns-in-Ok-end_text : goal.returns-in-Ok-end_text
@@ -69,8 +85,11 @@ returns-in-Ok-end_text g c =
       read = λ whole read.
           let out = subst (λ (levels : List OpenLevel). HasRead whole levels value text) none (c.loop-level.invariant.3.read whole read) in
           (value_out whole value text out c.in-Ok-end_text.ensures, out.readable);
-      stops = λ whole read. tt;
+      stops = λ mode whole read open_allow allow. tt;
       shorter = tt;
+      took =
+          subst (λ (levels : List OpenLevel). Ended (seen_levels c.args.levels.now.items) (seen_value c.args.value) levels value) none
+          c.loop-level.invariant.4;
     }
 
 pub returns-in-Err-end_text : goal.returns-in-Err-end_text
@@ -84,11 +103,15 @@ returns-in-Err-end_text g c =
           (subst (λ (levels : List OpenLevel). IsRead root levels value text) none (c.loop-level.invariant.2.read root read)) in
           absurd (end_there text c.in-Err-end_text.stop c.in-Err-end_text.ensures ends.1);
       read = λ whole read. tt;
-      stops = λ whole read.
-          end_lacks whole value text c.in-Err-end_text.stop
+      stops = λ mode whole read open_allow allow.
+          let allowed = ended_allows mode (seen_levels c.args.levels.now.items) (seen_value c.args.value) [] value
+          (subst (λ (levels : List OpenLevel). Ended (seen_levels c.args.levels.now.items) (seen_value c.args.value) levels value) none
+          c.loop-level.invariant.4) open_allow allow in
+          end_lacks mode whole value text c.in-Err-end_text.stop
           (subst (λ (levels : List OpenLevel). HasRead whole levels value text) none (c.loop-level.invariant.3.read whole read))
-          c.in-Err-end_text.ensures;
+          allowed.0 allowed.1 c.in-Err-end_text.ensures;
       shorter = tt;
+      took = tt;
     }
 
 pub loop-level-preserved : goal.loop-level-preserved
@@ -114,4 +137,7 @@ loop-level-preserved g c =
             let turn : TurnRead whole inner c.in-Ok.turn = c.in-Ok.ensures.read whole inner depth before in
             subst (λ (t : Turn g.row.A.Denot). TurnRead whole inner t) c.in-Ends.is turn;
       },
+      ended_on (seen_levels c.args.levels.now.items) (seen_value c.args.value) (seen_value c.loop-level.value) (seen_value c.in-Ends.whole)
+          c.loop-level.levels.items c.pop.new.self.items c.in-Some.level c.loop-level.invariant.4 c.in-Some.ensures.items
+          (subst (λ (t : Turn g.row.A.Denot). TurnTook (seen_level c.in-Some.level) (seen_value c.loop-level.value) t) c.in-Ends.is c.in-Ok.ensures.took),
     )

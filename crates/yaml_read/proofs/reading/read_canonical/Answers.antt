@@ -1,7 +1,7 @@
 use Rattle.std.proofs.Common.{◌≡◌, subst, sym, ◌∙◌, inr, ◌<◌, rules}
 use Rattle.std.{specs.Str.IsUtf8, specs.Str.IsValidUpTo, specs.Prelude.length}
 use Rattle.yaml_base.{proofs.Decoding.text_bytes-utf8, specs.values.TypedValues.TypedValue, specs.values.ValueText.document_text, specs.Settings.largest_usize}
-use Rattle.yaml_value.{specs.SeenValues.seen_value, specs.declared.value.Value.Value}
+use Rattle.yaml_value.{specs.SeenValues.seen_value, specs.declared.keys.Keys.TheVariants.MayRepeat, specs.declared.value.Value.Value}
 use Rattle.yaml_read.proofs.Placing.{not_text_placed, stops_placed}
 use Rattle.yaml_read.{proofs.Completeness.stopped, proofs.Scalars.document_utf8, proofs.WrittenValues.written_value, specs.Places.StopsAt}
 use Rattle.yaml_read.proofs.reading.read_canonical.Goals as goal
@@ -30,4 +30,4 @@ returns-in-Err-clause-placed g c =
 pub returns-in-Err-read_text-clause-placed : goal.returns-in-Err-read_text-clause-placed
 returns-in-Err-read_text-clause-placed g c =
     stops_placed c.args.bytes.now c.in-Err-read_text.stop c.error_of.result c.in-Ok.ensures.cases.1 c.error_of.ensures.place c.error_of.ensures.tells
-    (subst (λ bytes. StopsAt bytes c.in-Err-read_text.stop) c.in-Ok.ensures.cases.0 c.in-Err-read_text.ensures.stops)
+    (subst (λ bytes. StopsAt MayRepeat bytes c.in-Err-read_text.stop) c.in-Ok.ensures.cases.0 c.in-Err-read_text.ensures.stops)

@@ -2,7 +2,7 @@ use Rattle.std.proofs.Common.{List, subst, sym, rules, Ok, codes}
 use Rattle.yaml_value.{specs.SeenValues.seen_value}
 use Rattle.yaml_read.proofs.Opening.{TextOpen, text_open, text_read}
 use Rattle.yaml_read.{specs.Remaining.Reached, proofs.Turns.root_due, proofs.Turns.text_due, proofs.Placing.text_stops}
-use Rattle.yaml_value.specs.{OpenLevels.seen_levels, declared.levels.Level.Level}
+use Rattle.yaml_value.specs.{OpenLevels.seen_levels, declared.keys.Keys.TheVariants.MayRepeat, declared.levels.Level.Level}
 use Rattle.yaml_read.{proofs.Placing.marker_stops, specs.declared.levels.Next.Next, specs.Stepped.NextShorter}
 use Rattle.yaml_read.{proofs.Turns.TextDue, proofs.Words.no_word, specs.Opened.NextRead}
 use Rattle.yaml_read.proofs.reading.read_text.Goals as goal
@@ -24,7 +24,7 @@ returns-in-Err g c =
           let root = root_due value c.args.text.now readable is in
           absurd (no_word (codes "---\n") c.args.text.now root.0 c.in-Err.ensures.cut root.1);
       sound = tt;
-      stops = marker_stops c.args.text.now c.in-Err.stop c.in-Err.ensures.cut c.in-Err.ensures.placed;
+      stops = marker_stops MayRepeat c.args.text.now c.in-Err.stop c.in-Err.ensures.cut c.in-Err.ensures.placed;
     }
 
 pub returns-in-Err-step : goal.returns-in-Err-step
@@ -36,7 +36,8 @@ returns-in-Err-step g c =
       sound = tt;
       stops =
           let opened = c.nodes.invariant.2 in
-          text_stops c.args.text.now opened.whole c.in-Err-step.stop opened.text_is (c.in-Err-step.ensures.stops opened.whole opened.opened);
+          text_stops MayRepeat c.args.text.now opened.whole c.in-Err-step.stop opened.text_is
+          (c.in-Err-step.ensures.stops MayRepeat opened.whole opened.opened tt);
     }
 
 pub returns-in-Done : goal.returns-in-Done

@@ -16,6 +16,10 @@ const PRINTED: &[(ReadError, &str)] = &[
         "line 1002, column 2001: lists and maps nest too deep",
     ),
     (
+        ReadError::DuplicateKey { line: 5, column: 5 },
+        "line 5, column 5: a key that its map has already",
+    ),
+    (
         ReadError::NotNumbered,
         "anchors and aliases are not those that a dump numbers",
     ),

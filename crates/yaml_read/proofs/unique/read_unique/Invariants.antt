@@ -1,0 +1,12 @@
+use Rattle.std.proofs.Common.{length}
+use denote.{Text.Utf8, Shadow.shadow}
+use Rattle.yaml_value.specs.OpenLevels.{seen_levels}
+use Rattle.yaml_read.{proofs.Turns.TextDue, proofs.UniqueTexts.TextUnique}
+use Rattle.yaml_read.proofs.unique.read_unique.Given as goal
+
+abbrev pub invariant-nodes : goal.invariant-nodes
+invariant-nodes g l = shadow (Utf8 l.rest) × TextDue l.fn.text (seen_levels l.levels.items) l.rest
+    × TextUnique l.fn.text (seen_levels l.levels.items) l.rest l.keys.items
+
+abbrev pub decreases-nodes : goal.decreases-nodes
+decreases-nodes g l = length l.rest
