@@ -1,6 +1,6 @@
 -- The answers by whether keys must differ, and what they tell of a value that was written.
-use Rattle.yaml_base.proofs.Common.{ℕ, ◌<◌, List, refl, ◌≡◌, subst, sym, inl, inr, encode, utf8, Some, Bool, true, false, true≢false}
-use Rattle.std.specs.Prelude.{Result, Ok, Err, IfErr, IfOk, ◌⊎◌, ◌≢◌, Vec}
+use Rattle.yaml_base.proofs.Common.{ℕ, ◌<◌, List, refl, ◌≡◌, subst, sym, inl, inr, encode, utf8, Some, true, false, true≢false}
+use Rattle.std.specs.Prelude.{Result, Ok, Err, IfErr, IfOk, ◌⊎◌, ◌≢◌}
 use Rattle.std.specs.Bool.{Decides}
 use Rattle.std.proofs.lemmas.Result.{IfErr-weaker, IfOk-weaker}
 use Rattle.yaml_base.specs.values.TypedValues.{TypedValue, WritesValue, most_nested, nesting}

@@ -1,22 +1,21 @@
 -- The keys that are held of the maps that are open, at the next node.
-use Rattle.yaml_base.proofs.Common.{ℕ, ◌+◌, ◌<◌, ◌≤◌, suc, Bool, true, false, cond, List, [], ◌∷◌, ◌++◌, refl, ◌≡◌, ap, subst, sym, ◌∙◌, arith, length}
+use Rattle.yaml_base.proofs.Common.{ℕ, ◌+◌, ◌≤◌, suc, Bool, true, false, cond, List, [], ◌∷◌, ◌++◌, refl, ◌≡◌, ap, subst, sym, ◌∙◌, arith, length}
 use Rattle.yaml_base.proofs.Common.{append_assoc, append-nil, length-append, take, ◌||◌, bytes_eq}
-use Rattle.yaml_base.specs.values.TypedValues.{TypedValue, TypedPairs, null_value, no_value_pairs, value_pairs_and}
+use Rattle.yaml_base.specs.values.TypedValues.{TypedValue}
 use Rattle.yaml_base.specs.values.ValueText.{line_at, value_text}
-use Rattle.std.specs.Prelude.{Result, Ok, Err, String}
+use Rattle.std.specs.Prelude.{Ok, Err, String}
 use Rattle.std.specs.BTreeSet.{BTreeSet, contains_text}
 use Rattle.std.proofs.Math.Seq.{take-append_seam}
 use Rattle.std.proofs.lemmas.Str.{encodes-append}
 use Rattle.yaml_base.proofs.Common.{codes, encode_utf8_all}
 use Rattle.yaml_value.specs.OpenLevels.{OpenLevel, items_open, pairs_open, seen_level, seen_levels, value_due, with_value}
-use Rattle.yaml_read.specs.HeldKeys.{EndsBefore, FollowsKeys, HasKeys, HeldAtNode, HeldKeys, HoldKeys, HoldsKeys, InnermostIsNew, IsLastLevel, KeyAdded, KeyEndsBefore}
-use Rattle.yaml_read.specs.HeldKeys.{KeyRepeats, KeysFollowed, TakenOff, is_key, key_bytes}
+use Rattle.yaml_read.specs.HeldKeys.{FollowsKeys, HasKeys, HeldAtNode, HeldKeys, HoldKeys, HoldsKeys, InnermostIsNew, IsLastLevel, KeyEndsBefore}
+use Rattle.yaml_read.specs.HeldKeys.{KeysFollowed, TakenOff, key_bytes}
 use Rattle.yaml_read.specs.Opened.{IsOpen}
 use Rattle.yaml_read.specs.Remaining.{column_in}
-use Rattle.yaml_read.specs.Settled.{BeginsLevel, Ended, Moved, Took, begins_list, begins_map, value_given, none_ended, one_ended, level_opened}
+use Rattle.yaml_read.specs.Settled.{BeginsLevel, Ended, Moved, begins_list, begins_map, value_given, none_ended, one_ended, level_opened}
 use Rattle.yaml_read.specs.declared.errors.KeyStop.{KeyStop}
 use Rattle.yaml_read.specs.declared.errors.KeyStop.TheVariants as stop
-use Rattle.yaml_read.specs.declared.errors.Stop.TheVariants.{Memory}
 use Rattle.yaml_read.specs.declared.keys.OpenKeys.{OpenKeys}
 use Rattle.yaml_read.proofs.KeyTexts.{key_between}
 use Rattle.yaml_read.proofs.SeenLevels.{levels_length}

@@ -1,9 +1,9 @@
 -- The texts of keys tell the keys.
-use Rattle.yaml_base.proofs.Common.{ℕ, ◌+◌, ◌*◌, ◌<◌, ◌≤◌, suc, zero, Bool, true, false, List, [], ◌∷◌, ◌++◌, refl, ◌≡◌, ap, subst, sym, ◌∙◌, arith}
-use Rattle.yaml_base.proofs.Common.{append_assoc, codes, encode_utf8_all, Text, length, ◌||◌, line_feed, or_parts, or_cases, bytes_eq, bytes_eq-Decides, inl, inr}
+use Rattle.yaml_base.proofs.Common.{ℕ, ◌+◌, ◌*◌, ◌<◌, ◌≤◌, suc, zero, true, false, List, [], ◌∷◌, ◌++◌, ◌≡◌, ap, subst, sym, ◌∙◌, arith}
+use Rattle.yaml_base.proofs.Common.{append_assoc, codes, encode_utf8_all, Text, length, line_feed, or_parts, or_cases, bytes_eq, bytes_eq-Decides, inl, inr}
 use Rattle.yaml_base.specs.values.TypedValues.{TypedValue, TypedPairs, list_value, most_nested, no_values, values_and, no_value_pairs, value_pairs_and}
 use Rattle.yaml_base.specs.values.UniqueKeys.{IsNewKey}
-use Rattle.yaml_base.specs.values.ValueText.{document_text, entry_lead, has_no_value_pairs, line_at, pairs_text, value_text}
+use Rattle.yaml_base.specs.values.ValueText.{entry_lead, has_no_value_pairs, line_at, pairs_text, value_text}
 use Rattle.std.proofs.lemmas.Str.{encodes-append}
 use Rattle.std.proofs.lemmas.List.{append_cancel_left, append_cancel_right}
 use Rattle.std.proofs.lemmas.Bool.{both_ways}

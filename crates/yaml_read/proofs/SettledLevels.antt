@@ -1,5 +1,5 @@
 -- The levels that a value ends, as a program takes them off its list.
-use Rattle.yaml_base.proofs.Common.{List, [], ◌∷◌, ◌++◌, ◌≡◌, ◌∙◌, ap, refl, subst}
+use Rattle.yaml_base.proofs.Common.{List, [], ◌∷◌, ◌++◌, ◌≡◌, ◌∙◌, ap, subst}
 use Rattle.yaml_base.specs.values.TypedValues.{TypedValue}
 use Rattle.yaml_value.specs.OpenLevels.{OpenLevel, seen_level, seen_levels, with_value}
 use Rattle.yaml_value.specs.declared.levels.Level.{Level}

@@ -1,5 +1,5 @@
 -- Unique keys, from what is open before a node to what is open after it, and in a value whose text is being read.
-use Rattle.yaml_base.proofs.Common.{ℕ, ◌<◌, List, [], ◌∷◌, refl, ◌≡◌, ◌∙◌, subst, sym, arith, Text}
+use Rattle.yaml_base.proofs.Common.{ℕ, List, ◌∷◌, ◌≡◌, ◌∙◌, subst, sym, arith, Text}
 use Rattle.yaml_base.specs.values.TypedValues.{TypedValue, null_value, bool_value, int_value, text_value, list_value, map_value, most_nested, TypedPairs}
 use Rattle.yaml_base.specs.values.UniqueKeys.{HasUniqueKeys, IsNewKey}
 use Rattle.yaml_value.specs.OpenLevels.{OpenLevel, items_open, pairs_open, value_due, with_value}
@@ -8,7 +8,7 @@ use Rattle.yaml_read.specs.Remaining.{Completes, item_follows, list_ends, map_en
 use Rattle.yaml_value.specs.declared.keys.Keys.{Keys}
 use Rattle.yaml_value.specs.declared.keys.Keys.TheVariants as keys
 use Rattle.yaml_read.specs.AllowedKeys.{KeysAllow, OpenHasUniqueKeys, OpenKeysAllow}
-use Rattle.yaml_read.specs.Settled.{BeginsLevel, Ended, Moved, Took, begins_list, begins_map, closed_value, value_given, none_ended, one_ended, level_opened}
+use Rattle.yaml_read.specs.Settled.{BeginsLevel, Ended, Moved, begins_list, begins_map, closed_value, value_given, none_ended, one_ended, level_opened}
 
 -- a value that can be read in any depth is a scalar
 pub scalar_unique : (value : TypedValue) → ((depth : ℕ) → CanBeReadAt depth value) → HasUniqueKeys value

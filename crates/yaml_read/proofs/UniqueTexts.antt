@@ -1,21 +1,20 @@
 -- A document's text in which keys must differ, from node to node.
 use Rattle.yaml_base.proofs.Common.{ℕ, ◌+◌, ◌-◌, List, [], ◌∷◌, ◌++◌, refl, ◌≡◌, ◌∙◌, ap, subst, sym, inl, inr, length, codes, encode_utf8_all, encode, utf8, Some}
-use Rattle.std.specs.Prelude.{Result, Ok, Err, IfErr, IfOk, ◌⊎◌, ◌≢◌}
+use Rattle.std.specs.Prelude.{Ok, Err, ◌⊎◌, ◌≢◌}
 use Rattle.std.specs.Borrow.{Bor}
 use Rattle.std.specs.Str.{IsUtf8}
 use Rattle.yaml_base.proofs.Decoding.{text_bytes-utf8}
 use Rattle.yaml_base.specs.values.TypedValues.{TypedValue}
 use Rattle.yaml_base.specs.values.UniqueKeys.{HasUniqueKeys, IsNewKey}
-use Rattle.yaml_base.specs.values.ValueText.{document_text, value_text}
+use Rattle.yaml_base.specs.values.ValueText.{document_text}
 use Rattle.yaml_value.specs.OpenLevels.{OpenLevel, items_open, pairs_open, seen_levels, value_due}
 use Rattle.yaml_value.specs.declared.levels.Level.{Level}
-use Rattle.yaml_value.specs.{SeenValues.seen_value, declared.value.Value.Value}
 use Rattle.yaml_value.specs.declared.keys.Keys.TheVariants as keys
 use Rattle.yaml_read.specs.Errors.{HasKeyPlaceOf, TellsKey}
 use Rattle.yaml_read.specs.HeldKeys.{FollowsKeys, HoldKeys, InnermostIsNew, KeyRepeats, KeyStopsAt, KeysFollowed, UniqueRead}
 use Rattle.yaml_read.specs.Opened.{IsOpen}
 use Rattle.yaml_read.specs.Places.{StopsAt}
-use Rattle.yaml_read.specs.Readable.{CanBeRead, CanBeReadAt}
+use Rattle.yaml_read.specs.Readable.{CanBeRead}
 use Rattle.yaml_read.specs.Remaining.{IsDue, Reached, column_in}
 use Rattle.yaml_read.specs.{AllowedKeys.OpenHasUniqueKeys, RepeatedKeys.IsPlacedBy, RepeatedKeys.RepeatsKey}
 use Rattle.yaml_read.specs.Settled.{Ended}

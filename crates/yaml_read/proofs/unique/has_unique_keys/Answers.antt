@@ -1,4 +1,4 @@
-use Rattle.std.proofs.Common.{subst, sym, ◌∙◌, ◌<◌, List, ℕ}
+use Rattle.std.proofs.Common.{subst, ◌<◌, List, ℕ}
 use Rattle.yaml_base.specs.values.TypedValues.{most_nested, nesting}
 use Rattle.yaml_value.specs.SeenValues.{seen_value}
 use Rattle.yaml_value.specs.declared.keys.Keys.TheVariants.{Unique}

@@ -1,7 +1,7 @@
-use Rattle.std.proofs.Common.{List, subst, sym, rules, Ok, codes}
+use Rattle.std.proofs.Common.{List, subst, sym, rules, codes}
 use Rattle.yaml_value.{specs.SeenValues.seen_value, specs.OpenLevels.seen_levels, specs.declared.levels.Level.Level}
 use Rattle.yaml_value.specs.declared.keys.Keys.TheVariants.{Unique}
-use Rattle.yaml_read.{specs.Settled.NextMoved, specs.Opened.NextRead, specs.Stepped.NextShorter, specs.Stepped.NodeStepped}
+use Rattle.yaml_read.{specs.Settled.NextMoved, specs.Opened.NextRead, specs.Stepped.NextShorter}
 use Rattle.yaml_read.{specs.Remaining.IsDue, specs.declared.levels.Next.Next, proofs.Opening.text_read, proofs.Words.no_word}
 use Rattle.yaml_read.proofs.{Placing.marker_stops, Placing.text_stops, Turns.TextDue, Turns.root_due, Turns.text_due}
 use Rattle.yaml_read.proofs.UniqueTexts.{TextUnique, follow_stops, follows, only_memory, stepped_at, unique_begins, unique_on, whole_unique}

@@ -1,4 +1,4 @@
-use Rattle.std.proofs.Common.{◌≡◌, subst, sym, ◌∙◌, inr, ◌<◌, rules}
+use Rattle.std.proofs.Common.{subst, sym, ◌∙◌, inr, ◌<◌, rules}
 use Rattle.std.{specs.Str.IsUtf8, specs.Str.IsValidUpTo, specs.Prelude.length}
 use Rattle.yaml_base.{proofs.Decoding.text_bytes-utf8, specs.values.ValueText.document_text, specs.Settings.largest_usize}
 use Rattle.yaml_value.{specs.SeenValues.seen_value, specs.declared.keys.Keys.TheVariants.Unique}
