@@ -8,16 +8,20 @@ use yaml_read::{Keys, ReadError, Value, has_unique_keys, read_canonical_with};
 use yaml_test_allocator::Refusing;
 
 /// A map with a map in it, both with the key `a`, and with keys that are maps and lists.
-const DIFFERENT: &str = "---\n!!map {\n  ? !!str \"a\"\n  : !!map {\n    ? !!str \"a\"\n    : !!int \"1\",\n    ? !!map {\n      ? !!str \"a\"\n      : !!int \"1\",\n    }\n    : !!int \"1\",\n    ? !!seq [\n      !!str \"a\",\n      !!str \"a\",\n    ]\n    : !!int \"1\",\n  },\n  ? !!int \"1\"\n  : !!str \"a\",\n}\n";
+const DIFFERENT: &str =
+    "---\n!!map {\n  ? !!str \"a\"\n  : !!map {\n    ? !!str \"a\"\n    : !!int \"1\",\n    ? !!map {\n      ? !!str \"a\"\n      : !!int \"1\",\n    }\n    : !!int \"1\",\n    ? !!seq [\n      !!str \"a\",\n      !!str \"a\",\n    ]\n    : !!int \"1\",\n  },\n  ? !!int \"1\"\n  : !!str \"a\",\n}\n";
 
 /// Two equal keys.
-const EQUAL: &str = "---\n!!map {\n  ? !!str \"a\"\n  : !!int \"1\",\n  ? !!str \"a\"\n  : !!int \"2\",\n}\n";
+const EQUAL: &str =
+    "---\n!!map {\n  ? !!str \"a\"\n  : !!int \"1\",\n  ? !!str \"a\"\n  : !!int \"2\",\n}\n";
 
 /// Two equal keys, which are lists, after a map that has ended; all in a key.
-const INSIDE: &str = "---\n!!map {\n  ? !!map {\n    ? !!seq [\n      !!null \"null\",\n    ]\n    : !!map {\n      ? !!null \"null\"\n      : !!bool \"true\",\n    },\n    ? !!seq [\n      !!null \"null\",\n    ]\n    : !!bool \"true\",\n  }\n  : !!bool \"true\",\n}\n";
+const INSIDE: &str =
+    "---\n!!map {\n  ? !!map {\n    ? !!seq [\n      !!null \"null\",\n    ]\n    : !!map {\n      ? !!null \"null\"\n      : !!bool \"true\",\n    },\n    ? !!seq [\n      !!null \"null\",\n    ]\n    : !!bool \"true\",\n  }\n  : !!bool \"true\",\n}\n";
 
 /// Two equal keys, and then a word that is impossible.
-const SPOILED: &str = "---\n!!map {\n  ? !!str \"a\"\n  : !!int \"1\",\n  ? !!str \"a\"\n  : !!nul\n";
+const SPOILED: &str =
+    "---\n!!map {\n  ? !!str \"a\"\n  : !!int \"1\",\n  ? !!str \"a\"\n  : !!nul\n";
 
 /// Texts, and the error if keys must differ.
 const READ: &[(&str, Option<ReadError>)] = &[
@@ -37,11 +41,7 @@ const READ: &[(&str, Option<ReadError>)] = &[
 ];
 
 /// Returns the value of canonical bytes. (Tests need none of the clauses of the call.)
-fn read_by<A: Allocator + Copy>(
-    alloc: A,
-    text: &str,
-    keys: Keys,
-) -> Result<Value<A>, ReadError> {
+fn read_by<A: Allocator + Copy>(alloc: A, text: &str, keys: Keys) -> Result<Value<A>, ReadError> {
     read_canonical_with(alloc, text.as_bytes(), keys)
 }
 
@@ -55,7 +55,11 @@ fn check_unique(rt: &impl Abort, alloc: Global, text: &str, wanted: bool) {
 #[test]
 fn keys_differ_if_they_must(rt: HostRuntime) {
     for (text, wanted) in READ {
-        equal(&rt, &read_by(rt.alloc(), text, Keys::default()).err(), wanted);
+        equal(
+            &rt,
+            &read_by(rt.alloc(), text, Keys::default()).err(),
+            wanted,
+        );
     }
     let wanted = Some(ReadError::NotCanonical { line: 6, column: 5 });
     let found = read_by(rt.alloc(), SPOILED, Keys::MayRepeat).err();
