@@ -24,7 +24,7 @@ returns-in-Err-TooDeep c =
 pub returns-in-Err-DuplicateKey : goal.returns-in-Err-DuplicateKey
 returns-in-Err-DuplicateKey c =
     let refused = c.in-Err-DuplicateKey in
-    let is : refused.field-0 ≡ errors.DuplicateKey refused.line refused.column = search rules in
+    let is : refused.field-0 ≡ errors.DuplicateKey refused.field-0-0 refused.field-0-1 = search rules in
     absurd (subst (IsPlaced c.args.bytes.now) is refused.ensures.placed)
 
 pub returns-in-Err-NotNumbered : goal.returns-in-Err-NotNumbered
