@@ -57,7 +57,7 @@ pub use Rattle.yaml_base.specs.reading.CanonicalTokens.{Token, version_line, tag
 pub use Rattle.yaml_base.specs.reading.CanonicalTokens.{scalar_token, opens_sequence, closes_sequence, opens_mapping, closes_mapping, key_token, value_token}
 pub use Rattle.yaml_base.specs.reading.CanonicalTokens.{comma, free, moves_to, step_between_tokens, tokens_from}
 pub use Rattle.yaml_emitter.specs.{Atoms.name_breaks, Atoms.some_handle_breaks, BorrowedTexts.seen_name, BorrowedTexts.seen_scalar, Given.seen_effective}
-pub use Rattle.yaml_emitter.specs.{BorrowedTexts.seen_collection, Inside.state_of, Inside.IsEmitter, MachineInside.machine_state, MachineInside.IsMachine}
+pub use Rattle.yaml_emitter.specs.{BorrowedTexts.seen_collection, Inside.state_of, Inside.IsEngine, MachineInside.machine_state, MachineInside.IsMachine}
 pub use Rattle.yaml_emitter.specs.{NodeEvents.start_of_kind, NodeEvents.end_of_kind, NodeEvents.brackets_of, Queue.is_head_ready, ScalarTexts.style_fits}
 pub use Rattle.yaml_emitter.specs.{ScalarTexts.render_scalar_text, Stages.seen_stage, StaysFlushed.StaysFlushed, StaysFlushed.whole_documents, Uncut.IsUncut}
 pub use Rattle.yaml_emitter.specs.{StaysFlushed.KeepsDocuments, SimpleAsciiScalars.StandsPlain, WrittenPieces.piece_at, WrittenPieces.seen_open_ended}

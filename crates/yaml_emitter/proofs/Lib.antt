@@ -8,3 +8,6 @@ pub mod AcceptedLists
 pub mod Digits
 pub mod EndedStreams
 pub mod rows
+pub mod Histories
+pub mod EventLives
+pub mod Keeping

@@ -69,7 +69,7 @@ pub record EmitsEvent (before : State) (event : Event) (answer : Result (Unit {0
   pub promised : (given : Settings) (all : List Event) → StandsAfter given all before → Promised given (all ++ event ∷ []) after
   pub waits : (given : Settings) (all : List Event) → StandsAfter given all before → before.error ≡ None
       → written (all ++ event ∷ []) ≡ written all → IsOk answer
-  pub kept : IsSome before.error → after ≡ record before { started = true }
+  pub kept : IsSome before.error → after ≡ record before { events = before.events ++ event ∷ []; started = true }
 
 -- no memory for the copy of a scalar that has to wait, since not all events before it are ready with it: nothing changed, and there is no error
 pub record CopyFailed (before after : State) : Type 0 where

@@ -24,4 +24,6 @@ pub mod Promises
 pub mod KeptDocuments
 pub mod Moves
 pub mod EmitsEvent
+pub mod Emits
+pub mod EmitterInside
 pub mod NodeEvents

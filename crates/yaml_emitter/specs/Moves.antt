@@ -20,7 +20,7 @@ started_by started (event ∷ rest) = true
 pub record Moves (before : State) (events : List Event) (answer : Result (Unit {0}) yaml_error_t) (after : State) : Type 0 where
   pub stands : (given : Settings) (all : List Event) → StandsAfter given all before → StandsAfter given (all ++ events) after
   pub grows : Grows before.page after.page
-  pub set : KeepsSet (record before { started = started_by before.started events }) after
+  pub set : KeepsSet (record before { events = before.events ++ events; started = started_by before.started events }) after
   pub answered : answer ≡ result_of_error after.error
 
 -- the consequences of a move: the promises about the events, which errors there can be, that the output stays, that a move by no

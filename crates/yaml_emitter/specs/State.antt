@@ -7,10 +7,11 @@ use Rattle.yaml_base.specs.Steps.{Stage, at_stream}
 use Rattle.yaml_base.specs.declared.errors.yaml_error_t.{yaml_error_t}
 use Rattle.yaml_pen.specs.Page.{Page, new_page, all_taken, IsUntouched, IsReady}
 
--- the settings as given, and in effect from the stream's start on; whether an event was given, an output set, the stream opened and
--- closed; the waiting events; the next stage; the open-ended state; the text so far, its cursor, the flushed bytes and how many of
--- them were taken; the first error
+-- the events that were given; the settings as given, and in effect from the stream's start on; whether an event was given, an output
+-- set, the stream opened and closed; the waiting events; the next stage; the open-ended state; the text so far, its cursor, the flushed
+-- bytes and how many of them were taken; the first error
 pub record State : Type 0 where
+  pub events : List Event
   pub given : Settings
   pub settings : Effective
   pub started : Bool
@@ -61,6 +62,7 @@ new_machine =
 abbrev pub new_state : State
 new_state =
     record {
+      events = [];
       given = nothing_given;
       settings = effective nothing_given None;
       started = false;
@@ -111,9 +113,10 @@ pub record KeepsGiven (before after : MachineState) : Type 0 where
   pub given : after.given ≡ before.given
   pub taken : after.page.taken ≡ before.page.taken
 
--- all that the caller set stays: the settings, the output, the number of its bytes that were taken, and whether the stream was begun,
--- opened and closed
+-- all that the caller gave and set stays: the events, the settings, the output, the number of its bytes that were taken, and whether
+-- the stream was begun, opened and closed
 pub record KeepsSet (before after : State) : Type 0 where
+  pub events : after.events ≡ before.events
   pub given : after.given ≡ before.given
   pub started : after.started ≡ before.started
   pub has_output : after.has_output ≡ before.has_output

@@ -9,8 +9,8 @@ ghost use Rattle.yaml_emitter.specs.BorrowedTexts.{CopiesText, seen_name, seen_s
 ghost use Rattle.yaml_emitter.specs.EmitsEvent.{EmitsScalar, result_of_answer};
 ghost use Rattle.yaml_emitter.specs.Queue.{are_ready_by_one_more};
 
-use crate::emit::yaml_emitter_emit;
 use crate::emitter::yaml_emitter_t;
+use crate::engine::Engine;
 use crate::machine::Machine;
 use crate::queue::are_ready_by_one_more;
 use crate::spares::SpareTexts;
@@ -50,6 +50,7 @@ impl ScalarAnswer {
 ///
 /// Returns `NotTaken` if the copy can't be allocated: then nothing changed, the emitter has no error, and the call may be
 /// made again. Otherwise returns `Taken` with the first error, of this call or an earlier one, if there is one.
+#[inline(always)]
 pub fn yaml_emitter_emit_scalar<A: Allocator + Copy>(
     emitter: &mut yaml_emitter_t<A>,
     content: &ScalarContent<'_>,
@@ -58,37 +59,47 @@ pub fn yaml_emitter_emit_scalar<A: Allocator + Copy>(
     ensures emits { EmitsScalar emitter.old (scalar (seen_scalar content.now)) result emitter.new }
     ensures output { emitter.new.has_output ≡ true }
 {
-    texts_are_scalars(content);
-    if let Some(error) = emitter.machine.error() {
-        emitter.started = true;
-        return ScalarAnswer::Taken(Err(error));
-    }
-    if are_ready_by_one_more(emitter.queue.as_slice()) {
-        emitter.started = true;
-        if let Err(error) = emitter.write_before_scalar() {
-            return ScalarAnswer::Taken(Err(error));
-        }
-        let answer = emitter.machine.scalar(content);
-        return ScalarAnswer::Taken(emitter.machine.keep_error(answer));
-    }
-    wait_behind(emitter, content)
+    emitter.engine.emit_scalar(content)
 }
 
-/// Queues a copy of a scalar that doesn't make every queued event ready.
-fn wait_behind<A: Allocator + Copy>(
-    emitter: &mut yaml_emitter_t<A>,
-    content: &ScalarContent<'_>,
-) -> ScalarAnswer
-    requires waits { are_ready_by_one_more emitter.old.held ≡ false }
-    requires no_error { emitter.old.error ≡ None }
-    requires output { emitter.old.has_output ≡ true }
-    ensures emits { EmitsScalar emitter.old (scalar (seen_scalar content.now)) result emitter.new }
-    ensures output { emitter.new.has_output ≡ true }
-{
-    let alloc = emitter.machine.allocator();
-    match copied_scalar(&mut emitter.spares, alloc, content) {
-        Ok(event) => ScalarAnswer::Taken(yaml_emitter_emit(emitter, event)),
-        Err(_) => ScalarAnswer::NotTaken,
+impl<A: Allocator + Copy> Engine<A> {
+    /// Takes a scalar, as `yaml_emitter_emit_scalar` does.
+    pub(crate) fn emit_scalar(&mut self, content: &ScalarContent<'_>) -> ScalarAnswer
+        requires { self.old.has_output ≡ true }
+        ensures emits { EmitsScalar self.old (scalar (seen_scalar content.now)) result self.new }
+        ensures output { self.new.has_output ≡ true }
+    {
+        texts_are_scalars(content);
+        if let Some(error) = self.machine.error() {
+            self.started = true;
+            self.history = self.history.with(content);
+            return ScalarAnswer::Taken(Err(error));
+        }
+        if are_ready_by_one_more(self.queue.as_slice()) {
+            self.started = true;
+            self.history = self.history.with(content);
+            if let Err(error) = self.write_before_scalar() {
+                return ScalarAnswer::Taken(Err(error));
+            }
+            let answer = self.machine.scalar(content);
+            return ScalarAnswer::Taken(self.machine.keep_error(answer));
+        }
+        self.wait_behind(content)
+    }
+
+    /// Queues a copy of a scalar that doesn't make every queued event ready.
+    fn wait_behind(&mut self, content: &ScalarContent<'_>) -> ScalarAnswer
+        requires waits { are_ready_by_one_more self.old.held ≡ false }
+        requires no_error { self.old.error ≡ None }
+        requires output { self.old.has_output ≡ true }
+        ensures emits { EmitsScalar self.old (scalar (seen_scalar content.now)) result self.new }
+        ensures output { self.new.has_output ≡ true }
+    {
+        let alloc = self.machine.allocator();
+        match copied_scalar(&mut self.spares, alloc, content) {
+            Ok(event) => ScalarAnswer::Taken(self.emit(event)),
+            Err(_) => ScalarAnswer::NotTaken,
+        }
     }
 }
 

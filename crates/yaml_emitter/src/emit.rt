@@ -11,116 +11,65 @@ ghost use Rattle.yaml_emitter.specs.Moves.{Moves};
 ghost use Rattle.yaml_emitter.specs.Promises.{HasAllBytes, Promised};
 ghost use Rattle.yaml_emitter.specs.Queue.{StandsLast, is_head_ready, seen_next};
 ghost use Rattle.yaml_emitter.specs.State.{KeepsGiven, KeepsSet, with_all_taken};
-ghost use Rattle.yaml_emitter.specs.EmitsEvent.{Settles, WroteWaiting, kept_error};
+ghost use Rattle.yaml_emitter.specs.EmitsEvent.{EmitsEvent, Settles, WroteWaiting, kept_error};
 ghost use Rattle.yaml_emitter.specs.StandsAfter.{FailedReady, StandsAfter};
 
-use crate::emitter::yaml_emitter_t;
+use crate::engine::Engine;
 use crate::machine::Machine;
 use crate::queue::{closes_at_once, first_and_rest, followers, is_ready};
 use std::alloc::Allocator;
 use yaml_base::{yaml_error_t, yaml_event_t};
 
-/// Takes an event, and writes all that can be written now. An output must be set. The start of a document or of a
-/// collection is queued until the next one to three events decide its form.
-///
-/// The event is taken in each case. After an error nothing waits, and nothing more is written.
-///
-/// # Errors
-///
-/// The first error, of this call or an earlier one. If a well-formed stream begins with the events and fits the limit, the
-/// only error is `Memory`.
-#[inline(never)]
-pub fn yaml_emitter_emit<A: Allocator + Copy>(
-    emitter: &mut yaml_emitter_t<A>,
-    event: yaml_event_t<A>,
-) -> Result<(), yaml_error_t>
-    requires { emitter.old.has_output ≡ true }
-    ensures moves { Moves emitter.old (seen_event event ∷ []) result emitter.new }
-    ensures promised { (given : Settings) (all : List Event) → StandsAfter given all emitter.old → Promised given (all ++ seen_event event ∷ []) emitter.new }
-    ensures waits { (given : Settings) (all : List Event) → StandsAfter given all emitter.old → emitter.old.error ≡ None
-        → written (all ++ seen_event event ∷ []) ≡ written all → IsOk result }
-    ensures kept { IsSome emitter.old.error → emitter.new ≡ record emitter.old { started = true } }
-{
-    emitter.started = true;
-    // (A refused event is dropped by name: that is one call, while the end of a scope makes one for each of its texts.)
-    if let Some(error) = emitter.machine.error() {
-        drop(event);
-        return Err(error);
+impl<A: Allocator + Copy> Engine<A> {
+    /// Takes an event, as `yaml_emitter_emit` does.
+    #[inline(never)]
+    pub(crate) fn emit(&mut self, event: yaml_event_t<A>) -> Result<(), yaml_error_t>
+        requires { self.old.has_output ≡ true }
+        ensures { EmitsEvent self.old (seen_event event) result self.new }
+    {
+        self.started = true;
+        self.history = self.history.with(&event);
+        // (A refused event is dropped by name: that is one call, while the end of a scope makes one for each of its texts.)
+        if let Some(error) = self.machine.error() {
+            drop(event);
+            return Err(error);
+        }
+        if let Err(error) = self.write_waiting(Some(&event)) {
+            drop(event);
+            return Err(error);
+        }
+        // No event waits, and this one can be written whatever follows it.
+        if self.queue.as_slice().is_empty() && followers(&event) == 0 {
+            let empty = false;
+            let answer = self.machine.process(&event, empty);
+            return self.machine.keep_error(answer);
+        }
+        self.queue.push_reserved(event);
+        Ok(())
     }
-    if let Err(error) = emitter.write_waiting(Some(&event)) {
-        drop(event);
-        return Err(error);
-    }
-    // No event waits, and this one can be written whatever follows it.
-    if emitter.queue.as_slice().is_empty() && followers(&event) == 0 {
-        let empty = false;
-        let answer = emitter.machine.process(&event, empty);
-        return emitter.machine.keep_error(answer);
-    }
-    emitter.queue.push_reserved(event);
-    Ok(())
-}
 
-/// Flushes all that is written. An output must be set. Events that wait go on waiting. If all is flushed already, nothing
-/// changes and no memory is needed.
-///
-/// # Errors
-///
-/// The first error, of this call or an earlier one: `WriteError` if the text's bytes pass the output's limit, `Memory` if the
-/// output can't grow; the output then stays as it was. After an error nothing waits. If a well-formed stream begins with the
-/// events and fits the limit, the only error is `Memory`.
-pub fn yaml_emitter_flush<A: Allocator + Copy>(
-    emitter: &mut yaml_emitter_t<A>,
-) -> Result<(), yaml_error_t>
-    requires output { emitter.old.has_output ≡ true }
-    ensures moves { Moves emitter.old [] result emitter.new }
-    ensures flushed { OnOk result ((given : Settings) (all : List Event) → StandsAfter given all emitter.old → HasAllBytes given all emitter.new) }
-    ensures unflushed { result ≡ Err yaml_error_t.Memory → emitter.new.page.output ≡ emitter.old.page.output }
-    ensures empty { (given : Settings) (all : List Event) → StandsAfter given all emitter.old → emitter.old.error ≡ None → HasAllBytes given all emitter.old
-        → emitter.new ≡ emitter.old }
-    ensures kept { IsSome emitter.old.error → emitter.new ≡ emitter.old }
-{
-    if let Some(error) = emitter.machine.error() {
-        return Err(error);
-    }
-    match emitter.machine.flush() {
-        Ok(()) => Ok(()),
-        Err(error) => {
-            emitter.queue.clear();
-            Err(error)
+    /// Flushes all that is written, as `yaml_emitter_flush` does.
+    pub(crate) fn flush(&mut self) -> Result<(), yaml_error_t>
+        requires output { self.old.has_output ≡ true }
+        ensures moves { Moves self.old [] result self.new }
+        ensures flushed { OnOk result ((given : Settings) (all : List Event) → StandsAfter given all self.old → HasAllBytes given all self.new) }
+        ensures unflushed { result ≡ Err yaml_error_t.Memory → self.new.page.output ≡ self.old.page.output }
+        ensures empty { (given : Settings) (all : List Event) → StandsAfter given all self.old → self.old.error ≡ None → HasAllBytes given all self.old
+            → self.new ≡ self.old }
+        ensures kept { IsSome self.old.error → self.new ≡ self.old }
+    {
+        if let Some(error) = self.machine.error() {
+            return Err(error);
+        }
+        match self.machine.flush() {
+            Ok(()) => Ok(()),
+            Err(error) => {
+                self.queue.clear();
+                Err(error)
+            }
         }
     }
-}
 
-/// Returns the flushed bytes not yet taken, so that a stream of any length can be sent on while it is written. The results
-/// of these calls, in order, and then that of `output` are together the whole output. The output's limit counts the taken
-/// bytes, too.
-///
-/// It may be called at any time, also after an error, and allocates nothing.
-pub fn yaml_emitter_take_output<A: Allocator + Copy>(emitter: &mut yaml_emitter_t<A>) -> Vec<u8, A>
-    ensures rest { result.items ≡ output_left emitter.old.page }
-    ensures untaken { emitter.old.page.taken ≡ 0 → result.items ≡ emitter.old.page.output }
-    ensures taken { emitter.new ≡ with_all_taken emitter.old }
-    ensures stands { (given : Settings) (all : List Event) → StandsAfter given all emitter.old → StandsAfter given all emitter.new }
-    ensures promised { (given : Settings) (all : List Event) → StandsAfter given all emitter.old → Promised given all emitter.new }
-{
-    emitter.machine.take_output()
-}
-
-/// Counts the flushed bytes as taken, for a caller that has handed on the result of `output`, which is empty afterwards.
-/// The output's limit counts the taken bytes, too. Their memory is used for the bytes that follow, so a caller that hands on
-/// the output after each document, and calls this, doesn't allocate each time.
-///
-/// It may be called at any time, also after an error, and allocates nothing.
-pub fn yaml_emitter_consume_output<A: Allocator + Copy>(emitter: &mut yaml_emitter_t<A>)
-    ensures taken { emitter.new ≡ with_all_taken emitter.old }
-    ensures stands { (given : Settings) (all : List Event) → StandsAfter given all emitter.old → StandsAfter given all emitter.new }
-    ensures promised { (given : Settings) (all : List Event) → StandsAfter given all emitter.old → Promised given all emitter.new }
-{
-    emitter.machine.consume_output();
-}
-
-impl<A: Allocator + Copy> yaml_emitter_t<A> {
     /// Writes the queued events that are ready if this event follows them; `None` means a scalar.
     pub(crate) fn write_waiting(
         &mut self,

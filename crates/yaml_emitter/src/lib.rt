@@ -2,12 +2,15 @@
 #![tactic(auto)]
 
 mod borrowed;
+mod calls;
 mod check;
 mod directives;
 mod effective;
 mod emit;
 mod emitter;
+mod engine;
 mod frames;
+mod history;
 mod laws;
 mod machine;
 mod nodes;
@@ -23,10 +26,10 @@ mod writing;
 pub use borrowed::ScalarAnswer;
 pub use borrowed::copied_text;
 pub use borrowed::yaml_emitter_emit_scalar;
-pub use emit::yaml_emitter_consume_output;
-pub use emit::yaml_emitter_emit;
-pub use emit::yaml_emitter_flush;
-pub use emit::yaml_emitter_take_output;
+pub use calls::yaml_emitter_consume_output;
+pub use calls::yaml_emitter_emit;
+pub use calls::yaml_emitter_flush;
+pub use calls::yaml_emitter_take_output;
 pub use emitter::yaml_emitter_initialize;
 pub use emitter::yaml_emitter_t;
 pub use laws::bodies_are_tidy;

@@ -8,7 +8,7 @@ ghost use Rattle.yaml_base.specs.Seen.{seen_event, seen_events};
 ghost use Rattle.yaml_emitter.specs.Processing as processing;
 ghost use Rattle.yaml_emitter.specs.Queue.{StandsLast, are_ready_by_one_more, is_head_ready, open_behind, seen_next};
 
-use crate::emitter::WaitingEvents;
+use crate::engine::WaitingEvents;
 use std::alloc::Allocator;
 use yaml_base::yaml_event_t;
 use yaml_base::yaml_event_t::{

@@ -12,9 +12,8 @@ ghost use Rattle.yaml_emitter.specs.State.{knows_encoding};
 
 use crate::emitter::yaml_emitter_t;
 use crate::settings::Quotes;
-use crate::stage::Stage;
 use std::alloc::Allocator;
-use yaml_base::{YAML_ANY_ENCODING, yaml_break_t, yaml_encoding_t, yaml_error_t};
+use yaml_base::{yaml_break_t, yaml_encoding_t, yaml_error_t};
 
 /// Drops the emitter and its output.
 pub fn yaml_emitter_delete<A: Allocator>(emitter: yaml_emitter_t<A>) {
@@ -32,8 +31,8 @@ pub fn yaml_emitter_set_output_string<A: Allocator>(emitter: &mut yaml_emitter_t
         } }
     ensures stands { StandsAfter emitter.old.given [] emitter.old → StandsAfter emitter.new.given [] emitter.new }
 {
-    emitter.machine.set_limit(size);
-    emitter.has_output = true;
+    emitter.engine.machine.set_limit(size);
+    emitter.engine.has_output = true;
 }
 
 /// Sets the encoding; ANY means that of the stream's start, or else UTF-8. No event may have been given, and no encoding set.
@@ -46,7 +45,7 @@ pub fn yaml_emitter_set_encoding<A: Allocator>(
     ensures set { emitter.new ≡ record emitter.old { given = record emitter.old.given { encoding = seen_encoding encoding } } }
     ensures stands { StandsAfter emitter.old.given [] emitter.old → StandsAfter emitter.new.given [] emitter.new }
 {
-    emitter.machine.given.encoding = encoding;
+    emitter.engine.machine.given.encoding = encoding;
 }
 
 /// Sets whether the output is canonical: in flow, double-quoted, every tag written. No event may have been given.
@@ -59,8 +58,8 @@ pub fn yaml_emitter_set_canonical<A: Allocator>(emitter: &mut yaml_emitter_t<A>,
         } }
     ensures stands { StandsAfter emitter.old.given [] emitter.old → StandsAfter emitter.new.given [] emitter.new }
 {
-    emitter.machine.given.canonical = canonical;
-    emitter.machine.settings.canonical = canonical;
+    emitter.engine.machine.given.canonical = canonical;
+    emitter.engine.machine.settings.canonical = canonical;
 }
 
 /// Sets the indent in columns; 2 to 9 is kept, any other becomes 2. No event may have been given.
@@ -69,7 +68,7 @@ pub fn yaml_emitter_set_indent<A: Allocator>(emitter: &mut yaml_emitter_t<A>, in
     ensures set { emitter.new ≡ record emitter.old { given = record emitter.old.given { indent = Some indent } } }
     ensures stands { StandsAfter emitter.old.given [] emitter.old → StandsAfter emitter.new.given [] emitter.new }
 {
-    emitter.machine.given.indent = Some(indent);
+    emitter.engine.machine.given.indent = Some(indent);
 }
 
 /// Sets the column, in characters, past which lines are folded; a negative one means no limit. No event may have been given.
@@ -78,7 +77,7 @@ pub fn yaml_emitter_set_width<A: Allocator>(emitter: &mut yaml_emitter_t<A>, wid
     ensures set { emitter.new ≡ record emitter.old { given = record emitter.old.given { width = Some width } } }
     ensures stands { StandsAfter emitter.old.given [] emitter.old → StandsAfter emitter.new.given [] emitter.new }
 {
-    emitter.machine.given.width = Some(width);
+    emitter.engine.machine.given.width = Some(width);
 }
 
 /// Sets whether printable characters beyond ASCII are written unescaped. No event may have been given.
@@ -87,7 +86,7 @@ pub fn yaml_emitter_set_unicode<A: Allocator>(emitter: &mut yaml_emitter_t<A>, u
     ensures set { emitter.new ≡ record emitter.old { given = record emitter.old.given { unicode = unicode } } }
     ensures stands { StandsAfter emitter.old.given [] emitter.old → StandsAfter emitter.new.given [] emitter.new }
 {
-    emitter.machine.given.unicode = unicode;
+    emitter.engine.machine.given.unicode = unicode;
 }
 
 /// Sets the quotes of a scalar that isn't plain and that both kinds can hold. No event may have been given.
@@ -96,7 +95,7 @@ pub fn yaml_emitter_set_quotes<A: Allocator>(emitter: &mut yaml_emitter_t<A>, qu
     ensures set { emitter.new ≡ record emitter.old { given = record emitter.old.given { double_quotes = is_double quotes } } }
     ensures stands { StandsAfter emitter.old.given [] emitter.old → StandsAfter emitter.new.given [] emitter.new }
 {
-    emitter.machine.given.quotes = quotes;
+    emitter.engine.machine.given.quotes = quotes;
 }
 
 /// Sets the line break; ANY means LF. No event may have been given.
@@ -108,7 +107,7 @@ pub fn yaml_emitter_set_break<A: Allocator>(
     ensures set { emitter.new ≡ record emitter.old { given = record emitter.old.given { line_break = seen_break line_break } } }
     ensures stands { StandsAfter emitter.old.given [] emitter.old → StandsAfter emitter.new.given [] emitter.new }
 {
-    emitter.machine.given.line_break = line_break;
+    emitter.engine.machine.given.line_break = line_break;
 }
 
 /// Sets whether the breaks U+2028 and U+2029, which are ordinary characters in YAML 1.2, are escaped, so that readers of both
@@ -121,7 +120,7 @@ pub fn yaml_emitter_set_line_breaks_1_2<A: Allocator>(
     ensures set { emitter.new ≡ record emitter.old { given = record emitter.old.given { breaks12 = breaks12 } } }
     ensures stands { StandsAfter emitter.old.given [] emitter.old → StandsAfter emitter.new.given [] emitter.new }
 {
-    emitter.machine.given.line_breaks_1_2 = breaks12;
+    emitter.engine.machine.given.line_breaks_1_2 = breaks12;
 }
 
 /// Sets whether text that readers of YAML read differently, or not at all, is written in a form that they read alike: every
@@ -132,7 +131,7 @@ pub fn yaml_emitter_set_portable<A: Allocator>(emitter: &mut yaml_emitter_t<A>, 
     ensures set { emitter.new ≡ record emitter.old { given = record emitter.old.given { portable = portable } } }
     ensures stands { StandsAfter emitter.old.given [] emitter.old → StandsAfter emitter.new.given [] emitter.new }
 {
-    emitter.machine.given.portable = portable;
+    emitter.engine.machine.given.portable = portable;
 }
 
 /// Sets whether a block sequence that is the key or the value of a pair is indented, as any other block collection is. No
@@ -145,7 +144,7 @@ pub fn yaml_emitter_set_indented_sequences<A: Allocator>(
     ensures set { emitter.new ≡ record emitter.old { given = record emitter.old.given { indented_sequences = indented } } }
     ensures stands { StandsAfter emitter.old.given [] emitter.old → StandsAfter emitter.new.given [] emitter.new }
 {
-    emitter.machine.given.indented_sequences = indented;
+    emitter.engine.machine.given.indented_sequences = indented;
 }
 
 /// Sets whether blanks are literal: a scalar for which literal is asked is then literal even if it holds tabs, or spaces before
@@ -155,7 +154,7 @@ pub fn yaml_emitter_set_literal_blanks<A: Allocator>(emitter: &mut yaml_emitter_
     ensures set { emitter.new ≡ record emitter.old { given = record emitter.old.given { literal_blanks = literal } } }
     ensures stands { StandsAfter emitter.old.given [] emitter.old → StandsAfter emitter.new.given [] emitter.new }
 {
-    emitter.machine.given.literal_blanks = literal;
+    emitter.engine.machine.given.literal_blanks = literal;
 }
 
 impl<A: Allocator> yaml_emitter_t<A> {
@@ -163,31 +162,28 @@ impl<A: Allocator> yaml_emitter_t<A> {
     pub fn is_started(&self) -> bool
         ensures { result ≡ self.now.started }
     {
-        self.started
+        self.engine.started
     }
 
     /// Returns whether an output was set.
     pub fn has_output(&self) -> bool
         ensures { result ≡ self.now.has_output }
     {
-        self.has_output
+        self.engine.has_output
     }
 
     /// Returns whether canonical form was set.
     pub fn is_canonical(&self) -> bool
         ensures { result ≡ self.now.given.canonical }
     {
-        self.machine.given.canonical
+        self.engine.machine.given.canonical
     }
 
     /// Returns whether the encoding was set, or the stream has begun.
     pub fn encoding_known(&self) -> bool
         ensures { result ≡ knows_encoding self.now }
     {
-        match self.machine.stage {
-            Stage::Stream => self.machine.given.encoding != YAML_ANY_ENCODING,
-            _ => true,
-        }
+        self.engine.knows_encoding()
     }
 
     /// Returns whether the stream was opened as a whole, for documents to be dumped into it; an output is then set.
@@ -195,14 +191,14 @@ impl<A: Allocator> yaml_emitter_t<A> {
         ensures value { result ≡ self.now.opened }
         ensures output { self.now.opened ≡ true → self.now.has_output ≡ true }
     {
-        self.opened
+        self.engine.opened
     }
 
     /// Returns whether the stream was closed as a whole.
     pub fn is_closed(&self) -> bool
         ensures { result ≡ self.now.closed }
     {
-        self.closed
+        self.engine.closed
     }
 
     /// Notes that the stream was opened as a whole. An output must be set.
@@ -212,7 +208,7 @@ impl<A: Allocator> yaml_emitter_t<A> {
         ensures stands { (given : Settings) (all : List Event) → StandsAfter given all self.old → StandsAfter given all self.new }
         ensures promised { (given : Settings) (all : List Event) → StandsAfter given all self.old → Promised given all self.new }
     {
-        self.opened = true;
+        self.engine.opened = true;
     }
 
     /// Notes that the stream was closed as a whole.
@@ -221,7 +217,7 @@ impl<A: Allocator> yaml_emitter_t<A> {
         ensures stands { (given : Settings) (all : List Event) → StandsAfter given all self.old → StandsAfter given all self.new }
         ensures promised { (given : Settings) (all : List Event) → StandsAfter given all self.old → Promised given all self.new }
     {
-        self.closed = true;
+        self.engine.closed = true;
     }
 
     /// Returns the flushed bytes not yet taken; none if no output is set.
@@ -230,20 +226,20 @@ impl<A: Allocator> yaml_emitter_t<A> {
         ensures untaken { self.now.page.taken ≡ 0 → result.now ≡ self.now.page.output }
         ensures unset { self.now.has_output ≡ false → result.now ≡ [] }
     {
-        self.machine.output()
+        self.engine.machine.output()
     }
 
     /// Returns the first error, if there was one.
     pub fn error(&self) -> Option<yaml_error_t>
         ensures { result ≡ self.now.error }
     {
-        self.machine.error()
+        self.engine.machine.error()
     }
 
     /// Returns the number of events that wait.
     pub fn held(&self) -> usize
         ensures { result ≡ length self.now.held }
     {
-        self.queue.len()
+        self.engine.queue.len()
     }
 }

@@ -4,7 +4,7 @@ ghost use Rattle.std.specs.Prelude.{◌≡◌, ◌≤◌, [], chars, drop, vec_c
 ghost use Rattle.yaml_base.specs.Seen.{seen_events};
 ghost use Rattle.yaml_emitter.specs.BorrowedTexts.{CopiesText};
 
-use crate::emitter::WaitingEvents;
+use crate::engine::WaitingEvents;
 use crate::queue::drop_first;
 use std::alloc::Allocator;
 use std::mem;

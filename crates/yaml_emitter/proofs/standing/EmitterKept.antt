@@ -1,19 +1,19 @@
 -- The invariants of an emitter.
 use Rattle.yaml_emitter.proofs.Common.{ℕ, ◌<◌, ◌≤◌, vec_len, vec_capacity, length, false, true, List, [], map, ◌++◌, ◌∷◌, refl, ◌≡◌, ap, sym, ◌∙◌, arith, Event}
-use Rattle.yaml_emitter.proofs.Common.{length-map, map-append, Scalar, scalar, seen_event, seen_events, Settings, state_of, IsEmitter, is_head_ready, State}
+use Rattle.yaml_emitter.proofs.Common.{length-map, map-append, Scalar, scalar, seen_event, seen_events, Settings, state_of, IsEngine, is_head_ready, State}
 use Rattle.yaml_emitter.proofs.Common.{MachineState, Option, None, Some, Bool, false≢true, is_ready, ◌==◌, ◌&&◌, ◌||◌, nat_lt, list_any, is_balanced, and_parts}
 use Rattle.yaml_emitter.proofs.Common.{eqb-true, nonempty_prefixes, awaited, document_start, sequence_start, mapping_start}
 use Rattle.yaml_base.proofs.ReadyLaws.{ready_stays}
 use Rattle.yaml_base.specs.Event.{any_style}
 use Rattle.yaml_emitter.proofs.standing.StandingPromises.{held_few, most_few}
-use Rattle.yaml_emitter.specs.{EmitsEvent.StillWait, Queue.StandsLast, declared.emitter.yaml_emitter_t.TheInside.Inside}
+use Rattle.yaml_emitter.specs.{EmitsEvent.StillWait, Queue.StandsLast, declared.engine.Engine.TheInside.Inside}
 
 -- If the first waiting event isn't ready, at most three wait.
 pub waiting_few : {E : Type 0} (seen : E → Event) (xs : List E) → is_head_ready (map seen xs) ≡ false → length xs ≤ 3
 waiting_few seen xs waits = omega (arith, held_few (map seen xs) waits, most_few (map seen xs), length-map xs seen)
 
 -- There is room for one more.
-pub room_left : {A : Type 0} (e : Inside A) → IsEmitter e → vec_len e.queue < vec_capacity e.queue
+pub room_left : {A : Type 0} (e : Inside A) → IsEngine e → vec_len e.queue < vec_capacity e.queue
 room_left e kept =
     let few = waiting_few seen_event e.queue.items kept.waits in
     let room = kept.room in
@@ -78,7 +78,7 @@ has_output_inside e is output = ap (λ (s : State). s.has_output) is ∙ output
 
 -- an emitter with an output may write
 pub kept_emitting : {A : Type 0} (e after : Inside A) → e.has_output ≡ true → after.has_output ≡ e.has_output → 4 ≤ vec_capacity after.queue
-    → is_head_ready (seen_events after.queue.items) ≡ false → IsEmitter after
+    → is_head_ready (seen_events after.queue.items) ≡ false → IsEngine after
 kept_emitting e after output same room waits =
     record {
       untouched = λ none. let wrong : true ≡ false = sym (same ∙ output) ∙ none in cc;
@@ -88,7 +88,7 @@ kept_emitting e after output same room waits =
       waits = waits;
     }
 
-pub kept_limited : {A : Type 0} (e : Inside A) (after : MachineState) → IsEmitter e → IsEmitter (record e { has_output = true; machine = after })
+pub kept_limited : {A : Type 0} (e : Inside A) (after : MachineState) → IsEngine e → IsEngine (record e { has_output = true; machine = after })
 kept_limited e after kept =
     record { untouched = λ none. cc; begun = λ begun. refl; opened = λ opened. refl; room = kept.room; waits = kept.waits }
 

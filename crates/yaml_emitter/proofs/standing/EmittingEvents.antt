@@ -45,14 +45,22 @@ wrote_alone event before between after answer result none ready done is returned
     subst (λ (r : Result (Unit {0}) yaml_error_t). WroteAlone before event r after) (sym returned)
     (wrote_keeping event before between after answer none ready done is)
 
+-- An emitter that was given these events.
+abbrev pub started_with : State → List Event → State
+started_with before events = record before { events = events; started = true }
+
+-- An emitter to which an event was given.
+abbrev pub starting : State → Event → State
+starting before event = started_with before (before.events ++ event ∷ [])
+
 -- An emitter was given an event.
 emits_by : (event : Event) (before after : State) (answer : Result (Unit {0}) yaml_error_t) → has_scalar_texts event ≡ true
     → ((given : Settings) (all : List Event) → StateStands given all before → StateStands given (all ++ event ∷ []) after)
     → Grows before.page after.page
     → ((given : Settings) (all : List Event) → StateStands given all before → before.error ≡ None
     → written (all ++ event ∷ []) ≡ written all → IsOk answer)
-    → (IsSome before.error → after ≡ record before { started = true })
-    → KeepsSet (record before { started = true }) after
+    → (IsSome before.error → after ≡ starting before event)
+    → KeepsSet (starting before event) after
     → answer ≡ result_of_error after.error
     → EmitsEvent before event answer after
 emits_by event before after answer text stands grows waits kept set answered =
@@ -68,23 +76,19 @@ emits_by event before after answer text stands grows waits kept set answered =
 
 -- After an error it changes nothing.
 pub emits_failed : (event : Event) (before : State) (error : yaml_error_t) → has_scalar_texts event ≡ true → before.error ≡ Some error
-    → EmitsEvent before event (Err error) (record before { started = true })
+    → EmitsEvent before event (Err error) (starting before event)
 emits_failed event before error text is =
-    emits_by event before (record before { started = true }) (Err error) text (λ given all h. failed_more given all event before error h is)
+    emits_by event before (starting before event) (Err error) text (λ given all h. failed_more given all event before error h is)
     (grows_page before.page before.page refl) (λ given all h none same. let wrong : Some error ≡ None = sym is ∙ none in cc) (λ some. refl)
-    (record { given = refl; started = refl; has_output = refl; opened = refl; closed = refl; taken = refl })
+    (record { events = refl; given = refl; started = refl; has_output = refl; opened = refl; closed = refl; taken = refl })
     (sym (ap result_of_error is))
 
 some_error : (error : Option yaml_error_t) → error ≡ None → IsSome error → ⊥
 some_error None none some = cc
 some_error (Some error) none some = cc
 
--- An emitter to which an event was given.
-abbrev pub starting : State → State
-starting before = record before { started = true }
-
 -- The way of the waiting events once one follows them.
-settled_reached : (event : Event) (before settled : State) → before.error ≡ None → (h : Settled (starting before) event settled)
+settled_reached : (event : Event) (before settled : State) → before.error ≡ None → (h : Settled (starting before event) event settled)
     → (given : Settings) (all : List Event) → StateStands given all before
     → (prefix : List Event) × HasReached given (all ++ event ∷ []) prefix (settled.held ++ event ∷ []) (machine_of settled)
 settled_reached event before settled none h given all stands =
@@ -92,13 +96,13 @@ settled_reached event before settled none h given all stands =
     (at.0, subst (λ (l : List Event). HasReached given (all ++ event ∷ []) at.0 (l ++ event ∷ []) (machine_of settled)) (sym h.held) at.1)
 
 -- If nothing became ready, the same events wait.
-settled_same : (event : Event) (before settled : State) → Settled (starting before) event settled → is_head_ready (before.held ++ event ∷ []) ≡ false
+settled_same : (event : Event) (before settled : State) → Settled (starting before event) event settled → is_head_ready (before.held ++ event ∷ []) ≡ false
     → settled.held ≡ before.held
 settled_same event before settled h unready = h.held ∙ ap (λ (n : ℕ). drop n before.held) (h.unready unready)
 
 -- None waits any more, and an event that is ready alone was written.
 pub emits_alone : (event : Event) (before settled : State) (machine : MachineState) (answer : Result (Unit {0}) yaml_error_t)
-    → has_scalar_texts event ≡ true → before.error ≡ None → Settled (starting before) event settled → settled.held ≡ []
+    → has_scalar_texts event ≡ true → before.error ≡ None → Settled (starting before event) event settled → settled.held ≡ []
     → is_head_ready (event ∷ []) ≡ true → WroteAlone (machine_of settled) event answer machine
     → EmitsEvent before event answer (with_machine settled settled.held machine)
 emits_alone event before settled machine answer text none h alone ready wrote =
@@ -115,12 +119,12 @@ emits_alone event before settled machine answer text none h alone ready wrote =
     let empty : before.held ≡ [] = sym (settled_same event before settled h unready) ∙ alone in
     absurd (false≢true (sym unready ∙ ap (λ (l : List Event). is_head_ready (l ++ event ∷ [])) empty ∙ ready)))
     (λ some. absurd (some_error before.error none some))
-    (keeps_set_then (starting before) settled (with_machine settled settled.held machine) h.set (keeps_with_machine settled settled.held machine wrote.set))
+    (keeps_set_then (starting before event) settled (with_machine settled settled.held machine) h.set (keeps_with_machine settled settled.held machine wrote.set))
     wrote.answered
 
 -- An event was appended to those that wait still, and the first of them goes on waiting.
 pub emits_waiting : (event : Event) (before settled : State) (held : List Event) → has_scalar_texts event ≡ true → before.error ≡ None
-    → Settled (starting before) event settled → held ≡ settled.held ++ event ∷ [] → is_head_ready held ≡ false
+    → Settled (starting before event) event settled → held ≡ settled.held ++ event ∷ [] → is_head_ready held ≡ false
     → EmitsEvent before event (Ok tt) (record settled { held = held })
 emits_waiting event before settled held text none h is unready =
     emits_by event before (record settled { held = held }) (Ok tt) text
@@ -130,13 +134,13 @@ emits_waiting event before settled held text none h is unready =
     (subst (λ (l : List Event). HasReached given (all ++ event ∷ []) at.0 l (machine_of settled)) (sym is) at.1) h.no_error unready)
     h.grows (λ given all stands none same. refl)
     (λ some. absurd (some_error before.error none some))
-    (keeps_set_then (starting before) settled (record settled { held = held }) h.set
-    (record { given = refl; started = refl; has_output = refl; opened = refl; closed = refl; taken = refl }))
+    (keeps_set_then (starting before event) settled (record settled { held = held }) h.set
+    (record { events = refl; given = refl; started = refl; has_output = refl; opened = refl; closed = refl; taken = refl }))
     (sym (ap result_of_error h.no_error))
 
 -- One of those that waited failed.
 pub emits_stopped : (event : Event) (before after : State) (error : yaml_error_t) → has_scalar_texts event ≡ true → before.error ≡ None
-    → SettlingFailed (starting before) event error after → EmitsEvent before event (Err error) after
+    → SettlingFailed (starting before event) event error after → EmitsEvent before event (Err error) after
 emits_stopped event before after error text none h =
     emits_by event before after (Err error) text
     (λ given all stands.
@@ -167,7 +171,7 @@ settles_none before last empty none =
           };
       unready = λ unready. refl;
       grows = grows_page before.page before.page refl;
-      set = record { given = refl; started = refl; has_output = refl; opened = refl; closed = refl; taken = refl };
+      set = record { events = refl; given = refl; started = refl; has_output = refl; opened = refl; closed = refl; taken = refl };
       no_error = none;
     }
 

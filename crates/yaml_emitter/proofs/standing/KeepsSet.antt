@@ -40,6 +40,7 @@ took_keeps_given waiting before after answer took = processed_keeps_given took.e
 pub keeps_set_then : (before middle after : State) → KeepsSet before middle → KeepsSet middle after → KeepsSet before after
 keeps_set_then before middle after first second =
     record {
+      events = second.events ∙ first.events;
       given = second.given ∙ first.given;
       started = second.started ∙ first.started;
       has_output = second.has_output ∙ first.has_output;
@@ -65,4 +66,4 @@ with_machine before held machine =
 pub keeps_with_machine : (before : State) (held : List Event) (machine : MachineState) → KeepsGiven (machine_of before) machine
     → KeepsSet before (with_machine before held machine)
 keeps_with_machine before held machine kept =
-    record { given = kept.given; started = refl; has_output = refl; opened = refl; closed = refl; taken = kept.taken }
+    record { events = refl; given = kept.given; started = refl; has_output = refl; opened = refl; closed = refl; taken = kept.taken }

@@ -21,6 +21,9 @@ moves_then {before} {between} {after} {first} {next} {one} {two} moves then_move
           (then_moves.stands given (all ++ first) (moves.stands given all stands));
       grows = grows_then moves.grows then_moves.grows;
       set = record {
+        events =
+            then_moves.set.events ∙ ap (λ (l : List Event). l ++ next) moves.set.events
+            ∙ append_assoc before.events first next;
         given = then_moves.set.given ∙ moves.set.given;
         started =
             then_moves.set.started ∙ ap (λ (started : Bool). started_by started next) moves.set.started
@@ -39,7 +42,7 @@ moves_nothing state none =
     record {
       stands = λ given all stands. subst (λ (l : List Event). StandsAfter given l state) (sym (append-nil all)) stands;
       grows = grows_itself state.page;
-      set = record { given = refl; started = refl; has_output = refl; opened = refl; closed = refl; taken = refl };
+      set = record { events = sym (append-nil state.events); given = refl; started = refl; has_output = refl; opened = refl; closed = refl; taken = refl };
       answered = sym (ap result_of_error none);
     }
 
@@ -52,6 +55,7 @@ moves_flagged {before} {after} {events} {answer} moves opened closed opened_is c
       stands = λ given all stands. moves.stands given all (record { texts = stands.texts; so = stands.so });
       grows = moves.grows;
       set = record {
+        events = moves.set.events;
         given = moves.set.given;
         started = moves.set.started;
         has_output = moves.set.has_output;
@@ -71,6 +75,7 @@ moves_under {before} {after} {events} {answer} opened closed moves =
           stands_flagged given (all ++ events) after opened closed (moves.stands given all (record { texts = stands.texts; so = stands.so }));
       grows = moves.grows;
       set = record {
+        events = moves.set.events;
         given = moves.set.given;
         started = moves.set.started;
         has_output = moves.set.has_output;

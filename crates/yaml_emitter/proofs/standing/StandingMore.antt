@@ -190,6 +190,7 @@ new_stands given state is_handle_given page stage open_ended held none =
 abbrev around : MachineState → List Event → State
 around m held =
     record {
+      events = [];
       given = m.given;
       settings = m.settings;
       started = false;

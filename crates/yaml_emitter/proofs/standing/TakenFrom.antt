@@ -1,8 +1,8 @@
 -- An emitter all of whose output is taken: its fields, and the events that its state comes after.
-use Rattle.yaml_emitter.proofs.Common.{List, ap, subst, sym, ◌∙◌, ◌≡◌, Event, Settings, state_of, IsEmitter, IsMachine, StandsAfter, State, MachineState, Page}
+use Rattle.yaml_emitter.proofs.Common.{List, ap, subst, sym, ◌∙◌, ◌≡◌, Event, Settings, state_of, IsEngine, IsMachine, StandsAfter, State, MachineState, Page}
 use Rattle.yaml_emitter.proofs.Common.{all_taken, machine_state, with_all_taken}
 use Rattle.yaml_emitter.proofs.standing.Taking.{kept_taken, stands_taken, untouched_taken}
-use Rattle.yaml_emitter.specs.declared.emitter.yaml_emitter_t.TheInside as emitter
+use Rattle.yaml_emitter.specs.declared.engine.Engine.TheInside as emitter
 use Rattle.yaml_emitter.specs.declared.machine.Machine.TheInside as machine
 
 pub machine_kept : {A : Type 0} (e : machine.Inside A) (page : Page) → page ≡ all_taken e.pen → IsMachine e → IsMachine (record e { pen = page })
@@ -14,10 +14,10 @@ machine_taken e before page is taken =
     ap (λ (p : Page). machine_state (record e { pen = p })) taken
     ∙ ap (λ (m : MachineState). let made : MachineState = record m { page = all_taken m.page } in made) is
 
-pub emitter_kept : {A : Type 0} (e : emitter.Inside A) (after : MachineState) → after ≡ record e.machine { page = all_taken e.machine.page } → IsEmitter e
-    → IsEmitter (record e { machine = after })
+pub emitter_kept : {A : Type 0} (e : emitter.Inside A) (after : MachineState) → after ≡ record e.machine { page = all_taken e.machine.page } → IsEngine e
+    → IsEngine (record e { machine = after })
 emitter_kept e after taken is =
-    subst (λ (m : MachineState). IsEmitter (record e { machine = m })) (sym taken)
+    subst (λ (m : MachineState). IsEngine (record e { machine = m })) (sym taken)
     (record {
       untouched = λ unset. untouched_taken e.machine.page (is.untouched unset);
       begun = is.begun;

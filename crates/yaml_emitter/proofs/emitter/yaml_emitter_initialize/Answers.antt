@@ -1,20 +1,9 @@
-use Rattle.yaml_emitter.proofs.Common.{false, true, refl, ◌≡◌, ap, subst, sym, ◌∙◌, seen_events, is_head_ready, MachineState, new_machine, is_at_stream}
-use Rattle.yaml_emitter.proofs.{Common.IsUntouched, standing.StandingMore.new_emitter_stands}
+use Rattle.yaml_emitter.proofs.Common.{ap, State}
+use Rattle.yaml_emitter.proofs.{Keeping.keeps_new}
+use Rattle.yaml_base.specs.Settings.{nothing_given}
 use Rattle.yaml_emitter.proofs.emitter.yaml_emitter_initialize.Goals as goal
-
-untouched_new : IsUntouched new_machine.page
-untouched_new = record { no_bytes = refl; no_error = refl }
 
 pub invariant_of-result : goal.invariant_of-result
 invariant_of-result g c =
-    record {
-      untouched = λ _. subst (λ (m : MachineState). IsUntouched m.page) (sym c.in_ok-machine.ensures.made) untouched_new;
-      begun = λ begun. let wrong : true ≡ false = sym (ap (λ (m : MachineState). is_at_stream m.stage) c.in_ok-machine.ensures.made) ∙ begun in cc;
-      opened = λ opened. opened;
-      room = c.in_ok-queue.ensures.room.1;
-      waits = ap (λ q. is_head_ready (seen_events q)) c.in_ok-queue.ensures.empty;
-    }
-
-pub returns-clause-stands : goal.returns-clause-stands
-returns-clause-stands g c =
-    record { texts = refl; so = new_emitter_stands c.in_ok-machine.ensures.made (ap seen_events c.in_ok-queue.ensures.empty) }
+    keeps_new c.in_ok-engine.engine nothing_given (ap (λ (s : State). s.events) c.in_ok-engine.ensures.made)
+    (ap (λ (s : State). s.given) c.in_ok-engine.ensures.made) c.in_ok-engine.ensures.stands

@@ -1,7 +1,7 @@
 use Rattle.yaml_emitter.proofs.Common.{arith, common_steps, rules, true, [], refl, ap, subst, sym, ◌∙◌, StandsAfter, State}
 use Rattle.yaml_emitter.proofs.standing.{EmitterKept.kept_limited, StandingSet.stands_set}
 use Rattle.yaml_emitter.specs.Given.{seen_settings}
-use Rattle.yaml_emitter.proofs.emitter.yaml_emitter_t.set_all.Goals as goal
+use Rattle.yaml_emitter.proofs.engine.Engine.set_all.Goals as goal
 
 pub set_all-requires : goal.set_all-requires
 set_all-requires g c = c.self.invariant.untouched (ap (λ (s : State). s.has_output) c.self.view_is ∙ c.requires)

@@ -4,7 +4,7 @@ use Rattle.yaml_emitter.proofs.standing.{EmittingEvents.settles_failed, Emitting
 use Rattle.yaml_emitter.proofs.standing.EmitterKept.{has_output_inside, kept_emitting, some_last, waits_without, within_count}
 use Rattle.yaml_emitter.specs.{EmitsEvent.StillWait, EmitsEvent.Settled, EmitsEvent.SettlingFailed, EmitsEvent.WroteWaiting, Queue.seen_next}
 use Rattle.yaml_emitter.specs.StandsAfter.{FailedReady}
-use Rattle.yaml_emitter.proofs.emitter.yaml_emitter_t.write_queue.Goals as goal
+use Rattle.yaml_emitter.proofs.engine.Engine.write_queue.Goals as goal
 
 pub release-requires : goal.release-requires
 release-requires g c =

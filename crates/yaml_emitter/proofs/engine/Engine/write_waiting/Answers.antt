@@ -2,7 +2,7 @@ use Rattle.yaml_emitter.proofs.Common.{eqb-true, length, ap, subst, sym, ◌∙�
 use Rattle.std.proofs.lemmas.List.{nil_from_length}
 use Rattle.yaml_emitter.proofs.standing.EmittingEvents.{settles_none}
 use Rattle.yaml_emitter.specs.EmitsEvent.{Settled}
-use Rattle.yaml_emitter.proofs.emitter.yaml_emitter_t.write_waiting.Goals as goal
+use Rattle.yaml_emitter.proofs.engine.Engine.write_waiting.Goals as goal
 
 pub returns-then-is_empty : goal.returns-then-is_empty
 returns-then-is_empty g c = λ last stands.
