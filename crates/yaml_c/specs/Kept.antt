@@ -73,8 +73,8 @@ pub record TakesEvent (event : Event) (before after : State) : Type 0 where
   pub waits : (given : Settings) (all : List Event) → StandsAfter given all before → before.error ≡ None
       → written (all ++ event ∷ []) ≡ written all → after.error ≡ None
   pub grows : Grows before.page after.page
-  pub kept : IsSome before.error → after ≡ record before { started = true }
-  pub set : KeepsSet (record before { started = true }) after
+  pub kept : IsSome before.error → after ≡ record before { events = before.events ++ event ∷ []; started = true }
+  pub set : KeepsSet (record before { events = before.events ++ event ∷ []; started = true }) after
 
 -- True if an emitter was given the event of a record, or nothing changed, since the record has no reading or memory for its texts ran out.
 pub data GivesRecord (read : Option Event) (status : ℤ) (report : CallResult) (before after : State) : Type 0 where

@@ -16,9 +16,10 @@ use Rattle.yaml_dump.specs.Dumps.{dump_events}
 use Rattle.yaml_dump.specs.DumpsTell.{IsBegun, KeepsRest}
 
 -- a call that answers Ok found no error
-pub error_kept : {P : Type 0} (before after : State) → (IsSome before.error → after ≡ record before { started = true }) → after.error ≡ None
+pub error_kept : {P : Type 0} (before after : State) (event : Event)
+    → (IsSome before.error → after ≡ record before { events = before.events ++ event ∷ []; started = true }) → after.error ≡ None
     → IsSome before.error → P
-error_kept before after kept none some = absurd (false≢true (subst IsSome (sym (ap (λ (state : State). state.error) (kept some)) ∙ none) some))
+error_kept before after event kept none some = absurd (false≢true (subst IsSome (sym (ap (λ (state : State). state.error) (kept some)) ∙ none) some))
 
 -- one more event
 pub parts_more : {A : Type 0} (emitted : List (yaml_event_t A)) (next : yaml_event_t A) (rest left all : List (yaml_event_t A)) → emitted ++ left ≡ all
@@ -228,6 +229,7 @@ keeps_by before after opened closed events answer moves unchanged =
     record {
       grows = moves.grows;
       set = record {
+        events = refl;
         given = moves.set.given;
         started = refl;
         has_output = moves.set.has_output;
@@ -279,7 +281,7 @@ keeps_dumping nodeless document before after (Err error) (inl failed) =
     subst (λ (s : State). KeepsRest before s) (sym failed.1)
     (record {
       grows = grows_itself before.page;
-      set = record { given = refl; started = refl; has_output = refl; opened = refl; closed = refl; taken = refl };
+      set = record { events = refl; given = refl; started = refl; has_output = refl; opened = refl; closed = refl; taken = refl };
       begun = inl refl;
     })
 keeps_dumping nodeless document before after (Err error) (inr dump) =

@@ -16,11 +16,11 @@ use Rattle.yaml_dump.specs.GraphTrees.{ReadsTrees}
 abbrev pub IsBegun : State → State → Type 0
 IsBegun before after = (after ≡ before) ⊎ (after.started ≡ true)
 
--- text and output only grow; the caller's settings stay, except whether the stream is begun, opened and closed; and nothing was
--- done, or the stream was begun
+-- text and output only grow; the caller's settings stay, except whether the stream is begun, opened and closed, and which events were
+-- given; and nothing was done, or the stream was begun
 pub record KeepsRest (before after : State) : Type 0 where
   pub grows : Grows before.page after.page
-  pub set : KeepsSet (record before { started = after.started; opened = after.opened; closed = after.closed }) after
+  pub set : KeepsSet (record before { events = after.events; started = after.started; opened = after.opened; closed = after.closed }) after
   pub begun : IsBegun before after
 
 -- emitting in order is a move, by all events that were given; both it and a dump keep the rest; a dump that fails closes nothing;

@@ -23,7 +23,8 @@ pub fn yaml_emitter_open<A: Allocator + Copy>(
     requires output { emitter.old.has_output ≡ true }
     requires not_opened { emitter.old.opened ≡ false }
     ensures moves { Moves (record emitter.old { opened = is_ok result }) (stream_start None ∷ []) result emitter.new }
-    ensures kept { IsSome emitter.old.error → emitter.new ≡ record emitter.old { started = true } }
+    ensures kept { IsSome emitter.old.error
+        → emitter.new ≡ record emitter.old { events = emitter.old.events ++ stream_start None ∷ []; started = true } }
     ensures output { emitter.new.has_output ≡ true }
 {
     let start = YAML_STREAM_START_EVENT {
@@ -51,7 +52,8 @@ pub fn yaml_emitter_close<A: Allocator + Copy>(
 ) -> Result<(), yaml_error_t>
     requires opened { emitter.old.opened ≡ true }
     ensures closes { Closes emitter.old result emitter.new }
-    ensures kept { emitter.old.closed ≡ false → IsSome emitter.old.error → emitter.new ≡ record emitter.old { started = true } }
+    ensures kept { emitter.old.closed ≡ false → IsSome emitter.old.error
+        → emitter.new ≡ record emitter.old { events = emitter.old.events ++ stream_end ∷ []; started = true } }
     ensures graphs { emitter.old.closed ≡ false → OnOk result
         ((given : Settings) (all : List Event) → StandsAfter given all emitter.old → ReadsGraphs given (all ++ stream_end ∷ []) emitter.new) }
     ensures trees { emitter.old.closed ≡ false → OnOk result

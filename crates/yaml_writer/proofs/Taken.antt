@@ -3,7 +3,7 @@ use Rattle.yaml_writer.proofs.Common.{ℕ, IfErr, OnOk, Option, None, Some, Resu
 use Rattle.yaml_writer.proofs.Common.{sym, inr, ◌∙◌, prefix_then, Text, Event, Settings, StandsAfter, State, output_left, Grows, WriterState, StandsTaken}
 use Rattle.yaml_writer.proofs.Common.{AddsEvents, PassedEvents, GaveEvent, option_or}
 use Rattle.yaml_base.proofs.Common.{inl, ◌⊎◌, append-nil}
-use Rattle.yaml_emitter.{proofs.Common.with_all_taken, proofs.Common.KeepsSet, specs.EmitsEvent.EmitsEvent, specs.EmitsEvent.EmitsScalar}
+use Rattle.yaml_emitter.{proofs.Common.with_all_taken, specs.EmitsEvent.EmitsEvent, specs.EmitsEvent.EmitsScalar}
 use Rattle.yaml_emitter.specs.EmitsEvent.{CopyFailed, result_of_answer}
 use Rattle.yaml_emitter.specs.{Moves.Moves, declared.borrowed.ScalarAnswer.ScalarAnswer}
 use Rattle.yaml_pen.proofs.Composing.{grows_itself}
@@ -14,10 +14,10 @@ use Rattle.yaml_base.specs.{declared.kinds.CollectionKind.CollectionKind, declar
 
 -- A call of the emitter keeps the number of bytes taken.
 pub still_taken : (given : Settings) (all more : List Event) (sent : List ℕ) (before after : State) → StandsTaken given all sent before
-    → KeepsSet (record before { started = true }) after → Grows before.page after.page → StandsAfter given more after
+    → after.page.taken ≡ before.page.taken → Grows before.page after.page → StandsAfter given more after
     → StandsTaken given more sent after
-still_taken given all more sent before after was set grows stands =
-    record { stands = stands; taken = set.taken ∙ was.taken; begins = prefix_then was.begins grows.output }
+still_taken given all more sent before after was taken grows stands =
+    record { stands = stands; taken = taken ∙ was.taken; begins = prefix_then was.begins grows.output }
 
 -- Past a list's own elements is the list after it.
 drop_past : {A : Type 0} (first rest : List A) → drop (length first) (first ++ rest) ≡ rest
@@ -57,7 +57,7 @@ adds_nothing state =
     record {
       stands = λ given all stands. subst (λ (events : List Event). StandsAfter given events state) (sym (append-nil all)) stands;
       grows = grows_itself state.page;
-      set = record { given = refl; started = refl; has_output = refl; opened = refl; closed = refl; taken = refl };
+      set = record { events = sym (append-nil state.events); given = refl; started = refl; has_output = refl; opened = refl; closed = refl; taken = refl };
       answered = refl;
     }
 

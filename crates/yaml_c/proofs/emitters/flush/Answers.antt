@@ -1,6 +1,6 @@
 use Rattle.std.specs.Prelude.{Result, List, OnOk}
 use Rattle.yaml_c.proofs.Common.{◌≡◌, rules, ◌∙◌, ap, subst, w32, of_z, to_z}
-use Rattle.std.proofs.Common.{false}
+use Rattle.std.proofs.Common.{append-nil, false}
 use Rattle.yaml_c.proofs.KeptLemmas.{while_open}
 use Rattle.yaml_c.specs.Kept.{Flushes}
 use Rattle.yaml_base.specs.{Event.Event, Settings.Settings, declared.errors.yaml_error_t.yaml_error_t}
@@ -34,6 +34,7 @@ returns-clause-flushed g c =
       empty = flush.empty;
       kept = flush.kept;
       set = record {
+        events = moves.set.events ∙ append-nil _;
         given = moves.set.given;
         started = moves.set.started;
         has_output = moves.set.has_output;

@@ -45,5 +45,5 @@ returns-clause-trees g c running =
 
 pub returns-clause-kept : goal.returns-clause-kept
 returns-clause-kept g c running =
-    error_kept c.args.emitter.now c.yaml_emitter_emit.new.emitter c.yaml_emitter_emit.ensures.kept
+    error_kept c.args.emitter.now c.yaml_emitter_emit.new.emitter _ c.yaml_emitter_emit.ensures.kept
     (none_from_result c.yaml_emitter_emit.new.emitter.error c.in_default.ensures.moves.answered)

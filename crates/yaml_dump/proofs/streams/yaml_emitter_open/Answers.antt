@@ -18,7 +18,7 @@ returns-clause-moves g c =
 
 pub returns-clause-kept : goal.returns-clause-kept
 returns-clause-kept g c =
-    error_kept c.args.emitter.now c.yaml_emitter_emit.new.emitter c.yaml_emitter_emit.ensures.kept
+    error_kept c.args.emitter.now c.yaml_emitter_emit.new.emitter _ c.yaml_emitter_emit.ensures.kept
     (none_from_result c.yaml_emitter_emit.new.emitter.error c.in_default.ensures.moves.answered)
 
 pub returns-in-Err-clause-output : goal.returns-in-Err-clause-output

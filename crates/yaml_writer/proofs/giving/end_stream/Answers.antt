@@ -18,7 +18,7 @@ returns-in_err-yaml_emitter_emit-clause-unfinished g c =
     (subst (λ (end : Bool). IsUnfinishedBy end before error) c.is_implicit-implicit.ensures
     (failed_unfinished implicit before after error
     (λ error is.
-    error_kept between after error c.yaml_emitter_emit-2.ensures.kept (error_kept before between error c.yaml_emitter_emit.ensures.kept is))
+    error_kept between after _ error c.yaml_emitter_emit-2.ensures.kept (error_kept before between _ error c.yaml_emitter_emit.ensures.kept is))
     (λ given all stands.
     let ended = c.yaml_emitter_emit.ensures.moves.stands given all stands in (
       closed_stands implicit given all after (c.yaml_emitter_emit-2.ensures.moves.stands given (all ++ document_end implicit ∷ []) ended),
@@ -41,7 +41,7 @@ returns-then-held-gt0-clause-unfinished g c =
     third_unfinished implicit before after error
     (no_earlier before closed_once
     (λ earlier was.
-    error_kept between closed_once earlier c.yaml_emitter_emit-2.ensures.kept (error_kept before between earlier c.yaml_emitter_emit.ensures.kept was))
+    error_kept between closed_once _ earlier c.yaml_emitter_emit-2.ensures.kept (error_kept before between _ earlier c.yaml_emitter_emit.ensures.kept was))
     none)
     (λ given all stands.
     let ended = c.yaml_emitter_emit.ensures.moves.stands given all stands in
@@ -84,10 +84,10 @@ returns-clause-finishes g c =
     let with_end = all ++ document_end implicit ∷ [] in
     let with_both = with_end ++ stream_end ∷ [] in
     let ended =
-    still_taken given all with_end sent before between stands c.yaml_emitter_emit.ensures.moves.set c.yaml_emitter_emit.ensures.moves.grows
+    still_taken given all with_end sent before between stands c.yaml_emitter_emit.ensures.moves.set.taken c.yaml_emitter_emit.ensures.moves.grows
     (c.yaml_emitter_emit.ensures.moves.stands given all stands.stands) in
     let closes =
-    still_taken given with_end with_both sent between after ended c.yaml_emitter_emit-2.ensures.moves.set c.yaml_emitter_emit-2.ensures.moves.grows
+    still_taken given with_end with_both sent between after ended c.yaml_emitter_emit-2.ensures.moves.set.taken c.yaml_emitter_emit-2.ensures.moves.grows
     (c.yaml_emitter_emit-2.ensures.moves.stands given with_end ended.stands) in
     rest_finished implicit given all with_both sent after closes
     (closed implicit given all after (c.yaml_emitter_emit-2.ensures.promised given with_end ended.stands))
