@@ -2,6 +2,7 @@ pub mod ScalarTexts
 pub mod SimpleAsciiScalars
 pub mod BorrowedTexts
 pub mod Given
+pub mod EventKinds
 pub mod Queue
 pub mod Places
 pub mod Reach

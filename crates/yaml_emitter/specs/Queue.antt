@@ -1,10 +1,7 @@
 -- The events that wait to be written.
-use Rattle.std.specs.Prelude.{◌≡◌, ℕ, zero, suc, Bool, false, true, Option, None, Some, List, [], ◌∷◌, ◌+◌, ◌&&◌, length, nat_lt, option_map, if◌then◌else◌}
-use Rattle.std.specs.Borrow.{Bor}
-use Rattle.yaml_base.specs.Event.{Event, Scalar, scalar}
+use Rattle.std.specs.Prelude.{◌≡◌, ℕ, zero, suc, Bool, false, true, Option, None, Some, List, [], ◌∷◌, ◌+◌, ◌&&◌, length, nat_lt, if◌then◌else◌}
+use Rattle.yaml_base.specs.Event.{Event}
 use Rattle.yaml_base.specs.Ready.{awaited, is_end, is_ready, is_start}
-use Rattle.yaml_base.specs.Seen.{seen_event}
-use Rattle.yaml_base.specs.declared.events.yaml_event_t.{yaml_event_t}
 
 -- true if the first event of a queue can be written now
 abbrev pub is_head_ready : List Event → Bool
@@ -24,12 +21,3 @@ checked_pred (suc n) = Some n
 -- the number of parts that are open within another one after an event, if `depth` are open before it; none if it ends that one
 abbrev pub open_behind : (depth : ℕ) → Event → Option ℕ
 open_behind depth event = if is_start event then Some (depth + 1) else (if is_end event then checked_pred depth else Some depth)
-
--- the event that follows others, if it is given
-abbrev pub seen_next : {A : Type 0} → Option (Bor (yaml_event_t A)) → Option Event
-seen_next next = option_map (λ event. seen_event event.now) next
-
--- `last` may follow others: it is the given event or, if none is given, some scalar
-abbrev pub StandsLast : Option Event → (last : Event) → Type 0
-StandsLast (Some event) last = last ≡ event
-StandsLast None last = (content : Scalar) × (last ≡ scalar content)

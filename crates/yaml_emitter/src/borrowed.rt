@@ -11,6 +11,7 @@ ghost use Rattle.yaml_emitter.specs.Queue.{are_ready_by_one_more};
 
 use crate::emitter::yaml_emitter_t;
 use crate::engine::Engine;
+use crate::kinds::EventKind;
 use crate::machine::Machine;
 use crate::queue::are_ready_by_one_more;
 use crate::spares::SpareTexts;
@@ -78,7 +79,7 @@ impl<A: Allocator + Copy> Engine<A> {
         if are_ready_by_one_more(self.queue.as_slice()) {
             self.started = true;
             self.history = self.history.with(content);
-            if let Err(error) = self.write_before_scalar() {
+            if let Err(error) = self.write_waiting(EventKind::Scalar) {
                 return ScalarAnswer::Taken(Err(error));
             }
             let answer = self.machine.scalar(content);

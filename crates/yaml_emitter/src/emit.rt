@@ -9,12 +9,14 @@ ghost use Rattle.yaml_pen.specs.Page.{result_of_error, output_left};
 ghost use Rattle.yaml_pen.specs.Wrote.{Grows};
 ghost use Rattle.yaml_emitter.specs.Moves.{Moves};
 ghost use Rattle.yaml_emitter.specs.Promises.{HasAllBytes, Promised};
-ghost use Rattle.yaml_emitter.specs.Queue.{StandsLast, is_head_ready, seen_next};
+ghost use Rattle.yaml_emitter.specs.EventKinds.{kind_of};
+ghost use Rattle.yaml_emitter.specs.Queue.{is_head_ready};
 ghost use Rattle.yaml_emitter.specs.State.{KeepsGiven, KeepsSet, with_all_taken};
 ghost use Rattle.yaml_emitter.specs.EmitsEvent.{EmitsEvent, Settles, WroteWaiting, kept_error};
 ghost use Rattle.yaml_emitter.specs.StandsAfter.{FailedReady, StandsAfter};
 
 use crate::engine::Engine;
+use crate::kinds::EventKind;
 use crate::machine::Machine;
 use crate::queue::{closes_at_once, first_and_rest, followers, is_ready};
 use std::alloc::Allocator;
@@ -34,7 +36,7 @@ impl<A: Allocator + Copy> Engine<A> {
             drop(event);
             return Err(error);
         }
-        if let Err(error) = self.write_waiting(Some(&event)) {
+        if let Err(error) = self.write_waiting(EventKind::of(&event)) {
             drop(event);
             return Err(error);
         }
@@ -70,14 +72,11 @@ impl<A: Allocator + Copy> Engine<A> {
         }
     }
 
-    /// Writes the queued events that are ready if this event follows them; `None` means a scalar.
-    pub(crate) fn write_waiting(
-        &mut self,
-        next: Option<&yaml_event_t<A>>,
-    ) -> Result<(), yaml_error_t>
+    /// Writes the queued events that are ready if an event of this kind follows them.
+    pub(crate) fn write_waiting(&mut self, next: EventKind) -> Result<(), yaml_error_t>
         requires no_error { self.old.error ≡ None }
         requires output { self.old.has_output ≡ true }
-        ensures { (last : Event) → StandsLast (seen_next next.entry) last → Settles self.old last result self.new }
+        ensures { (last : Event) → kind_of last ≡ next → Settles self.old last result self.new }
     {
         if self.queue.as_slice().is_empty() {
             return Ok(());
@@ -85,22 +84,12 @@ impl<A: Allocator + Copy> Engine<A> {
         self.write_queue(next)
     }
 
-    /// Writes the queued events that are ready if a scalar follows them.
-    pub(crate) fn write_before_scalar<'a>(&'a mut self) -> Result<(), yaml_error_t>
-        requires no_error { self.old.error ≡ None }
-        requires output { self.old.has_output ≡ true }
-        ensures { (content : Scalar) → Settles self.old (scalar content) result self.new }
-    {
-        let scalar: Option<&'a yaml_event_t<A>> = None;
-        self.write_waiting(scalar)
-    }
-
     /// Does the work of `write_waiting` if events wait. Out of line, so that `write_waiting` is inlined.
     #[inline(never)]
-    fn write_queue(&mut self, next: Option<&yaml_event_t<A>>) -> Result<(), yaml_error_t>
+    fn write_queue(&mut self, next: EventKind) -> Result<(), yaml_error_t>
         requires no_error { self.old.error ≡ None }
         requires output { self.old.has_output ≡ true }
-        ensures { (last : Event) → StandsLast (seen_next next.entry) last → Settles self.old last result self.new }
+        ensures { (last : Event) → kind_of last ≡ next → Settles self.old last result self.new }
     {
         match self.machine.write_ready(self.queue.as_slice(), next) {
             Ok(written) => {
@@ -131,18 +120,18 @@ impl<A: Allocator + Copy> Machine<A> {
         answer
     }
 
-    /// Writes the events that are ready if this one follows them, in order up to the first error, and returns their number.
+    /// Writes the events that are ready if one of this kind follows them, in order up to the first error, and returns their number.
     fn write_ready(
         &mut self,
         waiting: &[yaml_event_t<A>],
-        next: Option<&yaml_event_t<A>>,
+        next: EventKind,
     ) -> Result<usize, yaml_error_t>
         requires { self.old.error ≡ None }
-        ensures written { IfOk result (λ count. (last : Event) → StandsLast (seen_next next.entry) last
+        ensures written { IfOk result (λ count. (last : Event) → kind_of last ≡ next
             → WroteWaiting (seen_events waiting.now) last count self.old self.new) }
-        ensures failed { IfErr result (λ error. (last : Event) → StandsLast (seen_next next.entry) last
+        ensures failed { IfErr result (λ error. (last : Event) → kind_of last ≡ next
             → FailedReady (seen_events waiting.now ++ last ∷ []) error self.old self.new) }
-        ensures waits { (last : Event) → StandsLast (seen_next next.entry) last → is_head_ready (seen_events waiting.now ++ last ∷ []) ≡ false
+        ensures waits { (last : Event) → kind_of last ≡ next → is_head_ready (seen_events waiting.now ++ last ∷ []) ≡ false
             → result ≡ Ok 0 }
         ensures error { self.new.error ≡ None }
         ensures grows { Grows self.old.page self.new.page }

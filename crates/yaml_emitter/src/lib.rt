@@ -11,6 +11,7 @@ mod emitter;
 mod engine;
 mod frames;
 mod history;
+mod kinds;
 mod laws;
 mod machine;
 mod nodes;

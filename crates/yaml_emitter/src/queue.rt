@@ -3,31 +3,20 @@
 ghost use Rattle.std.specs.Prelude.{◌≡◌, ◌<◌, ◌≤◌, ◌==◌, ◌&&◌, ◌+◌, ◌^◌, ◌∷◌, ◌++◌, [], true, drop, length, vec_len, vec_capacity};
 ghost use Rattle.std.specs.List.{list_any};
 ghost use Rattle.yaml_base.specs.Event.{Event};
-ghost use Rattle.yaml_base.specs.Ready.{is_start, is_end, awaited, is_balanced, nonempty_prefixes};
+ghost use Rattle.yaml_base.specs.Ready.{is_start, awaited, is_balanced, nonempty_prefixes};
 ghost use Rattle.yaml_base.specs.Seen.{seen_event, seen_events};
 ghost use Rattle.yaml_emitter.specs.Processing as processing;
-ghost use Rattle.yaml_emitter.specs.Queue.{StandsLast, are_ready_by_one_more, is_head_ready, open_behind, seen_next};
+ghost use Rattle.yaml_emitter.specs.EventKinds.{kind_of};
+ghost use Rattle.yaml_emitter.specs.Queue.{are_ready_by_one_more, is_head_ready, open_behind};
 
 use crate::engine::WaitingEvents;
+use crate::kinds::EventKind;
 use std::alloc::Allocator;
 use yaml_base::yaml_event_t;
 use yaml_base::yaml_event_t::{
-    YAML_DOCUMENT_END_EVENT, YAML_DOCUMENT_START_EVENT, YAML_MAPPING_END_EVENT,
-    YAML_MAPPING_START_EVENT, YAML_SEQUENCE_END_EVENT, YAML_SEQUENCE_START_EVENT,
-    YAML_STREAM_END_EVENT, YAML_STREAM_START_EVENT,
+    YAML_DOCUMENT_START_EVENT, YAML_MAPPING_START_EVENT, YAML_SEQUENCE_START_EVENT,
+    YAML_STREAM_START_EVENT,
 };
-
-fn ends<A: Allocator>(event: &yaml_event_t<A>) -> bool
-    ensures { result ≡ is_end (seen_event event.now) }
-{
-    matches!(
-        event,
-        YAML_STREAM_END_EVENT
-            | YAML_DOCUMENT_END_EVENT { .. }
-            | YAML_SEQUENCE_END_EVENT
-            | YAML_MAPPING_END_EVENT
-    )
-}
 
 /// Returns the number of events that must follow this one, unless one of them closes it sooner.
 pub(crate) fn followers<A: Allocator>(event: &yaml_event_t<A>) -> usize
@@ -52,15 +41,14 @@ fn open_behind<A: Allocator>(before: usize, event: &yaml_event_t<A>) -> Option<u
         | YAML_DOCUMENT_START_EVENT { .. }
         | YAML_SEQUENCE_START_EVENT { .. }
         | YAML_MAPPING_START_EVENT { .. } => Some(before + 1),
-        _ if ends(event) => before.checked_sub(1),
+        _ if EventKind::of(event).is_end() => before.checked_sub(1),
         _ => Some(before),
     }
 }
 
-/// Returns whether `rest` and then `next` end the collection or document that the event before them starts; `None` means a
-/// scalar.
-fn closes<A: Allocator>(rest: &[yaml_event_t<A>], next: Option<&yaml_event_t<A>>) -> bool
-    ensures { (first last : Event) → is_start first ≡ true → StandsLast (seen_next next.entry) last
+/// Returns whether `rest` and then an event of this kind end the collection or document that the event before them starts.
+fn closes<A: Allocator>(rest: &[yaml_event_t<A>], next: EventKind) -> bool
+    ensures { (first last : Event) → is_start first ≡ true → kind_of last ≡ next
         → result ≡ list_any is_balanced (nonempty_prefixes (first ∷ (seen_events rest.now ++ last ∷ []))) }
 {
     let mut depth = 0usize;
@@ -70,19 +58,16 @@ fn closes<A: Allocator>(rest: &[yaml_event_t<A>], next: Option<&yaml_event_t<A>>
             None => return true,
         }
     }
-    match next {
-        Some(event) => ends(event) && depth == 0,
-        None => false,
-    }
+    next.is_end() && depth == 0
 }
 
-/// Returns whether a waiting event can be written if `rest` and then `next` follow it; `None` means a scalar.
+/// Returns whether a waiting event can be written if `rest` and then an event of this kind follow it.
 pub(crate) fn is_ready<A: Allocator>(
     event: &yaml_event_t<A>,
     rest: &[yaml_event_t<A>],
-    next: Option<&yaml_event_t<A>>,
+    next: EventKind,
 ) -> bool
-    ensures { (last : Event) → StandsLast (seen_next next.entry) last
+    ensures { (last : Event) → kind_of last ≡ next
         → result ≡ is_head_ready (seen_event event.now ∷ (seen_events rest.now ++ last ∷ [])) }
 {
     followers(event).saturating_sub(1) <= rest.len() || closes(rest, next)
@@ -102,32 +87,29 @@ pub(crate) fn are_ready_by_one_more<A: Allocator>(waiting: &[yaml_event_t<A>]) -
     true
 }
 
-/// Returns whether an event starts a collection that the event after it ends: the first of `rest`, or else `next`; `None`
-/// means a scalar.
+/// Returns whether an event starts a collection that the event after it ends: the first of `rest`, or else one of this kind.
 pub(crate) fn closes_at_once<A: Allocator>(
     event: &yaml_event_t<A>,
     rest: &[yaml_event_t<A>],
-    next: Option<&yaml_event_t<A>>,
+    next: EventKind,
 ) -> bool
-    ensures { (last : Event) → StandsLast (seen_next next.entry) last
+    ensures { (last : Event) → kind_of last ≡ next
         → result ≡ processing.closes_at_once (seen_event event.now) (seen_events rest.now ++ last ∷ []) }
 {
-    match rest.first() {
-        Some(second) => is_end_of(second, event),
-        None => match next {
-            Some(second) => is_end_of(second, event),
-            None => false,
-        },
-    }
+    let second = match rest.first() {
+        Some(second) => EventKind::of(second),
+        None => next,
+    };
+    is_end_of(second, event)
 }
 
-/// Returns whether an event is the end of a collection that starts with the other one.
-fn is_end_of<A: Allocator>(end: &yaml_event_t<A>, start: &yaml_event_t<A>) -> bool
-    ensures { result ≡ processing.closes_at_once (seen_event start.now) (seen_event end.now ∷ []) }
+/// Returns whether an event of this kind is the end of a collection that starts with the other one.
+fn is_end_of<A: Allocator>(end: EventKind, start: &yaml_event_t<A>) -> bool
+    ensures { (last : Event) → kind_of last ≡ end → result ≡ processing.closes_at_once (seen_event start.now) (last ∷ []) }
 {
     match start {
-        YAML_SEQUENCE_START_EVENT { .. } => matches!(end, YAML_SEQUENCE_END_EVENT),
-        YAML_MAPPING_START_EVENT { .. } => matches!(end, YAML_MAPPING_END_EVENT),
+        YAML_SEQUENCE_START_EVENT { .. } => matches!(end, EventKind::SequenceEnd),
+        YAML_MAPPING_START_EVENT { .. } => matches!(end, EventKind::MappingEnd),
         _ => false,
     }
 }

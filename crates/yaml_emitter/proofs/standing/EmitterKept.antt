@@ -1,12 +1,14 @@
 -- The invariants of an emitter.
 use Rattle.yaml_emitter.proofs.Common.{ℕ, ◌<◌, ◌≤◌, vec_len, vec_capacity, length, false, true, List, [], map, ◌++◌, ◌∷◌, refl, ◌≡◌, ap, sym, ◌∙◌, arith, Event}
-use Rattle.yaml_emitter.proofs.Common.{length-map, map-append, Scalar, scalar, seen_event, seen_events, Settings, state_of, IsEngine, is_head_ready, State}
+use Rattle.yaml_emitter.proofs.Common.{length-map, map-append, scalar, seen_event, seen_events, Settings, state_of, IsEngine, is_head_ready, State}
 use Rattle.yaml_emitter.proofs.Common.{MachineState, Option, None, Some, Bool, false≢true, is_ready, ◌==◌, ◌&&◌, ◌||◌, nat_lt, list_any, is_balanced, and_parts}
 use Rattle.yaml_emitter.proofs.Common.{eqb-true, nonempty_prefixes, awaited, document_start, sequence_start, mapping_start}
 use Rattle.yaml_base.proofs.ReadyLaws.{ready_stays}
-use Rattle.yaml_base.specs.Event.{any_style}
+use Rattle.yaml_base.specs.Event.{Collection, alias, any_layout, any_style, document_end, mapping_end, sequence_end, stream_end, stream_start}
+use Rattle.yaml_emitter.specs.declared.kinds.EventKind.TheVariants.{StreamStart, StreamEnd, DocumentStart, DocumentEnd, Alias, Scalar}
+use Rattle.yaml_emitter.specs.declared.kinds.EventKind.TheVariants.{SequenceStart, SequenceEnd, MappingStart, MappingEnd}
 use Rattle.yaml_emitter.proofs.standing.StandingPromises.{held_few, most_few}
-use Rattle.yaml_emitter.specs.{EmitsEvent.StillWait, Queue.StandsLast, declared.engine.Engine.TheInside.Inside}
+use Rattle.yaml_emitter.specs.{EmitsEvent.StillWait, EventKinds.kind_of, declared.kinds.EventKind.EventKind, declared.engine.Engine.TheInside.Inside}
 
 -- If the first waiting event isn't ready, at most three wait.
 pub waiting_few : {E : Type 0} (seen : E → Event) (xs : List E) → is_head_ready (map seen xs) ≡ false → length xs ≤ 3
@@ -25,12 +27,22 @@ pub seen_more : {E : Type 0} (seen : E → Event) (items pushed slice : List E) 
     → map seen slice ≡ map seen items ++ seen x ∷ []
 seen_more seen items pushed slice x is grown = ap (map seen) (is ∙ grown) ∙ map-append seen items (x ∷ [])
 
--- Some event may follow the waiting ones.
-pub some_last : (next : Option Event) → (last : Event) × StandsLast next last
-some_last (Some event) = (event, refl)
-some_last None =
-    let content : Scalar = record { anchor = None; tag = None; value = []; plain_implicit = true; quoted_implicit = true; style = any_style } in
-    (scalar content, (content, refl))
+-- There is an event of each kind.
+no_collection : Collection
+no_collection = record { anchor = None; tag = None; implicit = true; style = any_layout }
+
+pub some_last : (kind : EventKind) → (last : Event) × (kind_of last ≡ kind)
+some_last StreamStart = (stream_start None, refl)
+some_last StreamEnd = (stream_end, refl)
+some_last DocumentStart = (document_start (record { version = None; directives = []; implicit = true }), refl)
+some_last DocumentEnd = (document_end true, refl)
+some_last Alias = (alias [], refl)
+some_last Scalar =
+    (scalar (record { anchor = None; tag = None; value = []; plain_implicit = true; quoted_implicit = true; style = any_style }), refl)
+some_last SequenceStart = (sequence_start no_collection, refl)
+some_last SequenceEnd = (sequence_end, refl)
+some_last MappingStart = (mapping_start no_collection, refl)
+some_last MappingEnd = (mapping_end, refl)
 
 -- Events that wait on with one more after them wait without it.
 pub waits_without : (waiting : List Event) (last : Event) → StillWait waiting last → is_head_ready waiting ≡ false

@@ -3,7 +3,6 @@ use Rattle.yaml_emitter.proofs.Common.{seen_event, seen_events, is_balanced, non
 use Rattle.std.proofs.{lemmas.List.drop_all}
 use Rattle.std.specs.Prelude.{◌≤◌, ◌==◌, ◌&&◌, length, unwrap_or}
 use Rattle.yaml_base.specs.Ready.{is_end, is_start}
-use Rattle.yaml_emitter.specs.Queue.{StandsLast, seen_next}
 use Rattle.yaml_emitter.proofs.standing.WrittenPrefixes.{behind_few, closed_by, closed_from, closed_last, closed_start}
 use Rattle.yaml_emitter.proofs.queue.closes.Goals as goal
 
@@ -45,28 +44,17 @@ closed_behind seen rest depth i first last starts end left =
     ∙ ap (λ l. closed_by depth (map seen l ++ last ∷ [])) (drop_all i rest end)
     ∙ closed_last depth last
 
-pub returns-in-None-next : goal.returns-in-None-next
-returns-in-None-next g c = λ first last starts stands.
+pub returns-then-is_end : goal.returns-then-is_end
+returns-then-is_end g c = λ first last starts is.
     sym
     (closed_behind seen_event c.args.rest.now c.loop-event.depth c.loop-event.event-index first last starts c.loop-event-test.false
     (c.loop-event.invariant.what_is_left (last ∷ []))
-    ∙ ap (λ e. is_end e && c.loop-event.depth == 0) (subst (λ next. StandsLast (seen_next next) last) c.in-None-next.is stands).1)
+    ∙ ap (λ b. b && c.loop-event.depth == 0) (sym (c.is_end.ensures last is) ∙ c.if-is_end.true))
 
-pub returns-then-ends : goal.returns-then-ends
-returns-then-ends g c = λ first last starts stands.
-    let is = subst (λ next. StandsLast (seen_next next) last) c.in-Some-next.is stands in
-    sym
-    (closed_behind seen_event c.args.rest.now c.loop-event.depth c.loop-event.event-index first last starts c.loop-event-test.false
-    (c.loop-event.invariant.what_is_left (last ∷ []))
-    ∙ ap (λ e. is_end e && c.loop-event.depth == 0) is
-    ∙ ap (λ b. b && c.loop-event.depth == 0) (sym c.ends.ensures ∙ c.if-ends.true))
-
-pub returns-else-ends : goal.returns-else-ends
-returns-else-ends g c = λ first last starts stands.
-    let is = subst (λ next. StandsLast (seen_next next) last) c.in-Some-next.is stands in
-    c.if-ends.false
+pub returns-else-is_end : goal.returns-else-is_end
+returns-else-is_end g c = λ first last starts is.
+    c.if-is_end.false
     ∙ sym
     (closed_behind seen_event c.args.rest.now c.loop-event.depth c.loop-event.event-index first last starts c.loop-event-test.false
     (c.loop-event.invariant.what_is_left (last ∷ []))
-    ∙ ap (λ e. is_end e && c.loop-event.depth == 0) is
-    ∙ ap (λ b. b && c.loop-event.depth == 0) (sym c.ends.ensures ∙ c.if-ends.false))
+    ∙ ap (λ b. b && c.loop-event.depth == 0) (sym (c.is_end.ensures last is) ∙ c.if-is_end.false))

@@ -26,7 +26,7 @@ returns-in-Err g c =
     (emits_stopped event before c.write_waiting.new.self c.in-Err.error (seen_scalars c.args.event) (sym c.error.ensures ∙ c.in_default.is)
     (subst (λ (r : Result (Unit {0}) yaml_error_t). Settles (starting before event) event r c.write_waiting.new.self) c.in-Err.is
     (subst (λ (l : List Event). Settles (started_with before l) event c.write_waiting.result c.write_waiting.new.self) c.with-self-inside.ensures
-    (c.write_waiting.ensures event refl))))
+    (c.write_waiting.ensures event (sym c.of.ensures)))))
 
 pub invariant_of-self-then-followers-eq0 : goal.invariant_of-self-then-followers-eq0
 invariant_of-self-then-followers-eq0 g c =
@@ -37,7 +37,7 @@ invariant_of-self-then-followers-eq0 g c =
     subst (λ (s : State). Settled (starting before event) event s) (sym c.self-2.view_is)
     (subst (λ (r : Result (Unit {0}) yaml_error_t). Settles (starting before event) event r c.write_waiting.new.self) c.in_default-write_waiting.is
     (subst (λ (l : List Event). Settles (started_with before l) event c.write_waiting.result c.write_waiting.new.self) c.with-self-inside.ensures
-    (c.write_waiting.ensures event refl))) in
+    (c.write_waiting.ensures event (sym c.of.ensures)))) in
     let output : c.self-2.inside.has_output ≡ true = h.set.has_output ∙ has_output_inside c.self.inside c.self.view_is c.requires in
     kept_emitting c.self-2.inside _ output refl c.self-2.invariant.room c.self-2.invariant.waits
 
@@ -50,7 +50,7 @@ returns-then-followers-eq0 g c =
     subst (λ (s : State). Settled (starting before event) event s) (sym c.self-2.view_is)
     (subst (λ (r : Result (Unit {0}) yaml_error_t). Settles (starting before event) event r c.write_waiting.new.self) c.in_default-write_waiting.is
     (subst (λ (l : List Event). Settles (started_with before l) event c.write_waiting.result c.write_waiting.new.self) c.with-self-inside.ensures
-    (c.write_waiting.ensures event refl))) in
+    (c.write_waiting.ensures event (sym c.of.ensures)))) in
     let output : c.self-2.inside.has_output ≡ true = h.set.has_output ∙ has_output_inside c.self.inside c.self.view_is c.requires in
     let empty : (length c.self-2.inside.queue.items == 0) ≡ true =
     ap (λ q. length q == 0) (sym c.as_slice.ensures.value) ∙ sym c.is_empty.ensures ∙ c.if-is_empty.true in
@@ -74,7 +74,7 @@ invariant_of-self-3 g c =
     subst (λ (s : State). Settled (starting before event) event s) (sym c.self-2.view_is)
     (subst (λ (r : Result (Unit {0}) yaml_error_t). Settles (starting before event) event r c.write_waiting.new.self) c.in_default-write_waiting.is
     (subst (λ (l : List Event). Settles (started_with before l) event c.write_waiting.result c.write_waiting.new.self) c.with-self-inside.ensures
-    (c.write_waiting.ensures event refl))) in
+    (c.write_waiting.ensures event (sym c.of.ensures)))) in
     let output : c.self-2.inside.has_output ≡ true = h.set.has_output ∙ has_output_inside c.self.inside c.self.view_is c.requires in
     let pushed = c.push_reserved.new.self.items in
     let apart : (length c.self-2.inside.queue.items == 0 && awaited event == 0) ≡ false =
@@ -100,7 +100,7 @@ returns g c =
     subst (λ (s : State). Settled (starting before event) event s) (sym c.self-2.view_is)
     (subst (λ (r : Result (Unit {0}) yaml_error_t). Settles (starting before event) event r c.write_waiting.new.self) c.in_default-write_waiting.is
     (subst (λ (l : List Event). Settles (started_with before l) event c.write_waiting.result c.write_waiting.new.self) c.with-self-inside.ensures
-    (c.write_waiting.ensures event refl))) in
+    (c.write_waiting.ensures event (sym c.of.ensures)))) in
     let output : c.self-2.inside.has_output ≡ true = h.set.has_output ∙ has_output_inside c.self.inside c.self.view_is c.requires in
     let pushed = c.push_reserved.new.self.items in
     let apart : (length c.self-2.inside.queue.items == 0 && awaited event == 0) ≡ false =

@@ -20,19 +20,19 @@ pub returns-in-Err-clause-emits : goal.returns-in-Err-clause-emits
 returns-in-Err-clause-emits g c =
     let before : State = state_of c.self.inside in
     let event = scalar (seen_scalar c.args.content.now) in
-    subst (λ (s : State). EmitsEvent s event (Err c.in-Err.error) c.write_before_scalar.new.self) c.self.view_is
-    (emits_stopped event before c.write_before_scalar.new.self c.in-Err.error c.texts_are_scalars.ensures (sym c.error.ensures ∙ c.in_default.is)
-    (subst (λ (r : Result (Unit {0}) yaml_error_t). Settles (starting before event) event r c.write_before_scalar.new.self) c.in-Err.is
-    (subst (λ (l : List Event). Settles (started_with (state_of c.self.inside) l) event c.write_before_scalar.result c.write_before_scalar.new.self)
-    c.with-self-inside-then-are_ready_by_one_more.ensures (c.write_before_scalar.ensures (seen_scalar c.args.content.now)))))
+    subst (λ (s : State). EmitsEvent s event (Err c.in-Err.error) c.write_waiting.new.self) c.self.view_is
+    (emits_stopped event before c.write_waiting.new.self c.in-Err.error c.texts_are_scalars.ensures (sym c.error.ensures ∙ c.in_default.is)
+    (subst (λ (r : Result (Unit {0}) yaml_error_t). Settles (starting before event) event r c.write_waiting.new.self) c.in-Err.is
+    (subst (λ (l : List Event). Settles (started_with (state_of c.self.inside) l) event c.write_waiting.result c.write_waiting.new.self)
+    c.with-self-inside-then-are_ready_by_one_more.ensures (c.write_waiting.ensures event refl))))
 
 pub returns-in-Err-clause-output : goal.returns-in-Err-clause-output
 returns-in-Err-clause-output g c =
     let event = scalar (seen_scalar c.args.content.now) in
-    let h : Settles (starting (state_of c.self.inside) event) event (Err c.in-Err.error) c.write_before_scalar.new.self =
-    subst (λ (r : Result (Unit {0}) yaml_error_t). Settles (starting (state_of c.self.inside) event) event r c.write_before_scalar.new.self) c.in-Err.is
-    (subst (λ (l : List Event). Settles (started_with (state_of c.self.inside) l) event c.write_before_scalar.result c.write_before_scalar.new.self)
-    c.with-self-inside-then-are_ready_by_one_more.ensures (c.write_before_scalar.ensures (seen_scalar c.args.content.now))) in
+    let h : Settles (starting (state_of c.self.inside) event) event (Err c.in-Err.error) c.write_waiting.new.self =
+    subst (λ (r : Result (Unit {0}) yaml_error_t). Settles (starting (state_of c.self.inside) event) event r c.write_waiting.new.self) c.in-Err.is
+    (subst (λ (l : List Event). Settles (started_with (state_of c.self.inside) l) event c.write_waiting.result c.write_waiting.new.self)
+    c.with-self-inside-then-are_ready_by_one_more.ensures (c.write_waiting.ensures event refl)) in
     h.set.has_output ∙ has_output_inside c.self.inside c.self.view_is c.requires
 
 pub invariant_of-self-then-are_ready_by_one_more-2 : goal.invariant_of-self-then-are_ready_by_one_more-2
@@ -42,9 +42,9 @@ invariant_of-self-then-are_ready_by_one_more-2 g c =
     let settled : State = state_of c.self-then-are_ready_by_one_more.inside in
     let h : Settled (starting before event) event settled =
     subst (λ (s : State). Settled (starting before event) event s) (sym c.self-then-are_ready_by_one_more.view_is)
-    (subst (λ (r : Result (Unit {0}) yaml_error_t). Settles (starting before event) event r c.write_before_scalar.new.self) c.in_default-write_before_scalar.is
-    (subst (λ (l : List Event). Settles (started_with (state_of c.self.inside) l) event c.write_before_scalar.result c.write_before_scalar.new.self)
-    c.with-self-inside-then-are_ready_by_one_more.ensures (c.write_before_scalar.ensures (seen_scalar c.args.content.now)))) in
+    (subst (λ (r : Result (Unit {0}) yaml_error_t). Settles (starting before event) event r c.write_waiting.new.self) c.in_default-write_waiting.is
+    (subst (λ (l : List Event). Settles (started_with (state_of c.self.inside) l) event c.write_waiting.result c.write_waiting.new.self)
+    c.with-self-inside-then-are_ready_by_one_more.ensures (c.write_waiting.ensures event refl))) in
     let output : c.self-then-are_ready_by_one_more.inside.has_output ≡ true =
     h.set.has_output ∙ has_output_inside c.self.inside c.self.view_is c.requires in
     kept_emitting c.self-then-are_ready_by_one_more.inside _ output refl c.self-then-are_ready_by_one_more.invariant.room
@@ -57,9 +57,9 @@ returns-then-are_ready_by_one_more-clause-emits g c =
     let settled : State = state_of c.self-then-are_ready_by_one_more.inside in
     let h : Settled (starting before event) event settled =
     subst (λ (s : State). Settled (starting before event) event s) (sym c.self-then-are_ready_by_one_more.view_is)
-    (subst (λ (r : Result (Unit {0}) yaml_error_t). Settles (starting before event) event r c.write_before_scalar.new.self) c.in_default-write_before_scalar.is
-    (subst (λ (l : List Event). Settles (started_with (state_of c.self.inside) l) event c.write_before_scalar.result c.write_before_scalar.new.self)
-    c.with-self-inside-then-are_ready_by_one_more.ensures (c.write_before_scalar.ensures (seen_scalar c.args.content.now)))) in
+    (subst (λ (r : Result (Unit {0}) yaml_error_t). Settles (starting before event) event r c.write_waiting.new.self) c.in_default-write_waiting.is
+    (subst (λ (l : List Event). Settles (started_with (state_of c.self.inside) l) event c.write_waiting.result c.write_waiting.new.self)
+    c.with-self-inside-then-are_ready_by_one_more.ensures (c.write_waiting.ensures event refl))) in
     let ready : are_ready_by_one_more before.held ≡ true =
     ap (λ q. are_ready_by_one_more (seen_events q)) (sym c.as_slice.ensures.value) ∙ sym c.are_ready_by_one_more.ensures ∙ c.if-are_ready_by_one_more.true in
     let alone : settled.held ≡ [] = h.held ∙ none_waits_on h.count before.held (seen_scalar c.args.content.now) ready h.wrote.waits in
@@ -76,9 +76,9 @@ returns-then-are_ready_by_one_more-clause-output g c =
     let settled : State = state_of c.self-then-are_ready_by_one_more.inside in
     let h : Settled (starting before event) event settled =
     subst (λ (s : State). Settled (starting before event) event s) (sym c.self-then-are_ready_by_one_more.view_is)
-    (subst (λ (r : Result (Unit {0}) yaml_error_t). Settles (starting before event) event r c.write_before_scalar.new.self) c.in_default-write_before_scalar.is
-    (subst (λ (l : List Event). Settles (started_with (state_of c.self.inside) l) event c.write_before_scalar.result c.write_before_scalar.new.self)
-    c.with-self-inside-then-are_ready_by_one_more.ensures (c.write_before_scalar.ensures (seen_scalar c.args.content.now)))) in
+    (subst (λ (r : Result (Unit {0}) yaml_error_t). Settles (starting before event) event r c.write_waiting.new.self) c.in_default-write_waiting.is
+    (subst (λ (l : List Event). Settles (started_with (state_of c.self.inside) l) event c.write_waiting.result c.write_waiting.new.self)
+    c.with-self-inside-then-are_ready_by_one_more.ensures (c.write_waiting.ensures event refl))) in
     let output : c.self-then-are_ready_by_one_more.inside.has_output ≡ true =
     h.set.has_output ∙ has_output_inside c.self.inside c.self.view_is c.requires in
     output
@@ -91,8 +91,8 @@ pub invariant_of-self-then-are_ready_by_one_more : goal.invariant_of-self-then-a
 invariant_of-self-then-are_ready_by_one_more g c =
     kept_emitting c.self.inside _ (has_output_inside c.self.inside c.self.view_is c.requires) refl c.self.invariant.room c.self.invariant.waits
 
-pub write_before_scalar-requires-clause-no_error : goal.write_before_scalar-requires-clause-no_error
-write_before_scalar-requires-clause-no_error g c = sym c.error.ensures ∙ c.in_default.is
+pub write_waiting-requires-clause-no_error : goal.write_waiting-requires-clause-no_error
+write_waiting-requires-clause-no_error g c = sym c.error.ensures ∙ c.in_default.is
 
 pub wait_behind-requires-clause-waits : goal.wait_behind-requires-clause-waits
 wait_behind-requires-clause-waits g c =

@@ -2,18 +2,18 @@ use Rattle.yaml_emitter.proofs.Common.{◌≤◌, drop, List, [], ◌++◌, ◌�
 use Rattle.yaml_emitter.proofs.Common.{State, machine_of}
 use Rattle.yaml_emitter.proofs.standing.{EmittingEvents.settles_failed, EmittingEvents.settles_written, KeepsSet.with_machine}
 use Rattle.yaml_emitter.proofs.standing.EmitterKept.{has_output_inside, kept_emitting, some_last, waits_without, within_count}
-use Rattle.yaml_emitter.specs.{EmitsEvent.StillWait, EmitsEvent.Settled, EmitsEvent.SettlingFailed, EmitsEvent.WroteWaiting, Queue.seen_next}
+use Rattle.yaml_emitter.specs.{EmitsEvent.StillWait, EmitsEvent.Settled, EmitsEvent.SettlingFailed, EmitsEvent.WroteWaiting}
 use Rattle.yaml_emitter.specs.StandsAfter.{FailedReady}
 use Rattle.yaml_emitter.proofs.engine.Engine.write_queue.Goals as goal
 
 pub release-requires : goal.release-requires
 release-requires g c =
-    let some = some_last (seen_next c.args.next) in
+    let some = some_last c.args.next in
     within_count seen_event c.as_slice.result.now c.in-Ok.written _ (c.in-Ok.ensures.written some.0 some.1).within c.as_slice.ensures.len
 
 pub invariant_of-self : goal.invariant_of-self
 invariant_of-self g c =
-    let some = some_last (seen_next c.args.next) in
+    let some = some_last c.args.next in
     let wrote = c.in-Ok.ensures.written some.0 some.1 in
     kept_emitting c.self.inside _ (has_output_inside c.self.inside c.self.view_is c.requires.output) refl
     (subst (λ n. 4 ≤ n) (sym c.release.ensures.room) c.self.invariant.room)
