@@ -16,6 +16,7 @@ ITEM = re.compile(
     r"(?P<kind>(?:fn|struct|enum|trait|impl|mod|use|const|static|type|ghost)\b|\w+!)"
 )
 CLAUSE = re.compile(r"\b(requires|ensures)(?: (\w+))?\s*$")
+GHOST_MEMBER = re.compile(r"\bghost \w+:\s*$")
 PAIRS = {"{": "}", "(": ")", "[": "]"}
 
 
@@ -95,6 +96,8 @@ class Item:
             if clause:
                 head_end = head_end or clause.start()
                 self.clauses.append((clause[1], clause[2] or "", text[place + 1 : end].strip()))
+            elif found[0] == "{" and self.kind == "fn" and GHOST_MEMBER.search(masked, self.start, place):
+                head_end = head_end or GHOST_MEMBER.search(masked, self.start, place).start()
             elif found[0] == "{" and self.kind not in ("use", "const", "static", "type", "ghost"):
                 self.head_end, self.body, self.end = head_end or place, (place + 1, end), end + 1
                 break
@@ -170,6 +173,11 @@ def used_names(text):
     return [re.sub(r"\s+", "", path) + name for part in [*parts, part] if part.strip() for name in used_names(part.strip())]
 
 
+def paths_of(item):
+    """Returns the paths that a `use` item names."""
+    return used_names(item.text.split("use ", 1)[1].rstrip("; \n"))
+
+
 def imported_definitions(path):
     """Returns the definitions of this repository that a file imports, by the word that names each there, with the file of each."""
     found = {}
@@ -201,12 +209,20 @@ class Crate:
             if not item.is_public:
                 continue
             if item.kind == "mod":
-                raise ValueError(f"{self.root}: a public module isn't understood here")
-            if item.kind == "use":
-                for path in used_names(item.text.split("use ", 1)[1].rstrip("; \n")):
+                self.export_module(item.name)
+            elif item.kind == "use":
+                for path in paths_of(item):
                     (self.exported if path.split("::")[0] in modules else self.handed_on).append(path)
             else:
                 self.exported.append(item.name)
+
+    def export_module(self, name):
+        """Adds what a public module exports."""
+        for item in self.items[self.folder / f"src/{name}.rt"]:
+            if item.is_public and item.kind == "use":
+                self.handed_on += paths_of(item)
+            elif item.is_public:
+                self.exported.append(f"{name}::{item.name}")
 
     def every(self):
         """Returns each item of the crate but those within others."""

@@ -23,9 +23,8 @@ use crate::settings::{EmitterSettings, settings_from};
 use crate::statuses::{BAD_EVENT, BAD_SETTINGS, DONE, NO_MEMORY, REFUSED, TOO_SMALL};
 use std::alloc::{Allocator, Global};
 use yaml_base::yaml_error_t;
-use yaml_emitter::{
-    standing_is_promised, yaml_emitter_flush, yaml_emitter_t, yaml_emitter_take_output,
-};
+use yaml_emitter::laws::standing_is_promised;
+use yaml_emitter::{yaml_emitter_flush, yaml_emitter_t, yaml_emitter_take_output};
 
 /// Makes an emitter with these settings, but for their `skip`. See the header.
 #[unsafe(no_mangle)]

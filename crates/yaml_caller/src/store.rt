@@ -10,7 +10,8 @@ use sha2::{Digest, Sha256};
 use std::alloc::Allocator;
 use thiserror::Error;
 use yaml_base::yaml_error_t;
-use yaml_read::{ReadError, read_canonical, written_values_are_read};
+use yaml_read::laws::written_values_are_read;
+use yaml_read::{ReadError, read_canonical};
 use yaml_value::{Value, write_canonical};
 
 /// A value as a store keeps it.

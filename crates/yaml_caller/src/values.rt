@@ -6,7 +6,8 @@ ghost use Rattle.yaml_value.specs.SeenValues.{seen_value};
 
 use std::alloc::Allocator;
 use yaml_base::yaml_error_t;
-use yaml_read::{ReadError, read_canonical, written_values_are_read};
+use yaml_read::laws::written_values_are_read;
+use yaml_read::{ReadError, read_canonical};
 use yaml_value::{Value, write_canonical};
 
 /// Returns whether two values have the same canonical bytes. They have exactly if they are the same value.

@@ -5,7 +5,17 @@ ghost use Rattle.yaml_dump.specs.EqualBytes as equal;
 ghost use Rattle.yaml_dump.specs.GraphTrees.{DumpedTreesUnfold};
 ghost use Rattle.yaml_dump.specs.TypedDumps.{TypedDumpsReadBack};
 
-use yaml_emitter::standing_is_promised;
+use yaml_emitter::laws::standing_is_promised;
+pub use yaml_emitter::laws::{
+    bodies_are_tidy, breaks_agree, bytes_have_one_text, canonical_bytes_read,
+    canonical_documents_have_texts, canonical_output_reads, documents_unfold, encoded_alike,
+    encodings_agree, escaped_text_reads, layout_has_one_piece_each, limit_cuts_the_output,
+    list_has_one_tree, meaning_is_kept, moves_tell, output_tells_content, pieces_stand,
+    plain_holds_no_indicator, portable_streams_read_back, portable_suffix_holds_no_flow_indicator,
+    ready_events_stay_ready, refused_exactly, standing_is_promised, streams_agree,
+    streams_read_back, texts_hold_raw, tree_is_found, whole_stream_is_ready, written_tag_reads,
+    written_tag_stays_one_word,
+};
 
 /// States the consequences of a dump, and of emitting events in order.
 pub fn dumps_tell()

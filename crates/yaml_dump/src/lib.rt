@@ -9,7 +9,7 @@ mod copies;
 mod dumps;
 mod emitting;
 mod events;
-mod laws;
+pub mod laws;
 mod outlines;
 mod same_events;
 mod steps;
@@ -17,168 +17,63 @@ mod streams;
 mod tags;
 mod walk;
 
-pub use composing::ComposeError;
-pub use composing::document_of_events;
-pub use dumps::document_events;
-pub use dumps::yaml_emitter_dump;
-pub use dumps::yaml_emitter_dump_typed;
-pub use emitting::emit_each;
-pub use emitting::emit_each_typed;
-pub use laws::dumped_trees_unfold;
-pub use laws::dumps_tell;
-pub use laws::equal_bytes_tell_graphs;
-pub use laws::equal_graphs_give_bytes;
-pub use laws::typed_dumps_read_back;
-pub use streams::yaml_emitter_close;
-pub use streams::yaml_emitter_open;
-pub use tags::YAML_MAP_TAG;
-pub use tags::YAML_SEQ_TAG;
-pub use tags::YAML_STR_TAG;
-pub use yaml_emitter::CollectionKind;
-pub use yaml_emitter::Directives;
-pub use yaml_emitter::Indicator;
-pub use yaml_emitter::Name;
-pub use yaml_emitter::NodeNumber;
-pub use yaml_emitter::Pen;
-pub use yaml_emitter::Quoted;
-pub use yaml_emitter::Quotes;
-pub use yaml_emitter::ScalarAnswer;
-pub use yaml_emitter::ScalarContent;
-pub use yaml_emitter::Settings;
-pub use yaml_emitter::YAML_ALIAS_EVENT;
-pub use yaml_emitter::YAML_ANY_BREAK;
-pub use yaml_emitter::YAML_ANY_ENCODING;
-pub use yaml_emitter::YAML_ANY_MAPPING_STYLE;
-pub use yaml_emitter::YAML_ANY_SCALAR_STYLE;
-pub use yaml_emitter::YAML_ANY_SEQUENCE_STYLE;
-pub use yaml_emitter::YAML_BLOCK_MAPPING_STYLE;
-pub use yaml_emitter::YAML_BLOCK_SEQUENCE_STYLE;
-pub use yaml_emitter::YAML_CR_BREAK;
-pub use yaml_emitter::YAML_CRLN_BREAK;
-pub use yaml_emitter::YAML_DOCUMENT_END_EVENT;
-pub use yaml_emitter::YAML_DOCUMENT_START_EVENT;
-pub use yaml_emitter::YAML_DOUBLE_QUOTED_SCALAR_STYLE;
-pub use yaml_emitter::YAML_EMITTER_ERROR;
-pub use yaml_emitter::YAML_FLOW_MAPPING_STYLE;
-pub use yaml_emitter::YAML_FLOW_SEQUENCE_STYLE;
-pub use yaml_emitter::YAML_FOLDED_SCALAR_STYLE;
-pub use yaml_emitter::YAML_LITERAL_SCALAR_STYLE;
-pub use yaml_emitter::YAML_LN_BREAK;
-pub use yaml_emitter::YAML_MAPPING_END_EVENT;
-pub use yaml_emitter::YAML_MAPPING_START_EVENT;
-pub use yaml_emitter::YAML_MEMORY_ERROR;
-pub use yaml_emitter::YAML_PLAIN_SCALAR_STYLE;
-pub use yaml_emitter::YAML_SCALAR_EVENT;
-pub use yaml_emitter::YAML_SEQUENCE_END_EVENT;
-pub use yaml_emitter::YAML_SEQUENCE_START_EVENT;
-pub use yaml_emitter::YAML_SINGLE_QUOTED_SCALAR_STYLE;
-pub use yaml_emitter::YAML_STREAM_END_EVENT;
-pub use yaml_emitter::YAML_STREAM_START_EVENT;
-pub use yaml_emitter::YAML_UTF8_ENCODING;
-pub use yaml_emitter::YAML_UTF16BE_ENCODING;
-pub use yaml_emitter::YAML_UTF16LE_ENCODING;
-pub use yaml_emitter::YAML_WRITER_ERROR;
-pub use yaml_emitter::allows_literal;
-pub use yaml_emitter::analyze_anchor;
-pub use yaml_emitter::analyze_for_style;
-pub use yaml_emitter::analyze_name;
-pub use yaml_emitter::analyze_scalar;
-pub use yaml_emitter::analyze_tag;
-pub use yaml_emitter::analyze_tag_directive;
-pub use yaml_emitter::analyze_version;
-pub use yaml_emitter::begins_blank;
-pub use yaml_emitter::bodies_are_tidy;
-pub use yaml_emitter::borrowed_text;
-pub use yaml_emitter::breaks_agree;
-pub use yaml_emitter::bytes_have_one_text;
-pub use yaml_emitter::canonical_bytes_read;
-pub use yaml_emitter::canonical_documents_have_texts;
-pub use yaml_emitter::canonical_output_reads;
-pub use yaml_emitter::copied_text;
-pub use yaml_emitter::documents_unfold;
-pub use yaml_emitter::encoded_alike;
-pub use yaml_emitter::encodings_agree;
-pub use yaml_emitter::escaped_text_reads;
-pub use yaml_emitter::hex_digit;
-pub use yaml_emitter::holds_break;
-pub use yaml_emitter::is_alpha;
-pub use yaml_emitter::is_ascii;
-pub use yaml_emitter::is_blank;
-pub use yaml_emitter::is_bom;
-pub use yaml_emitter::is_break;
-pub use yaml_emitter::is_printable;
-pub use yaml_emitter::is_simple_ascii;
-pub use yaml_emitter::is_space;
-pub use yaml_emitter::layout_has_one_piece_each;
-pub use yaml_emitter::limit_cuts_the_output;
-pub use yaml_emitter::list_has_one_tree;
-pub use yaml_emitter::meaning_is_kept;
-pub use yaml_emitter::moves_tell;
-pub use yaml_emitter::output_tells_content;
-pub use yaml_emitter::pieces_stand;
-pub use yaml_emitter::place_of;
-pub use yaml_emitter::plain_holds_no_indicator;
-pub use yaml_emitter::portable_streams_read_back;
-pub use yaml_emitter::portable_suffix_holds_no_flow_indicator;
-pub use yaml_emitter::ready_events_stay_ready;
-pub use yaml_emitter::refused_exactly;
-pub use yaml_emitter::scalar_data_t;
-pub use yaml_emitter::select_scalar_style;
-pub use yaml_emitter::standing_is_promised;
-pub use yaml_emitter::streams_agree;
-pub use yaml_emitter::streams_read_back;
-pub use yaml_emitter::tag_t;
-pub use yaml_emitter::texts_hold_raw;
-pub use yaml_emitter::tree_is_found;
-pub use yaml_emitter::whole_stream_is_ready;
-pub use yaml_emitter::write_anchor;
-pub use yaml_emitter::write_block_scalar_hints;
-pub use yaml_emitter::write_double_quoted_scalar;
-pub use yaml_emitter::write_folded_scalar;
-pub use yaml_emitter::write_literal_scalar;
-pub use yaml_emitter::write_plain_scalar;
-pub use yaml_emitter::write_simple_ascii_scalar;
-pub use yaml_emitter::write_single_quoted_scalar;
-pub use yaml_emitter::write_tag_content;
-pub use yaml_emitter::write_tag_handle;
-pub use yaml_emitter::write_tag_prefix;
-pub use yaml_emitter::write_tag_suffix;
-pub use yaml_emitter::write_to_sink;
-pub use yaml_emitter::written_tag_reads;
-pub use yaml_emitter::written_tag_stays_one_word;
-pub use yaml_emitter::yaml_break_t;
-pub use yaml_emitter::yaml_document_t;
-pub use yaml_emitter::yaml_emitter_consume_output;
-pub use yaml_emitter::yaml_emitter_delete;
-pub use yaml_emitter::yaml_emitter_emit;
-pub use yaml_emitter::yaml_emitter_emit_scalar;
-pub use yaml_emitter::yaml_emitter_flush;
-pub use yaml_emitter::yaml_emitter_initialize;
-pub use yaml_emitter::yaml_emitter_set_break;
-pub use yaml_emitter::yaml_emitter_set_canonical;
-pub use yaml_emitter::yaml_emitter_set_encoding;
-pub use yaml_emitter::yaml_emitter_set_indent;
-pub use yaml_emitter::yaml_emitter_set_indented_sequences;
-pub use yaml_emitter::yaml_emitter_set_line_breaks_1_2;
-pub use yaml_emitter::yaml_emitter_set_literal_blanks;
-pub use yaml_emitter::yaml_emitter_set_output_string;
-pub use yaml_emitter::yaml_emitter_set_portable;
-pub use yaml_emitter::yaml_emitter_set_quotes;
-pub use yaml_emitter::yaml_emitter_set_unicode;
-pub use yaml_emitter::yaml_emitter_set_width;
-pub use yaml_emitter::yaml_emitter_t;
-pub use yaml_emitter::yaml_emitter_take_output;
-pub use yaml_emitter::yaml_encoding_t;
-pub use yaml_emitter::yaml_error_t;
-pub use yaml_emitter::yaml_error_type_t;
-pub use yaml_emitter::yaml_event_t;
-pub use yaml_emitter::yaml_mapping_style_t;
-pub use yaml_emitter::yaml_node_data_t;
-pub use yaml_emitter::yaml_node_pair_t;
-pub use yaml_emitter::yaml_node_t;
-pub use yaml_emitter::yaml_scalar_style_t;
-pub use yaml_emitter::yaml_sequence_style_t;
-pub use yaml_emitter::yaml_tag_directive_t;
-pub use yaml_emitter::yaml_version_directive_t;
-pub use yaml_writer::plain_tag;
-pub use yaml_writer::typed_event;
+// Documents.
+pub use composing::{ComposeError, document_of_events};
+pub use dumps::{document_events, yaml_emitter_dump, yaml_emitter_dump_typed};
+pub use emitting::{emit_each, emit_each_typed};
+pub use streams::{yaml_emitter_close, yaml_emitter_open};
+pub use tags::{YAML_MAP_TAG, YAML_SEQ_TAG, YAML_STR_TAG};
+
+// The emitter's calls.
+pub use yaml_emitter::{
+    ScalarAnswer, ScalarContent, borrowed_text, copied_text, yaml_emitter_consume_output,
+    yaml_emitter_delete, yaml_emitter_emit, yaml_emitter_emit_scalar, yaml_emitter_flush,
+    yaml_emitter_initialize, yaml_emitter_t, yaml_emitter_take_output,
+};
+
+// Settings, each by a setter, or all by one struct.
+pub use yaml_emitter::{
+    Quotes, Settings, yaml_emitter_set_break, yaml_emitter_set_canonical,
+    yaml_emitter_set_encoding, yaml_emitter_set_indent, yaml_emitter_set_indented_sequences,
+    yaml_emitter_set_line_breaks_1_2, yaml_emitter_set_literal_blanks,
+    yaml_emitter_set_output_string, yaml_emitter_set_portable, yaml_emitter_set_quotes,
+    yaml_emitter_set_unicode, yaml_emitter_set_width,
+};
+
+// Events, documents and errors.
+pub use yaml_emitter::{
+    CollectionKind, NodeNumber, Quoted, YAML_ALIAS_EVENT, YAML_DOCUMENT_END_EVENT,
+    YAML_DOCUMENT_START_EVENT, YAML_EMITTER_ERROR, YAML_MAPPING_END_EVENT,
+    YAML_MAPPING_START_EVENT, YAML_MEMORY_ERROR, YAML_SCALAR_EVENT, YAML_SEQUENCE_END_EVENT,
+    YAML_SEQUENCE_START_EVENT, YAML_STREAM_END_EVENT, YAML_STREAM_START_EVENT, YAML_WRITER_ERROR,
+    yaml_document_t, yaml_error_t, yaml_error_type_t, yaml_event_t, yaml_node_data_t,
+    yaml_node_pair_t, yaml_node_t, yaml_tag_directive_t, yaml_version_directive_t,
+};
+
+// Styles, encodings and line breaks.
+pub use yaml_emitter::{
+    YAML_ANY_BREAK, YAML_ANY_ENCODING, YAML_ANY_MAPPING_STYLE, YAML_ANY_SCALAR_STYLE,
+    YAML_ANY_SEQUENCE_STYLE, YAML_BLOCK_MAPPING_STYLE, YAML_BLOCK_SEQUENCE_STYLE, YAML_CR_BREAK,
+    YAML_CRLN_BREAK, YAML_DOUBLE_QUOTED_SCALAR_STYLE, YAML_FLOW_MAPPING_STYLE,
+    YAML_FLOW_SEQUENCE_STYLE, YAML_FOLDED_SCALAR_STYLE, YAML_LITERAL_SCALAR_STYLE, YAML_LN_BREAK,
+    YAML_PLAIN_SCALAR_STYLE, YAML_SINGLE_QUOTED_SCALAR_STYLE, YAML_UTF8_ENCODING,
+    YAML_UTF16BE_ENCODING, YAML_UTF16LE_ENCODING, yaml_break_t, yaml_encoding_t,
+    yaml_mapping_style_t, yaml_scalar_style_t, yaml_sequence_style_t,
+};
+
+// Character classes.
+pub use yaml_emitter::{
+    hex_digit, is_alpha, is_ascii, is_blank, is_bom, is_break, is_printable, is_space,
+};
+
+// The parts that write a piece of text, for a caller that puts pieces together.
+pub use yaml_emitter::{
+    Directives, Indicator, Name, Pen, allows_literal, analyze_anchor, analyze_for_style,
+    analyze_name, analyze_scalar, analyze_tag, analyze_tag_directive, analyze_version,
+    begins_blank, holds_break, is_simple_ascii, place_of, scalar_data_t, select_scalar_style,
+    tag_t, write_anchor, write_block_scalar_hints, write_double_quoted_scalar, write_folded_scalar,
+    write_literal_scalar, write_plain_scalar, write_simple_ascii_scalar,
+    write_single_quoted_scalar, write_tag_content, write_tag_handle, write_tag_prefix,
+    write_tag_suffix, write_to_sink,
+};
+pub use yaml_writer::{plain_tag, typed_event};

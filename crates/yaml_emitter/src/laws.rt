@@ -12,6 +12,17 @@ ghost use Rattle.yaml_emitter.specs.StandsAfter.{StandsAfter};
 ghost use Rattle.yaml_emitter.specs.State.{State};
 ghost use Rattle.yaml_emitter.specs.Uncut.{OutputReads, OutputReadsBack, OutputTells, OutputTellsContent};
 
+pub use yaml_base::{
+    breaks_agree, bytes_have_one_text, canonical_documents_have_texts, documents_unfold,
+    encodings_agree, layout_has_one_piece_each, limit_cuts_the_output, list_has_one_tree,
+    pieces_stand, plain_holds_no_indicator, ready_events_stay_ready, refused_exactly,
+    tree_is_found, whole_stream_is_ready,
+};
+pub use yaml_mark::{
+    escaped_text_reads, portable_suffix_holds_no_flow_indicator, written_tag_reads,
+    written_tag_stays_one_word,
+};
+
 /// States that every scalar in the layout of an accepted list reads back: its text, read at its place by the rules of its
 /// style, gives exactly its value, and each nonempty line of it after the first begins with at least two spaces.
 pub fn meaning_is_kept()

@@ -12,7 +12,7 @@ mod engine;
 mod frames;
 mod history;
 mod kinds;
-mod laws;
+pub mod laws;
 mod machine;
 mod nodes;
 mod place;
@@ -24,149 +24,61 @@ mod spares;
 mod stage;
 mod writing;
 
-pub use borrowed::ScalarAnswer;
-pub use borrowed::copied_text;
-pub use borrowed::yaml_emitter_emit_scalar;
-pub use calls::yaml_emitter_consume_output;
-pub use calls::yaml_emitter_emit;
-pub use calls::yaml_emitter_flush;
-pub use calls::yaml_emitter_take_output;
-pub use emitter::yaml_emitter_initialize;
-pub use emitter::yaml_emitter_t;
-pub use laws::bodies_are_tidy;
-pub use laws::canonical_bytes_read;
-pub use laws::canonical_output_reads;
-pub use laws::encoded_alike;
-pub use laws::meaning_is_kept;
-pub use laws::moves_tell;
-pub use laws::output_tells_content;
-pub use laws::portable_streams_read_back;
-pub use laws::standing_is_promised;
-pub use laws::streams_agree;
-pub use laws::streams_read_back;
-pub use laws::texts_hold_raw;
+// The emitter's calls.
+pub use borrowed::{ScalarAnswer, copied_text, yaml_emitter_emit_scalar};
+pub use calls::{
+    yaml_emitter_consume_output, yaml_emitter_emit, yaml_emitter_flush, yaml_emitter_take_output,
+};
+pub use emitter::{yaml_emitter_initialize, yaml_emitter_t};
 pub use setters::yaml_emitter_delete;
-pub use setters::yaml_emitter_set_break;
-pub use setters::yaml_emitter_set_canonical;
-pub use setters::yaml_emitter_set_encoding;
-pub use setters::yaml_emitter_set_indent;
-pub use setters::yaml_emitter_set_indented_sequences;
-pub use setters::yaml_emitter_set_line_breaks_1_2;
-pub use setters::yaml_emitter_set_literal_blanks;
-pub use setters::yaml_emitter_set_output_string;
-pub use setters::yaml_emitter_set_portable;
-pub use setters::yaml_emitter_set_quotes;
-pub use setters::yaml_emitter_set_unicode;
-pub use setters::yaml_emitter_set_width;
-pub use settings::Quotes;
-pub use settings::Settings;
-pub use writing::ScalarContent;
-pub use writing::borrowed_text;
-pub use yaml_base::CollectionKind;
-pub use yaml_base::NodeNumber;
-pub use yaml_base::Quoted;
-pub use yaml_base::YAML_ALIAS_EVENT;
-pub use yaml_base::YAML_ANY_BREAK;
-pub use yaml_base::YAML_ANY_ENCODING;
-pub use yaml_base::YAML_ANY_MAPPING_STYLE;
-pub use yaml_base::YAML_ANY_SCALAR_STYLE;
-pub use yaml_base::YAML_ANY_SEQUENCE_STYLE;
-pub use yaml_base::YAML_BLOCK_MAPPING_STYLE;
-pub use yaml_base::YAML_BLOCK_SEQUENCE_STYLE;
-pub use yaml_base::YAML_CR_BREAK;
-pub use yaml_base::YAML_CRLN_BREAK;
-pub use yaml_base::YAML_DOCUMENT_END_EVENT;
-pub use yaml_base::YAML_DOCUMENT_START_EVENT;
-pub use yaml_base::YAML_DOUBLE_QUOTED_SCALAR_STYLE;
-pub use yaml_base::YAML_EMITTER_ERROR;
-pub use yaml_base::YAML_FLOW_MAPPING_STYLE;
-pub use yaml_base::YAML_FLOW_SEQUENCE_STYLE;
-pub use yaml_base::YAML_FOLDED_SCALAR_STYLE;
-pub use yaml_base::YAML_LITERAL_SCALAR_STYLE;
-pub use yaml_base::YAML_LN_BREAK;
-pub use yaml_base::YAML_MAPPING_END_EVENT;
-pub use yaml_base::YAML_MAPPING_START_EVENT;
-pub use yaml_base::YAML_MEMORY_ERROR;
-pub use yaml_base::YAML_PLAIN_SCALAR_STYLE;
-pub use yaml_base::YAML_SCALAR_EVENT;
-pub use yaml_base::YAML_SEQUENCE_END_EVENT;
-pub use yaml_base::YAML_SEQUENCE_START_EVENT;
-pub use yaml_base::YAML_SINGLE_QUOTED_SCALAR_STYLE;
-pub use yaml_base::YAML_STREAM_END_EVENT;
-pub use yaml_base::YAML_STREAM_START_EVENT;
-pub use yaml_base::YAML_UTF8_ENCODING;
-pub use yaml_base::YAML_UTF16BE_ENCODING;
-pub use yaml_base::YAML_UTF16LE_ENCODING;
-pub use yaml_base::YAML_WRITER_ERROR;
-pub use yaml_base::breaks_agree;
-pub use yaml_base::bytes_have_one_text;
-pub use yaml_base::canonical_documents_have_texts;
-pub use yaml_base::documents_unfold;
-pub use yaml_base::encodings_agree;
-pub use yaml_base::hex_digit;
-pub use yaml_base::is_alpha;
-pub use yaml_base::is_ascii;
-pub use yaml_base::is_blank;
-pub use yaml_base::is_bom;
-pub use yaml_base::is_break;
-pub use yaml_base::is_printable;
-pub use yaml_base::is_space;
-pub use yaml_base::layout_has_one_piece_each;
-pub use yaml_base::limit_cuts_the_output;
-pub use yaml_base::list_has_one_tree;
-pub use yaml_base::pieces_stand;
-pub use yaml_base::place_of;
-pub use yaml_base::plain_holds_no_indicator;
-pub use yaml_base::ready_events_stay_ready;
-pub use yaml_base::refused_exactly;
-pub use yaml_base::tree_is_found;
-pub use yaml_base::whole_stream_is_ready;
-pub use yaml_base::write_to_sink;
-pub use yaml_base::yaml_break_t;
-pub use yaml_base::yaml_document_t;
-pub use yaml_base::yaml_encoding_t;
-pub use yaml_base::yaml_error_t;
-pub use yaml_base::yaml_error_type_t;
-pub use yaml_base::yaml_event_t;
-pub use yaml_base::yaml_mapping_style_t;
-pub use yaml_base::yaml_node_data_t;
-pub use yaml_base::yaml_node_pair_t;
-pub use yaml_base::yaml_node_t;
-pub use yaml_base::yaml_scalar_style_t;
-pub use yaml_base::yaml_sequence_style_t;
-pub use yaml_base::yaml_tag_directive_t;
-pub use yaml_base::yaml_version_directive_t;
-pub use yaml_mark::Directives;
-pub use yaml_mark::Name;
-pub use yaml_mark::analyze_anchor;
-pub use yaml_mark::analyze_name;
-pub use yaml_mark::analyze_tag;
-pub use yaml_mark::analyze_tag_directive;
-pub use yaml_mark::analyze_version;
-pub use yaml_mark::escaped_text_reads;
-pub use yaml_mark::portable_suffix_holds_no_flow_indicator;
-pub use yaml_mark::tag_t;
-pub use yaml_mark::write_anchor;
-pub use yaml_mark::write_tag_content;
-pub use yaml_mark::write_tag_handle;
-pub use yaml_mark::write_tag_prefix;
-pub use yaml_mark::write_tag_suffix;
-pub use yaml_mark::written_tag_reads;
-pub use yaml_mark::written_tag_stays_one_word;
-pub use yaml_pen::Indicator;
-pub use yaml_pen::Pen;
-pub use yaml_scalar::allows_literal;
-pub use yaml_scalar::analyze_for_style;
-pub use yaml_scalar::analyze_scalar;
-pub use yaml_scalar::begins_blank;
-pub use yaml_scalar::holds_break;
-pub use yaml_scalar::is_simple_ascii;
-pub use yaml_scalar::scalar_data_t;
-pub use yaml_scalar::select_scalar_style;
-pub use yaml_scalar::write_block_scalar_hints;
-pub use yaml_scalar::write_double_quoted_scalar;
-pub use yaml_scalar::write_folded_scalar;
-pub use yaml_scalar::write_literal_scalar;
-pub use yaml_scalar::write_plain_scalar;
-pub use yaml_scalar::write_simple_ascii_scalar;
-pub use yaml_scalar::write_single_quoted_scalar;
+pub use writing::{ScalarContent, borrowed_text};
+
+// Settings, each by a setter, or all by one struct.
+pub use setters::{
+    yaml_emitter_set_break, yaml_emitter_set_canonical, yaml_emitter_set_encoding,
+    yaml_emitter_set_indent, yaml_emitter_set_indented_sequences, yaml_emitter_set_line_breaks_1_2,
+    yaml_emitter_set_literal_blanks, yaml_emitter_set_output_string, yaml_emitter_set_portable,
+    yaml_emitter_set_quotes, yaml_emitter_set_unicode, yaml_emitter_set_width,
+};
+pub use settings::{Quotes, Settings};
+
+// Events, documents and errors.
+pub use yaml_base::{
+    CollectionKind, NodeNumber, Quoted, YAML_ALIAS_EVENT, YAML_DOCUMENT_END_EVENT,
+    YAML_DOCUMENT_START_EVENT, YAML_EMITTER_ERROR, YAML_MAPPING_END_EVENT,
+    YAML_MAPPING_START_EVENT, YAML_MEMORY_ERROR, YAML_SCALAR_EVENT, YAML_SEQUENCE_END_EVENT,
+    YAML_SEQUENCE_START_EVENT, YAML_STREAM_END_EVENT, YAML_STREAM_START_EVENT, YAML_WRITER_ERROR,
+    yaml_document_t, yaml_error_t, yaml_error_type_t, yaml_event_t, yaml_node_data_t,
+    yaml_node_pair_t, yaml_node_t, yaml_tag_directive_t, yaml_version_directive_t,
+};
+
+// Styles, encodings and line breaks.
+pub use yaml_base::{
+    YAML_ANY_BREAK, YAML_ANY_ENCODING, YAML_ANY_MAPPING_STYLE, YAML_ANY_SCALAR_STYLE,
+    YAML_ANY_SEQUENCE_STYLE, YAML_BLOCK_MAPPING_STYLE, YAML_BLOCK_SEQUENCE_STYLE, YAML_CR_BREAK,
+    YAML_CRLN_BREAK, YAML_DOUBLE_QUOTED_SCALAR_STYLE, YAML_FLOW_MAPPING_STYLE,
+    YAML_FLOW_SEQUENCE_STYLE, YAML_FOLDED_SCALAR_STYLE, YAML_LITERAL_SCALAR_STYLE, YAML_LN_BREAK,
+    YAML_PLAIN_SCALAR_STYLE, YAML_SINGLE_QUOTED_SCALAR_STYLE, YAML_UTF8_ENCODING,
+    YAML_UTF16BE_ENCODING, YAML_UTF16LE_ENCODING, yaml_break_t, yaml_encoding_t,
+    yaml_mapping_style_t, yaml_scalar_style_t, yaml_sequence_style_t,
+};
+
+// Character classes.
+pub use yaml_base::{
+    hex_digit, is_alpha, is_ascii, is_blank, is_bom, is_break, is_printable, is_space,
+};
+
+// The parts that write a piece of text, for a caller that puts pieces together.
+pub use yaml_base::{place_of, write_to_sink};
+pub use yaml_mark::{
+    Directives, Name, analyze_anchor, analyze_name, analyze_tag, analyze_tag_directive,
+    analyze_version, tag_t, write_anchor, write_tag_content, write_tag_handle, write_tag_prefix,
+    write_tag_suffix,
+};
+pub use yaml_pen::{Indicator, Pen};
+pub use yaml_scalar::{
+    allows_literal, analyze_for_style, analyze_scalar, begins_blank, holds_break, is_simple_ascii,
+    scalar_data_t, select_scalar_style, write_block_scalar_hints, write_double_quoted_scalar,
+    write_folded_scalar, write_literal_scalar, write_plain_scalar, write_simple_ascii_scalar,
+    write_single_quoted_scalar,
+};

@@ -6,7 +6,7 @@ mod cuts;
 mod error;
 mod escapes;
 mod expecting;
-mod laws;
+pub mod laws;
 mod lexemes;
 mod names;
 mod places;
@@ -20,7 +20,6 @@ mod words;
 
 pub use error::{JsonError, StreamError};
 pub use expecting::Expected;
-pub use laws::{expected_is_possible, faults_differ};
 pub use settings::JsonSettings;
 pub use several::write_json_texts;
 pub use stream::send_json_texts;

@@ -6,7 +6,7 @@ mod documents;
 mod errors;
 mod heads;
 mod keys;
-mod laws;
+pub mod laws;
 mod leads;
 mod levels;
 mod names;
@@ -20,10 +20,6 @@ mod unique;
 
 pub use documents::read_document;
 pub use errors::ReadError;
-pub use laws::{
-    bytes_have_one_place, dumped_bytes_tell_graphs, texts_begin_up_to_places,
-    words_are_those_of_texts, written_values_are_read,
-};
 pub use reading::read_canonical;
 pub use unique::{has_unique_keys, read_canonical_with};
 pub use yaml_value::{Keys, Value};

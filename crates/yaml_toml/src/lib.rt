@@ -3,14 +3,13 @@
 #![tactic(auto)]
 
 mod error;
-mod laws;
+pub mod laws;
 mod scalars;
 mod settings;
 mod texts;
 mod walk;
 
 pub use error::TomlError;
-pub use laws::{documents_are_read, floats_are_numbers};
 pub use settings::TomlSettings;
 pub use texts::{write_toml, yaml_from_toml};
 pub use yaml_writer::{

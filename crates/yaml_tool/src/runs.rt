@@ -12,7 +12,8 @@ use crate::scripts::NumberedEvent;
 use std::alloc::Allocator;
 use std::io::{Read, Write};
 use yaml_base::write_to_sink;
-use yaml_emitter::{standing_is_promised, yaml_emitter_emit, yaml_emitter_flush, yaml_emitter_t};
+use yaml_emitter::laws::standing_is_promised;
+use yaml_emitter::{yaml_emitter_emit, yaml_emitter_flush, yaml_emitter_t};
 
 /// Reads a script to its end, emits its events, and writes the output, even if an event was refused.
 ///

@@ -3,7 +3,7 @@
 
 mod events;
 mod keys;
-mod laws;
+pub mod laws;
 mod levels;
 mod size;
 mod tags;
@@ -12,7 +12,6 @@ mod walk;
 mod writing;
 
 pub use keys::Keys;
-pub use laws::equal_bytes_equal_values;
 pub use levels::Level;
 pub use value::Value;
 pub use writing::{canonical_settings, write_canonical};

@@ -10,7 +10,7 @@ mod ends;
 mod floats;
 mod giving;
 mod headings;
-mod laws;
+pub mod laws;
 mod numbers;
 mod plain_numbers;
 mod plain_tags;
@@ -31,12 +31,6 @@ pub use dates::{Date, NoTimestamp};
 pub use ends::DocumentEnd;
 pub use floats::SpecialFloat;
 pub use headings::comment_lines;
-pub use laws::{
-    dates_are_read, headings_are_passed_over, numbers_are_read, plain_tags_are_all,
-    plain_tags_are_read, plain_texts_are_texts, special_floats_are_read, surely_text_is_text,
-    timestamps_are_read, typed_events_are_read, written_dates_are_plain, written_numbers_are_read,
-    written_timestamps_are_plain,
-};
 pub use numbers::{Number, Sign, number_of};
 pub use plain_tags::plain_tag;
 pub use settings::value_settings;

@@ -2,7 +2,7 @@
 use super::Example;
 use super::memory::{Row, check_row};
 use yaml_test_allocator::Refusing;
-use yaml_value::equal_bytes_equal_values;
+use yaml_value::laws::equal_bytes_equal_values;
 
 const WRITTEN: &[Row] = &[
     (Example::Null, "---\n!!null \"null\"\n"),
