@@ -13,5 +13,5 @@ pub use cycles::cycle_written;
 pub use graphs::same_graph;
 pub use pairs::write_pair;
 pub use service::{Service, service_yaml};
-pub use store::{Entry, OpenError, entries_are_values, open, seal, sealed_and_opened};
+pub use store::{Entry, OpenError, SealError, entries_are_values, open, seal, sealed_and_opened};
 pub use values::{same_bytes, written_and_read};

@@ -2,17 +2,18 @@
 ghost use Rattle.std.specs.Prelude.{◌≡◌, ◌≢◌, ◌↔◌, ◌⊎◌, ◌<◌, Decides, Err, IfErr, IfOk, List, ℕ};
 ghost use Rattle.sha2.specs.Sha256.{sha256};
 ghost use Rattle.yaml_base.specs.values.TypedValues.{TypedValue, most_nested, nesting};
+ghost use Rattle.yaml_read.specs.AllowedKeys.{KeysAllow};
 ghost use Rattle.yaml_read.specs.Readable.{CanBeRead};
 ghost use Rattle.yaml_value.specs.SeenValues.{seen_value};
-ghost use Rattle.yaml_caller.specs.Store.{IsEntryOf};
+ghost use Rattle.yaml_caller.specs.Store.{IsEntryOf, IsSealErrorOf, TellsPlace};
 
 use sha2::{Digest, Sha256};
 use std::alloc::Allocator;
 use thiserror::Error;
 use yaml_base::yaml_error_t;
 use yaml_read::laws::written_values_are_read;
-use yaml_read::{ReadError, read_canonical};
-use yaml_value::{Value, write_canonical};
+use yaml_read::{ReadError, has_unique_keys, read_canonical_with};
+use yaml_value::{Keys, Value, write_canonical};
 
 /// A value as a store keeps it.
 #[derive(Drop)]
@@ -21,6 +22,20 @@ pub struct Entry<A: Allocator> {
     pub bytes: Vec<u8, A>,
     /// The SHA-256 of these bytes.
     pub digest: [u8; 32],
+}
+
+/// The reason why a value isn't sealed.
+#[derive(Clone, Copy, Debug, Drop, Error, PartialEq, Eq)]
+pub enum SealError {
+    /// More than 1,000 lists and maps lie within one another.
+    #[error("lists and maps nest too deep")]
+    TooDeep,
+    /// A map has a key twice, and keys must differ.
+    #[error("a map has a key twice")]
+    DuplicateKey,
+    /// An allocation failed.
+    #[error("out of memory")]
+    Memory,
 }
 
 /// The reason why an entry isn't opened.
@@ -34,17 +49,53 @@ pub enum OpenError {
     NotRead(ReadError),
 }
 
-/// Returns the entry of a value.
+/// Returns why a value isn't sealed if writing it, or comparing its keys, gives this error.
+fn seal_error(error: yaml_error_t) -> SealError
+    ensures too_deep { (result ≡ SealError.TooDeep) ↔ (error ≡ yaml_error_t.TooDeep) }
+    ensures others { (result ≡ SealError.TooDeep) ⊎ (result ≡ SealError.Memory) }
+{
+    match error {
+        yaml_error_t::TooDeep => SealError::TooDeep,
+        _ => SealError::Memory,
+    }
+}
+
+/// Checks that no map of a value has a key twice, if keys must differ.
+fn check_keys<A: Allocator + Copy>(alloc: A, value: &Value<A>, keys: Keys) -> Result<(), SealError>
+    ensures keys { IfOk result (λ done. KeysAllow keys (seen_value value.now)) }
+    ensures failed { IfErr result (IsSealErrorOf keys (seen_value value.now)) }
+{
+    match keys {
+        Keys::Unique => match has_unique_keys(alloc, value) {
+            Ok(true) => Ok(()),
+            Ok(false) => Err(SealError::DuplicateKey),
+            Err(error) => Err(seal_error(error)),
+        },
+        Keys::MayRepeat => Ok(()),
+    }
+}
+
+/// Returns the entry of a value. If keys must differ, a value in which a map has a key twice has none: readers of YAML disagree on it.
 ///
 /// # Errors
-/// `TooDeep` if more than 1,000 lists and maps lie within one another. `Memory` if an allocation fails.
-pub fn seal<A: Allocator + Copy>(alloc: A, value: &Value<A>) -> Result<Entry<A>, yaml_error_t>
+/// `TooDeep` exactly if more than 1,000 lists and maps lie within one another, also if a map has a key twice. `DuplicateKey` only if
+/// keys must differ and a map has a key twice. `Memory` if an allocation fails.
+pub fn seal<A: Allocator + Copy>(
+    alloc: A,
+    value: &Value<A>,
+    keys: Keys,
+) -> Result<Entry<A>, SealError>
     ensures sealed { IfOk result (λ entry. IsEntryOf (seen_value value.now) entry.bytes.items entry.digest) }
-    ensures too_deep { (result ≡ Err yaml_error_t.TooDeep) ↔ (most_nested < nesting (seen_value value.now)) }
-    ensures failed { IfErr result (λ error. (error ≡ yaml_error_t.TooDeep) ⊎ (error ≡ yaml_error_t.Memory)) }
+    ensures keys { IfOk result (λ entry. KeysAllow keys (seen_value value.now)) }
+    ensures too_deep { (result ≡ Err SealError.TooDeep) ↔ (most_nested < nesting (seen_value value.now)) }
+    ensures failed { IfErr result (IsSealErrorOf keys (seen_value value.now)) }
 {
-    match write_canonical(alloc, value) {
-        Ok(bytes) => {
+    let bytes = match write_canonical(alloc, value) {
+        Ok(bytes) => bytes,
+        Err(error) => return Err(seal_error(error)),
+    };
+    match check_keys(alloc, value, keys) {
+        Ok(()) => {
             let digest = Sha256::digest(bytes.as_slice());
             Ok(Entry { bytes, digest })
         }
@@ -60,43 +111,50 @@ fn has_digest(bytes: &[u8], digest: &[u8; 32]) -> bool
 }
 
 /// Returns the value of an entry. The entry is the one that `seal` makes of this value: neither other bytes nor another
-/// digest are accepted.
+/// digest are accepted. If keys must differ, nor is a value in which a map has a key twice.
 ///
 /// # Errors
 /// `DigestDiffers` exactly if the digest isn't the SHA-256 of the bytes. `NotRead` if the bytes aren't the canonical
-/// bytes of a value, or an allocation fails.
-pub fn open<A: Allocator + Copy>(alloc: A, entry: &Entry<A>) -> Result<Value<A>, OpenError>
+/// bytes of a value, keys must differ and a map has a key twice, or an allocation fails; as `read_canonical_with`, whose error it holds.
+pub fn open<A: Allocator + Copy>(
+    alloc: A,
+    entry: &Entry<A>,
+    keys: Keys,
+) -> Result<Value<A>, OpenError>
     ensures opened { IfOk result (λ value. IsEntryOf (seen_value value) entry.now.bytes.items entry.now.digest) }
+    ensures keys { IfOk result (λ value. KeysAllow keys (seen_value value)) }
     ensures differs { (result ≡ Err OpenError.DigestDiffers) ↔ (entry.now.digest ≢ sha256 entry.now.bytes.items) }
     ensures complete { IfErr result (λ error. (error ≡ OpenError.NotRead ReadError.Memory)
-        ⊎ ((value : TypedValue) → CanBeRead value → IsEntryOf value entry.now.bytes.items entry.now.digest → ⊥)) }
+        ⊎ ((value : TypedValue) → CanBeRead value → KeysAllow keys value → IsEntryOf value entry.now.bytes.items entry.now.digest → ⊥)) }
+    ensures placed { IfErr result (TellsPlace keys entry.now.bytes.items) }
 {
     if !has_digest(entry.bytes.as_slice(), &entry.digest) {
         return Err(OpenError::DigestDiffers);
     }
-    match read_canonical(alloc, entry.bytes.as_slice()) {
+    match read_canonical_with(alloc, entry.bytes.as_slice(), keys) {
         Ok(value) => Ok(value),
         Err(error) => Err(OpenError::NotRead(error)),
     }
 }
 
-/// Seals a value and opens the entry. The value that is opened is the same; only want of memory keeps it from being opened.
+/// Seals a value and opens the entry, both by the same `keys`. The value that is opened is the same; only want of memory keeps it from
+/// being opened.
 ///
 /// # Errors
-/// `TooDeep` if more than 1,000 lists and maps of the value lie within one another, and `Memory` if an allocation
-/// fails while it is sealed. The inner error is that of opening: `NotRead(ReadError::Memory)`, if an allocation fails.
+/// As `seal`. The inner error is that of opening: `NotRead(ReadError::Memory)`, if an allocation fails.
 pub fn sealed_and_opened<A: Allocator + Copy>(
     alloc: A,
     value: &Value<A>,
-) -> Result<Result<Value<A>, OpenError>, yaml_error_t>
+    keys: Keys,
+) -> Result<Result<Value<A>, OpenError>, SealError>
     ensures same { IfOk result (λ opened. IfOk opened (λ found. seen_value found ≡ seen_value value.now)) }
     ensures opened { IfOk result (λ opened. IfErr opened (λ error. error ≡ OpenError.NotRead ReadError.Memory)) }
-    ensures failed { IfErr result (λ error. (error ≡ yaml_error_t.TooDeep) ⊎ (error ≡ yaml_error_t.Memory)) }
+    ensures failed { IfErr result (IsSealErrorOf keys (seen_value value.now)) }
 {
-    let entry = seal(alloc, value)?;
+    let entry = seal(alloc, value, keys)?;
     // A law: a value that was written can be read.
     written_values_are_read::<A>();
-    Ok(open(alloc, &entry))
+    Ok(open(alloc, &entry, keys))
 }
 
 /// States that a value has one entry, and an entry one value.

@@ -13,6 +13,6 @@ pub returns-clause-opened : goal.returns-clause-opened
 returns-clause-opened g c =
     let entry = c.in_ok-entry.entry in
     let sealed = c.in_ok-entry.ensures.sealed in
-    only_memory (seen_value c.args.value.now) entry.bytes.items entry.digest c.open.result sealed
+    only_memory c.args.keys (seen_value c.args.value.now) entry.bytes.items entry.digest c.open.result sealed c.in_ok-entry.ensures.keys
     (c.written_values_are_read.ensures.readable c.args.value.now entry.bytes.items sealed.written
     (λ deep. no_error entry (c.in_ok-entry.ensures.too_deep.1 deep))) c.open.ensures.complete

@@ -2,18 +2,17 @@
 use crate::tests::equal;
 use std::alloc::Global;
 use std::process::Abort;
-use yaml_caller::{Entry, OpenError, open, seal};
-use yaml_read::{ReadError, Value};
-use yaml_value::yaml_error_t;
+use yaml_caller::{Entry, OpenError, SealError, open, seal};
+use yaml_read::{Keys, ReadError, Value};
 
 /// Returns the entry of an integer.
-fn sealed_integer(alloc: Global, number: i64) -> Result<Entry<Global>, yaml_error_t> {
-    seal(alloc, &Value::Int(number))
+fn sealed_integer(alloc: Global, number: i64) -> Result<Entry<Global>, SealError> {
+    seal(alloc, &Value::Int(number), Keys::Unique)
 }
 
 /// Returns the integer of an entry; `None` if it holds another value.
 fn opened_integer(alloc: Global, entry: &Entry<Global>) -> Result<Option<i64>, OpenError> {
-    match &open(alloc, entry)? {
+    match &open(alloc, entry, Keys::Unique)? {
         Value::Int(number) => Ok(Some(*number)),
         _ => Ok(None),
     }
@@ -71,4 +70,44 @@ fn what_isnt_canonical_is_refused_under_its_digest(rt: HostRuntime) {
     let wanted = OpenError::NotRead(ReadError::NotCanonical { line: 2, column: 7 });
     let bytes = b"---\n!!int \"07\"\n";
     check_refused(&rt, rt.alloc(), bytes, DIGEST_OF_07, wanted);
+}
+
+/// A map that has the key 7 twice. The second begins at line 5, column 5.
+const REPEATING: &[u8] =
+    b"---\n!!map {\n  ? !!int \"7\"\n  : !!int \"1\",\n  ? !!int \"7\"\n  : !!int \"2\",\n}\n";
+
+/// Its SHA-256, by `sha256sum`.
+const DIGEST_OF_REPEATING: [u8; 32] = [
+    0x06, 0xbc, 0x8e, 0x98, 0xe6, 0x26, 0xc3, 0xdb, 0xd6, 0x8b, 0x24, 0x7b, 0x63, 0xa1, 0x09, 0xea,
+    0x6f, 0x69, 0xe0, 0xfc, 0x78, 0xed, 0xd1, 0x42, 0x97, 0x9c, 0xfe, 0x73, 0xcd, 0x11, 0xae, 0x91,
+];
+
+/// Returns this map.
+fn repeating(rt: &impl Abort, alloc: Global) -> Value<Global> {
+    let first = (Value::Int(7), Value::Int(1));
+    let second = (Value::Int(7), Value::Int(2));
+    Value::Map(vec![in alloc; first, second].expect(rt, "no memory"))
+}
+
+#[test]
+fn a_map_with_a_key_twice_is_sealed_if_keys_may_repeat(rt: HostRuntime) {
+    let value = repeating(&rt, rt.alloc());
+    let refused = seal(rt.alloc(), &value, Keys::Unique).err();
+    equal(&rt, &refused, &Some(SealError::DuplicateKey));
+    let entry = seal(rt.alloc(), &value, Keys::MayRepeat).expect(&rt, "not sealed");
+    equal(&rt, &entry.bytes.as_slice(), &REPEATING);
+    equal(&rt, &entry.digest, &DIGEST_OF_REPEATING);
+    drop(value);
+}
+
+#[test]
+fn a_map_with_a_key_twice_is_opened_if_keys_may_repeat(rt: HostRuntime) {
+    let bytes = Vec::from_slice(rt.alloc(), REPEATING).expect(&rt, "no memory");
+    let digest = DIGEST_OF_REPEATING;
+    let entry = Entry { bytes, digest };
+    let reason = ReadError::DuplicateKey { line: 5, column: 5 };
+    let refused = open(rt.alloc(), &entry, Keys::Unique).err();
+    equal(&rt, &refused, &Some(OpenError::NotRead(reason)));
+    let opened = open(rt.alloc(), &entry, Keys::MayRepeat).err();
+    equal(&rt, &opened, &None);
 }
