@@ -149,6 +149,7 @@ pub fn sealed_and_opened<A: Allocator + Copy>(
 ) -> Result<Result<Value<A>, OpenError>, SealError>
     ensures same { IfOk result (λ opened. IfOk opened (λ found. seen_value found ≡ seen_value value.now)) }
     ensures opened { IfOk result (λ opened. IfErr opened (λ error. error ≡ OpenError.NotRead ReadError.Memory)) }
+    ensures too_deep { (result ≡ Err SealError.TooDeep) ↔ (most_nested < nesting (seen_value value.now)) }
     ensures failed { IfErr result (IsSealErrorOf keys (seen_value value.now)) }
 {
     let entry = seal(alloc, value, keys)?;
