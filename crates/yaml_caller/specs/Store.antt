@@ -21,7 +21,7 @@ IsSealErrorOf mode value TooDeep = most_nested < nesting value
 IsSealErrorOf mode value DuplicateKey = KeysAllow mode value → ⊥
 IsSealErrorOf mode value Memory = Unit {0}
 
--- True of an error of reading if its place is that of the fault in the bytes, and of `DigestDiffers`, which has none.
+-- True of `DigestDiffers`, and of an error of reading that has its place in the bytes.
 abbrev pub TellsPlace : Keys → (bytes : List ℕ) → OpenError → Type 0
 TellsPlace mode bytes DigestDiffers = Unit {0}
 TellsPlace mode bytes (NotRead error) = IsPlacedBy mode bytes error

@@ -75,7 +75,8 @@ fn check_keys<A: Allocator + Copy>(alloc: A, value: &Value<A>, keys: Keys) -> Re
     }
 }
 
-/// Returns the entry of a value. If keys must differ, a value in which a map has a key twice has none: readers of YAML disagree on it.
+/// Returns the entry of a value. If keys must differ, it refuses a value in which a map has a key twice, on which readers of YAML
+/// disagree.
 ///
 /// # Errors
 /// `TooDeep` exactly if more than 1,000 lists and maps lie within one another, also if a map has a key twice. `DuplicateKey` only if
@@ -111,11 +112,11 @@ fn has_digest(bytes: &[u8], digest: &[u8; 32]) -> bool
 }
 
 /// Returns the value of an entry. The entry is the one that `seal` makes of this value: neither other bytes nor another
-/// digest are accepted. If keys must differ, nor is a value in which a map has a key twice.
+/// digest are accepted, nor a map that has a key twice if keys must differ.
 ///
 /// # Errors
-/// `DigestDiffers` exactly if the digest isn't the SHA-256 of the bytes. `NotRead` if the bytes aren't the canonical
-/// bytes of a value, keys must differ and a map has a key twice, or an allocation fails; as `read_canonical_with`, whose error it holds.
+/// `DigestDiffers` exactly if the digest isn't the SHA-256 of the bytes. Else `NotRead` with the error of `read_canonical_with`: the
+/// bytes aren't canonical, a map has a key twice and keys must differ, or an allocation fails.
 pub fn open<A: Allocator + Copy>(
     alloc: A,
     entry: &Entry<A>,
