@@ -38,13 +38,13 @@ type NoSink = io::Sink;
 /// several, a key alone, or a variant's name alone although data must follow; `Memory` if an allocation fails.
 pub fn to_vec_with<T: Serialize>(
     alloc: Global,
-    settings: SerdeSettings,
     value: &T,
+    settings: SerdeSettings,
 ) -> Result<Vec<u8>, Error>
     ensures { IfOk result (λ bytes. IsDocument (seen_settings settings.writer) bytes.items) }
 {
     let mut writer = Writer::new(alloc, settings.writer)?;
-    write_with(alloc, settings, &mut writer, value)?;
+    write_with(alloc, &mut writer, value, settings)?;
     Ok(writer.finish()?)
 }
 
@@ -57,7 +57,7 @@ pub fn to_vec<T: Serialize>(alloc: Global, value: &T) -> Result<Vec<u8>, Error>
     ensures document { IfOk result (λ bytes. IsDocument given_for_values bytes.items) }
     ensures utf8 { IfOk result (λ bytes. IsUtf8 bytes.items) }
 {
-    to_vec_with(alloc, SerdeSettings::default(), value)
+    to_vec_with(alloc, value, SerdeSettings::default())
 }
 
 /// Returns a value as a stream of one document, by the settings for values, as a text.
@@ -79,9 +79,9 @@ pub fn to_string<T: Serialize>(alloc: Global, value: &T) -> Result<String, Error
 /// may be empty.
 pub fn to_writer_with<T: Serialize, W: Write>(
     alloc: Global,
-    settings: SerdeSettings,
     sink: &mut W,
     value: &T,
+    settings: SerdeSettings,
 ) -> Result<(), Error>
     ensures written { OnOk result (AppendsDocument (seen_settings settings.writer) (W.contents sink.old) (W.contents sink.new)) }
     ensures first { OnErr result (AppendsBeginning (seen_settings settings.writer) (W.contents sink.old) (W.contents sink.new)) }
@@ -104,7 +104,7 @@ pub fn to_writer<T: Serialize, W: Write>(
     ensures written { OnOk result (AppendsDocument given_for_values (W.contents sink.old) (W.contents sink.new)) }
     ensures first { OnErr result (AppendsBeginning given_for_values (W.contents sink.old) (W.contents sink.new)) }
 {
-    to_writer_with(alloc, SerdeSettings::default(), sink, value)
+    to_writer_with(alloc, sink, value, SerdeSettings::default())
 }
 
 /// Gives a value to a writer as its next node, with the anchor and the tag that await it. It doesn't notice that a `Serialize` by
@@ -120,7 +120,7 @@ pub fn write<T: Serialize>(
 ) -> Result<(), Error>
     ensures { GivesValue writer.old result writer.new }
 {
-    write_with(alloc, SerdeSettings::default(), writer, value)
+    write_with(alloc, writer, value, SerdeSettings::default())
 }
 
 /// Gives a value to a writer as `write` does, by all of the settings but those of a writer.
@@ -129,9 +129,9 @@ pub fn write<T: Serialize>(
 /// Those of `write`.
 pub fn write_with<T: Serialize>(
     alloc: Global,
-    settings: SerdeSettings,
     writer: &mut Writer<Global>,
     value: &T,
+    settings: SerdeSettings,
 ) -> Result<(), Error>
     ensures { GivesValue writer.old result writer.new }
 {

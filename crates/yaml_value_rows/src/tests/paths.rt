@@ -104,6 +104,6 @@ fn variants_that_are_keys_are_part_of_a_path(rt: HostRuntime) {
     };
     let parts = [NUMBER, COMPLAINT];
     let tagged = step_with(1, Holder::Of(parts.as_slice()));
-    let answer = to_vec_with(alloc, settings, &tagged);
+    let answer = to_vec_with(alloc, &tagged, settings);
     check_error(&rt, alloc, answer.err(), "with.Of[1]: not today");
 }

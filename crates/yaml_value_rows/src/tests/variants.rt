@@ -19,7 +19,7 @@ fn one_key_map() -> SerdeSettings {
 
 /// Returns the YAML of a value. (Tests need none of the clauses of the call.)
 fn bytes_of<T: Serialize>(alloc: Global, value: &T) -> Result<Vec<u8>, Error> {
-    to_vec_with(alloc, one_key_map(), value)
+    to_vec_with(alloc, value, one_key_map())
 }
 
 /// Returns a sink that was handed a value.
@@ -27,7 +27,7 @@ fn sink_of<T: Serialize>(alloc: Global, value: &T) -> Result<Narrow, Error> {
     let taken = Vec::new(alloc);
     let room = usize::MAX;
     let mut sink = Narrow { taken, room };
-    to_writer_with(alloc, one_key_map(), &mut sink, value)?;
+    to_writer_with(alloc, &mut sink, value, one_key_map())?;
     Ok(sink)
 }
 
@@ -85,7 +85,7 @@ fn data_may_have_a_tag(rt: HostRuntime) {
 /// Gives a value to a writer. (Tests need none of the clauses of the call.)
 fn give(alloc: Global, value: &Shape) -> Result<Vec<u8>, yaml_error_t> {
     let mut writer = Writer::new(alloc, value_settings())?;
-    let answer = write_with(alloc, one_key_map(), &mut writer, value);
+    let answer = write_with(alloc, &mut writer, value, one_key_map());
     let is_refused = answer.is_err();
     drop(answer);
     if is_refused {
