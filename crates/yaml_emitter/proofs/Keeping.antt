@@ -1,5 +1,5 @@
 -- An emitter's state is the one after the events that it was given.
-use Rattle.yaml_emitter.proofs.Common.{true, false, Bool, Result, List, [], ◌++◌, ◌∷◌, refl, ◌≡◌, ap, subst, sym, ◌∙◌, false≢true, append-nil, Event, Settings, State}
+use Rattle.yaml_emitter.proofs.Common.{true, false, Bool, Result, List, [], ◌++◌, ◌∷◌, ◌≡◌, subst, sym, ◌∙◌, false≢true, append-nil, Event, Settings, State}
 use Rattle.yaml_emitter.proofs.Common.{with_all_taken}
 use Rattle.yaml_emitter.proofs.standing.{StandingFlagged.stands_flagged, Taking.stands_taken}
 use Rattle.yaml_base.specs.declared.errors.{yaml_error_t.yaml_error_t}

@@ -1,5 +1,5 @@
 -- The events that wait to be written.
-use Rattle.std.specs.Prelude.{◌≡◌, ℕ, zero, suc, Bool, false, true, Option, None, Some, List, [], ◌∷◌, ◌+◌, ◌&&◌, length, nat_lt, if◌then◌else◌}
+use Rattle.std.specs.Prelude.{ℕ, zero, suc, Bool, false, true, Option, None, Some, List, [], ◌∷◌, ◌+◌, ◌&&◌, length, nat_lt, if◌then◌else◌}
 use Rattle.yaml_base.specs.Event.{Event}
 use Rattle.yaml_base.specs.Ready.{awaited, is_end, is_ready, is_start}
 

@@ -1,7 +1,7 @@
 -- The invariants of an emitter.
 use Rattle.yaml_emitter.proofs.Common.{ℕ, ◌<◌, ◌≤◌, vec_len, vec_capacity, length, false, true, List, [], map, ◌++◌, ◌∷◌, refl, ◌≡◌, ap, sym, ◌∙◌, arith, Event}
 use Rattle.yaml_emitter.proofs.Common.{length-map, map-append, scalar, seen_event, seen_events, Settings, state_of, IsEngine, is_head_ready, State}
-use Rattle.yaml_emitter.proofs.Common.{MachineState, Option, None, Some, Bool, false≢true, is_ready, ◌==◌, ◌&&◌, ◌||◌, nat_lt, list_any, is_balanced, and_parts}
+use Rattle.yaml_emitter.proofs.Common.{MachineState, None, Bool, false≢true, is_ready, ◌==◌, ◌&&◌, ◌||◌, nat_lt, list_any, is_balanced, and_parts}
 use Rattle.yaml_emitter.proofs.Common.{eqb-true, nonempty_prefixes, awaited, document_start, sequence_start, mapping_start}
 use Rattle.yaml_base.proofs.ReadyLaws.{ready_stays}
 use Rattle.yaml_base.specs.Event.{Collection, alias, any_layout, any_style, document_end, mapping_end, sequence_end, stream_end, stream_start}

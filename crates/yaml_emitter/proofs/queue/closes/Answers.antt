@@ -1,4 +1,4 @@
-use Rattle.yaml_emitter.proofs.Common.{ℕ, ◌+◌, drop, true, Option, List, [], map, ◌++◌, ◌∷◌, refl, ◌≡◌, ap, sym, subst, ◌∙◌, arith, option_map, Event, list_any}
+use Rattle.yaml_emitter.proofs.Common.{ℕ, ◌+◌, drop, true, Option, List, [], map, ◌++◌, ◌∷◌, refl, ◌≡◌, ap, sym, ◌∙◌, arith, option_map, Event, list_any}
 use Rattle.yaml_emitter.proofs.Common.{seen_event, seen_events, is_balanced, nonempty_prefixes}
 use Rattle.std.proofs.{lemmas.List.drop_all}
 use Rattle.std.specs.Prelude.{◌≤◌, ◌==◌, ◌&&◌, length, unwrap_or}

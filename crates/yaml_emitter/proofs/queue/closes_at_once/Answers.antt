@@ -1,4 +1,4 @@
-use Rattle.yaml_emitter.proofs.Common.{Some, None, false, sym, Scalar, scalar, Bool, List, [], map, ◌∷◌, refl, ◌≡◌, ap, ◌∙◌, seen_event, Event}
+use Rattle.yaml_emitter.proofs.Common.{Some, None, sym, Bool, List, [], map, ◌∷◌, refl, ◌≡◌, ap, ◌∙◌, seen_event, Event}
 use Rattle.yaml_emitter.proofs.Common.{sequence_start, sequence_end, mapping_start, mapping_end, closes_at_once}
 use Rattle.std.specs.Prelude.{◌++◌, slice_get}
 use Rattle.yaml_emitter.specs.Processing.{ends_sequence, ends_mapping}

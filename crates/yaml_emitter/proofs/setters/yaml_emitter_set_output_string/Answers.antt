@@ -1,4 +1,4 @@
-use Rattle.yaml_emitter.proofs.Common.{arith, common_steps, rules, refl, ap, ◌∙◌, State}
+use Rattle.yaml_emitter.proofs.Common.{arith, common_steps, rules, ap, ◌∙◌, State}
 use Rattle.yaml_emitter.proofs.{Keeping.keeps_limited, standing.EmitterKept.kept_limited, standing.StandingSet.stands_limited}
 use Rattle.yaml_emitter.specs.EmitterInside.{engine_of}
 use Rattle.yaml_emitter.proofs.setters.yaml_emitter_set_output_string.Goals as goal
