@@ -1,5 +1,5 @@
 -- Values of JSON as typed values.
-use Rattle.std.specs.Prelude.{ℕ, ℤ, true, pos, neg_ℤ, ◌≡◌, ◌==◌, ◌^◌, ◌<◌, List, [], ◌∷◌, ◌++◌, Some, if◌then◌else◌}
+use Rattle.std.specs.Prelude.{ℕ, ℤ, Bool, true, false, pos, neg_ℤ, ◌≡◌, ◌==◌, ◌^◌, ◌<◌, List, [], ◌∷◌, ◌++◌, Some, if◌then◌else◌}
 use Rattle.std.specs.List.{All}
 use Rattle.std.specs.Fmt.{signed_decimal}
 use Rattle.std.specs.Int.Signed.{mag}
@@ -16,6 +16,8 @@ use Rattle.yaml_json.specs.Reached.{AreFrom}
 use Rattle.yaml_json.specs.WritingCalls.{HasNoYaml}
 use Rattle.yaml_json.specs.declared.error.JsonError.{JsonError}
 use Rattle.yaml_writer.specs.Given.{given_for_values}
+use Rattle.yaml_value.specs.declared.keys.Keys.{Keys}
+use Rattle.yaml_value.specs.declared.keys.Keys.TheVariants as keys
 use Rattle.yaml_json_value.specs.declared.error.ValueError.{ValueError}
 use Rattle.yaml_json_value.specs.declared.error.ValueError.TheVariants as errors
 
@@ -58,28 +60,38 @@ IsIntegerToken _ = Unit {0}
 abbrev pub AreIntegers : List Token → Type 0
 AreIntegers tokens = All IsIntegerToken tokens
 
--- the text is JSON that nests at most 1,000 deep, whose objects have each name once, and whose numbers are integers of 64 bits; this
--- is its value
-pub record IsValueOf (text : List ℕ) (found : TypedValue) : Type 0 where
+-- the names of an object must differ, as the keys of a map
+abbrev pub names_differ : Keys → Bool
+names_differ keys.Unique = true
+names_differ keys.MayRepeat = false
+
+-- True of each value of JSON if keys may repeat, else if each of its objects has each name once.
+abbrev pub NamesAllow : Keys → Json → Type 0
+NamesAllow keys.Unique json = HasUniqueKeys json
+NamesAllow keys.MayRepeat json = Unit {0}
+
+-- the text is JSON that nests at most 1,000 deep, whose objects have each name once, unless keys may repeat, and whose numbers are
+-- integers of 64 bits; this is its value
+pub record IsValueOf (mode : Keys) (text : List ℕ) (found : TypedValue) : Type 0 where
   pub json : Json
   pub read : value most_nested (tokens text) ≡ Some (json, [])
-  pub names : HasUniqueKeys json
+  pub names : NamesAllow mode json
   pub integers : AreIntegers (tokens text)
   pub is : found ≡ typed_value json
 
 -- the bytes are the canonical bytes of its value
-pub record IsCanonicalOf (text bytes : List ℕ) : Type 0 where
+pub record IsCanonicalOf (mode : Keys) (text bytes : List ℕ) : Type 0 where
   pub value : TypedValue
-  pub of_text : IsValueOf text value
+  pub of_text : IsValueOf mode text value
   pub written : WritesValue value bytes
 
--- the text is JSON that nests at most 1,000 deep, whose objects have each name once
-abbrev pub IsJson : (text : List ℕ) → Type 0
-IsJson text = (json : Json) × (value most_nested (tokens text) ≡ Some (json, [])) × HasUniqueKeys json
+-- the text is JSON that nests at most 1,000 deep, whose objects have each name once, unless keys may repeat
+abbrev pub IsJson : Keys → (text : List ℕ) → Type 0
+IsJson mode text = (json : Json) × (value most_nested (tokens text) ≡ Some (json, [])) × NamesAllow mode json
 
--- the promise of `yaml_from_json` for an error, under the settings for values, in flow
-abbrev pub IsJsonErrorOf : (text : List ℕ) → JsonError → Type 0
-IsJsonErrorOf text error = HasNoYaml given_for_values true most_nested true text error
+-- the promise of `yaml_from_json` for an error, under the settings for values, in flow; a name that comes twice is one if keys must differ
+abbrev pub IsJsonErrorOf : Keys → (text : List ℕ) → JsonError → Type 0
+IsJsonErrorOf mode text error = HasNoYaml given_for_values true most_nested (names_differ mode) text error
 
 -- the tokens from the first number on that isn't an integer of 64 bits
 pub record IsFromOtherNumber (tokens from : List Token) : Type 0 where
@@ -92,8 +104,8 @@ pub record IsFromOtherNumber (tokens from : List Token) : Type 0 where
   pub none : IsIntegerText digits → ⊥
 
 -- the text is JSON, and the first number in it that isn't an integer of 64 bits begins at this line and column
-pub record HasOtherNumber (text : List ℕ) (line column : ℕ) : Type 0 where
-  pub json : IsJson text
+pub record HasOtherNumber (mode : Keys) (text : List ℕ) (line column : ℕ) : Type 0 where
+  pub json : IsJson mode text
   pub from : List Token
   pub number : IsFromOtherNumber (tokens text) from
   pub at : ℕ
@@ -101,6 +113,6 @@ pub record HasOtherNumber (text : List ℕ) (line column : ℕ) : Type 0 where
   pub place : AreOf text at line column
 
 -- the fact about the text that an error tells
-abbrev pub ExplainsValueError : (text : List ℕ) → ValueError → Type 0
-ExplainsValueError text (errors.Json error) = IsJsonErrorOf text error
-ExplainsValueError text (errors.NotInteger line column) = HasOtherNumber text line column
+abbrev pub ExplainsValueError : Keys → (text : List ℕ) → ValueError → Type 0
+ExplainsValueError mode text (errors.Json error) = IsJsonErrorOf mode text error
+ExplainsValueError mode text (errors.NotInteger line column) = HasOtherNumber mode text line column

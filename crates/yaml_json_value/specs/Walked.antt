@@ -7,9 +7,9 @@ use Rattle.yaml_emitter.specs.Given.{seen_settings}
 use Rattle.yaml_json.specs.declared.settings.JsonSettings.{JsonSettings}
 use Rattle.yaml_writer.specs.Given.{given_for_values}
 use Rattle.yaml_value.specs.{OpenLevels.OpenLevel, OpenLevels.seen_levels, SeenValues.seen_value}
-use Rattle.yaml_value.specs.{declared.levels.Level.Level, declared.value.Value.Value}
+use Rattle.yaml_value.specs.{declared.keys.Keys.Keys, declared.levels.Level.Level, declared.value.Value.Value}
 use Rattle.yaml_json_value.specs.Standing.{ValueStanding, whole, within, run, take_token}
-use Rattle.yaml_json_value.specs.Typed.{AreIntegers, IsFromOtherNumber, IsIntegerText, IsIntegerToken, integer_of}
+use Rattle.yaml_json_value.specs.Typed.{AreIntegers, IsFromOtherNumber, IsIntegerText, IsIntegerToken, integer_of, names_differ}
 use Rattle.yaml_json_value.specs.declared.error.Stop.{Stop}
 use Rattle.yaml_json_value.specs.declared.error.Stop.TheVariants as stop
 
@@ -79,9 +79,9 @@ EndsAt ahead found (Err stop.Misplaced) = (first : Token) × (more : List Token)
 EndsAt ahead found (Err stop.NotInteger) = ⊥
 EndsAt ahead found (Err stop.Memory) = ⊥
 
--- the settings for values, in flow, with a depth of 1,000 and each name once
-pub record IsForValues (settings : JsonSettings) : Type 0 where
+-- the settings for values, in flow, with a depth of 1,000 and each name once, unless keys may repeat
+pub record IsForValues (mode : Keys) (settings : JsonSettings) : Type 0 where
   pub writer : seen_settings settings.writer ≡ given_for_values
   pub flow : settings.flow ≡ true
   pub depth : settings.depth ≡ most_nested
-  pub names : settings.unique_names ≡ true
+  pub names : settings.unique_names ≡ names_differ mode

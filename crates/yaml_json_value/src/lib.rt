@@ -10,4 +10,4 @@ mod walk;
 pub use error::ValueError;
 pub use texts::{canonical_from_json, value_from_json};
 pub use yaml_json::{Expected, JsonError, yaml_error_t};
-pub use yaml_value::Value;
+pub use yaml_value::{Keys, Value};

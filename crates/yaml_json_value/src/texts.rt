@@ -1,7 +1,7 @@
 //! JSON texts as typed values.
-ghost use Rattle.std.specs.Prelude.{IfErr, IfOk};
+ghost use Rattle.std.specs.Prelude.{◌≡◌, IfErr, IfOk};
 ghost use Rattle.yaml_value.specs.SeenValues.{seen_value};
-ghost use Rattle.yaml_json_value.specs.Typed.{ExplainsValueError, IsCanonicalOf, IsJson, IsValueOf};
+ghost use Rattle.yaml_json_value.specs.Typed.{ExplainsValueError, IsCanonicalOf, IsJson, IsValueOf, names_differ};
 ghost use Rattle.yaml_json_value.specs.Walked.{IsForValues};
 
 use crate::error::{Stop, ValueError};
@@ -11,17 +11,27 @@ use std::alloc::Allocator;
 use yaml_json::{
     JsonError, JsonSettings, Tokens, place_of, value_settings, yaml_error_t, yaml_from_json,
 };
-use yaml_value::{Value, write_canonical};
+use yaml_value::{Keys, Value, write_canonical};
+
+/// Returns whether the names of an object must differ, as the keys of a map.
+fn are_unique(keys: Keys) -> bool
+    ensures { result ≡ names_differ keys }
+{
+    match keys {
+        Keys::Unique => true,
+        Keys::MayRepeat => false,
+    }
+}
 
 /// Returns the settings by which a text is checked: arrays and objects nest at most 1,000 deep, as deep as canonical values may.
-fn settings() -> JsonSettings
-    ensures { IsForValues result }
+fn settings(keys: Keys) -> JsonSettings
+    ensures { IsForValues keys result }
 {
     JsonSettings {
         writer: value_settings(),
         flow: true,
         depth: 1_000,
-        unique_names: true,
+        unique_names: are_unique(keys),
     }
 }
 
@@ -31,13 +41,17 @@ fn settings() -> JsonSettings
 ///
 /// # Errors
 ///
-/// `Json` if `yaml_from_json` refuses the text, with arrays and objects that nest at most 1,000 deep and each name once in its
-/// object, or if an allocation fails. `NotInteger` if the text is JSON, and a number isn't an integer of 64 bits.
-pub fn value_from_json<A: Allocator + Copy>(alloc: A, text: &str) -> Result<Value<A>, ValueError>
-    ensures read { IfOk result (λ value. IsValueOf text.now (seen_value value)) }
-    ensures why { IfErr result (ExplainsValueError text.now) }
+/// `Json` if `yaml_from_json` refuses the text, with arrays and objects that nest at most 1,000 deep and, unless keys may repeat, each
+/// name once in its object, or if an allocation fails. `NotInteger` if the text is JSON, and a number isn't an integer of 64 bits.
+pub fn value_from_json<A: Allocator + Copy>(
+    alloc: A,
+    text: &str,
+    keys: Keys,
+) -> Result<Value<A>, ValueError>
+    ensures read { IfOk result (λ value. IsValueOf keys text.now (seen_value value)) }
+    ensures why { IfErr result (ExplainsValueError keys text.now) }
 {
-    match yaml_from_json(alloc, text, settings()) {
+    match yaml_from_json(alloc, text, settings(keys)) {
         Ok(_yaml) => value_of(alloc, text),
         Err(error) => Err(ValueError::Json(error)),
     }
@@ -51,11 +65,12 @@ pub fn value_from_json<A: Allocator + Copy>(alloc: A, text: &str) -> Result<Valu
 pub fn canonical_from_json<A: Allocator + Copy>(
     alloc: A,
     text: &str,
+    keys: Keys,
 ) -> Result<Vec<u8, A>, ValueError>
-    ensures written { IfOk result (λ bytes. IsCanonicalOf text.now bytes.items) }
-    ensures why { IfErr result (ExplainsValueError text.now) }
+    ensures written { IfOk result (λ bytes. IsCanonicalOf keys text.now bytes.items) }
+    ensures why { IfErr result (ExplainsValueError keys text.now) }
 {
-    match value_from_json(alloc, text) {
+    match value_from_json(alloc, text, keys) {
         Ok(value) => match write_canonical(alloc, &value) {
             Ok(bytes) => Ok(bytes),
             Err(yaml_error_t::TooDeep) => unreachable!(),
@@ -67,9 +82,9 @@ pub fn canonical_from_json<A: Allocator + Copy>(
 
 /// Returns the value of a text that is JSON.
 fn value_of<A: Allocator + Copy>(alloc: A, text: &str) -> Result<Value<A>, ValueError>
-    requires { IsJson text.now }
-    ensures read { IfOk result (λ value. IsValueOf text.now (seen_value value)) }
-    ensures why { IfErr result (ExplainsValueError text.now) }
+    requires { IsJson Keys.MayRepeat text.now }
+    ensures read { (mode : Keys) → IsJson mode text.now → IfOk result (λ value. IsValueOf mode text.now (seen_value value)) }
+    ensures why { (mode : Keys) → IsJson mode text.now → IfErr result (ExplainsValueError mode text.now) }
 {
     let arena = Bump::new(alloc);
     let mut reader = Tokens::new(alloc, &arena, text);

@@ -11,7 +11,7 @@ returns-in-Ok-write_canonical-clause-written g c =
 pub unreachable-requires : goal.unreachable-requires
 unreachable-requires g c =
     let is : c.write_canonical.result ≡ Err errors.TooDeep = search rules in
-    not_too_deep c.args.text.now (seen_value c.in-Ok.value) c.in-Ok.ensures.read (c.write_canonical.ensures.too_deep.0 is)
+    not_too_deep c.args.keys c.args.text.now (seen_value c.in-Ok.value) c.in-Ok.ensures.read (c.write_canonical.ensures.too_deep.0 is)
 
 pub returns-in-Ok-clause-why : goal.returns-in-Ok-clause-why
-returns-in-Ok-clause-why g c = no_memory c.args.text.now
+returns-in-Ok-clause-why g c = no_memory c.args.keys c.args.text.now
