@@ -1,4 +1,5 @@
-/* A store of typed values: an entry is the canonical bytes of a value and their SHA-256. */
+/* A store of typed values: an entry is the canonical bytes of a value and their SHA-256. A map with a key twice isn't stored, since readers
+ * of YAML disagree on it. */
 #include <inttypes.h>
 #include <stdio.h>
 #include <string.h>
@@ -63,7 +64,7 @@ struct entry {
 
 /* The entry of canonical bytes, which stay the caller's. */
 static int32_t seal(const uint8_t *bytes, size_t length, struct entry *entry, struct yaml_c_result *result) {
-    int32_t status = yaml_is_canonical(bytes, length, result);
+    int32_t status = yaml_is_canonical(bytes, length, NULL, result);
     entry->bytes = bytes;
     entry->length = length;
     if (status == YAML_DONE) sha256(bytes, length, entry->digest);
@@ -79,7 +80,7 @@ static int opens(const struct entry *entry) {
         puts("the digest differs");
         return 0;
     }
-    int32_t status = yaml_is_canonical(entry->bytes, entry->length, &result);
+    int32_t status = yaml_is_canonical(entry->bytes, entry->length, NULL, &result);
     if (status == YAML_DONE) return 1;
     printf("line %" PRIu64 ", column %" PRIu64 ": %s\n", result.line, result.column, yaml_status_text(status));
     return 0;
@@ -88,6 +89,7 @@ static int opens(const struct entry *entry) {
 int main(void) {
     static uint8_t bytes[] = "---\n!!map {\n  ? !!str \"user\"\n  : !!str \"no\",\n  ? !!str \"port\"\n  : !!int \"80\",\n}\n";
     static uint8_t padded[] = "---\n!!int \"07\"\n";
+    static const uint8_t twice[] = "---\n!!map {\n  ? !!str \"port\"\n  : !!int \"80\",\n  ? !!str \"port\"\n  : !!int \"8080\",\n}\n";
     struct yaml_c_result result;
     struct entry entry, other = {padded, sizeof padded - 1, {0}};
     if (seal(bytes, sizeof bytes - 1, &entry, &result) != YAML_DONE) return 1;
@@ -99,9 +101,12 @@ int main(void) {
     bytes[22] ^= 1;
     entry.digest[31] ^= 1;
     opens(&entry);
-    /* Bytes that aren't canonical aren't sealed, nor opened under their own digest. */
+    /* Bytes that aren't canonical, and those of a map with a key twice, aren't sealed, nor opened under their own digest. */
     if (seal(padded, sizeof padded - 1, &other, &result) == YAML_DONE) return 1;
     sha256(padded, sizeof padded - 1, other.digest);
+    opens(&other);
+    if (seal(twice, sizeof twice - 1, &other, &result) == YAML_DONE) return 1;
+    sha256(twice, sizeof twice - 1, other.digest);
     opens(&other);
     return 0;
 }

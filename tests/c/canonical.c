@@ -8,6 +8,9 @@
 #include "yaml_c.h"
 
 static struct yaml_c_result result;
+/* The settings of each call, and those by which keys may repeat: any number but 0 is on. */
+static const struct yaml_c_canonical_settings *settings;
+static const struct yaml_c_canonical_settings allowing = {7};
 static int calls, failures;
 
 /* Whether this is all that was reported. */
@@ -27,7 +30,7 @@ static void tell(const char *name, int32_t status, int good) {
 static void check_bytes(const char *name, const uint8_t *bytes, size_t length, int32_t status, uint64_t line, uint64_t column) {
     int32_t got;
     memset(&result, 0xff, sizeof result);
-    got = yaml_is_canonical(bytes, length, &result);
+    got = yaml_is_canonical(bytes, length, settings, &result);
     tell(name, got, got == status && reports(0, line, column));
 }
 
@@ -112,7 +115,38 @@ static void checks(void) {
     expect_check("---\n!!map {\n  ? !!int \"1\"\n  : !!int \"2\",\n}\n", YAML_DONE, 0, 0);
 }
 
-/* Canonical bytes of values of each kind, and how many other bytes in place of one of theirs give the canonical bytes of another value. */
+/* The canonical bytes of a map with a key twice; of one that is a key, and in it after another map two keys that are equal lists; and of one
+ * with a key twice, which doesn't end. The place is where the second of the two keys begins. */
+#define TWICE "---\n!!map {\n  ? !!str \"a\"\n  : !!int \"1\",\n  ? !!str \"a\"\n  : !!int \"2\",\n}\n"
+#define TWICE_WITHIN \
+    "---\n!!map {\n  ? !!map {\n    ? !!seq [\n      !!null \"null\",\n    ]\n    : !!map {\n      ? !!null \"null\"\n      : !!int \"1\",\n" \
+    "    },\n    ? !!seq [\n      !!null \"null\",\n    ]\n    : !!int \"1\",\n  }\n  : !!int \"1\",\n}\n"
+#define TWICE_UNENDED "---\n!!map {\n  ? !!str \"a\"\n  : !!int \"1\",\n  ? !!str \"a\"\n  : !!nul\n"
+
+/* Keys that differ: a text and an integer, a text and a list of it; a key of a map that is a key, and of one that is a value. */
+#define DIFFERENT \
+    "---\n!!map {\n  ? !!str \"1\"\n  : !!int \"1\",\n  ? !!int \"1\"\n  : !!map {\n    ? !!str \"1\"\n    : !!int \"1\",\n  },\n" \
+    "  ? !!seq [\n    !!str \"1\",\n    !!str \"1\",\n  ]\n  : !!int \"1\",\n  ? !!map {\n    ? !!str \"1\"\n    : !!int \"1\",\n  }\n" \
+    "  : !!int \"1\",\n}\n"
+
+static void keys(void) {
+    expect_check(TWICE, YAML_DUPLICATE_NAME, 5, 5);
+    expect_check(TWICE_WITHIN, YAML_DUPLICATE_NAME, 11, 7);
+    expect_check(TWICE_UNENDED, YAML_DUPLICATE_NAME, 5, 5);
+    expect_check(DIFFERENT, YAML_DONE, 0, 0);
+    /* A key is compared only if `: ` follows it, and bytes that aren't UTF-8 are reported first. */
+    expect_check("---\n!!map {\n  ? !!str \"a\"\n  : !!int \"1\",\n  ? !!str \"a\",\n}\n", YAML_NOT_CANONICAL, 5, 14);
+    expect_check(TWICE "\360", YAML_NOT_CANONICAL, 8, 1);
+    settings = &allowing;
+    expect_check(TWICE, YAML_DONE, 0, 0);
+    expect_check(TWICE_WITHIN, YAML_DONE, 0, 0);
+    expect_check(TWICE_UNENDED, YAML_NOT_CANONICAL, 6, 5);
+    expect_check(DIFFERENT, YAML_DONE, 0, 0);
+    settings = NULL;
+}
+
+/* Canonical bytes of values of each kind, and how many other bytes in place of one of theirs give the canonical bytes of another value in which
+ * no map has a key twice. */
 static const struct {
     const char *bytes;
     int others;
@@ -137,16 +171,18 @@ static const struct {
     {"---\n!!map {\n  ? !!str \"k\"\n  : !!bool \"false\",\n}\n", 92},
     {"---\n!!map {\n  ? !!seq [\n    !!map {},\n    !!seq [],\n  ]\n  : !!map {\n    ? !!null \"null\"\n    : !!int \"0\",\n"
      "    ? !!bool \"true\"\n    : !!str \"\",\n  },\n}\n", 9},
+    /* Each other digit in each key, but for the other key's. */
+    {"---\n!!map {\n  ? !!int \"1\"\n  : !!null \"null\",\n  ? !!int \"2\"\n  : !!null \"null\",\n}\n", 16},
 };
 
-/* Returns whether bytes are canonical. Bytes that aren't must have a place. */
+/* Returns whether bytes are canonical, and no map has a key twice. Bytes that aren't so must have a place. */
 static int is_taken(const char *name, const uint8_t *bytes, size_t length) {
     int32_t got;
     int placed;
     memset(&result, 0xff, sizeof result);
-    got = yaml_is_canonical(bytes, length, &result);
-    placed = result.line > 0 && result.column > 0;
-    tell(name, got, got == YAML_DONE ? reports(0, 0, 0) : got == YAML_NOT_CANONICAL && placed && reports(0, result.line, result.column));
+    got = yaml_is_canonical(bytes, length, settings, &result);
+    placed = result.line > 0 && result.column > 0 && reports(0, result.line, result.column);
+    tell(name, got, got == YAML_DONE ? reports(0, 0, 0) : (got == YAML_NOT_CANONICAL || got == YAML_DUPLICATE_NAME) && placed);
     return got == YAML_DONE;
 }
 
@@ -182,6 +218,10 @@ static void check_spoiled(const char *text, int others) {
 static void spoiled(void) {
     size_t row;
     for (row = 0; row < sizeof taken / sizeof *taken; row++) check_spoiled(taken[row].bytes, taken[row].others);
+    /* The two other digits, too, if keys may repeat. */
+    settings = &allowing;
+    check_spoiled(taken[row - 1].bytes, taken[row - 1].others + 2);
+    settings = NULL;
 }
 
 /* The level of number N is on line N + 1, after N - 1 indentations; the last line, 2 N, has the outermost closing bracket. Few levels
@@ -207,12 +247,12 @@ static void expect_bytes(const char *text, const char *bytes) {
     int32_t got;
     memset(&result, 0xff, sizeof result);
     memset(out, 'x', sizeof out);
-    got = yaml_canonical_from_json((const uint8_t *)text, strlen(text), out, length, &result);
+    got = yaml_canonical_from_json((const uint8_t *)text, strlen(text), settings, out, length, &result);
     tell(text, got, got == YAML_DONE && reports(length, 0, 0) && memcmp(out, bytes, length) == 0 && out[length] == 'x');
-    got = yaml_is_canonical(out, length, &result);
+    got = yaml_is_canonical(out, length, settings, &result);
     tell(text, got, got == YAML_DONE && reports(0, 0, 0));
     memset(out, 'x', sizeof out);
-    got = yaml_canonical_from_json((const uint8_t *)text, strlen(text), out, length - 1, &result);
+    got = yaml_canonical_from_json((const uint8_t *)text, strlen(text), settings, out, length - 1, &result);
     tell(text, got, got == YAML_TOO_SMALL && reports(length, 0, 0) && out[0] == 'x');
 }
 
@@ -222,7 +262,7 @@ static void expect_none(const char *name, const char *text, size_t length, int32
     int32_t got;
     memset(&result, 0xff, sizeof result);
     memset(out, 'x', sizeof out);
-    got = yaml_canonical_from_json((const uint8_t *)text, length, out, sizeof out, &result);
+    got = yaml_canonical_from_json((const uint8_t *)text, length, settings, out, sizeof out, &result);
     tell(name, got, got == status && reports(0, line, column) && out[0] == 'x');
 }
 
@@ -260,6 +300,7 @@ static const struct {
     {"[\"\360\"]", YAML_NOT_JSON, 1, 3},
     {"{\"a\": 1, \"a\": 2}", YAML_DUPLICATE_NAME, 1, 10},
     {"{\"a\": 0.5, \"a\": 2}", YAML_DUPLICATE_NAME, 1, 12},
+    {"{\"a\": 1,\n \"\\u0061\": 2}", YAML_DUPLICATE_NAME, 2, 2},
 };
 
 static void texts_of_json(void) {
@@ -271,15 +312,19 @@ static void texts_of_json(void) {
                     refused[row].column);
     memset(deep_text, '[', sizeof deep_text);
     expect_none("deep", deep_text, sizeof deep_text, YAML_TOO_DEEP, 1, 1001);
+    settings = &allowing;
+    expect_bytes("{\"a\": 1, \"\\u0061\": 2}", TWICE);
+    expect_none("a fraction, and a name twice", "{\"a\": 0.5, \"a\": 2}", 18, YAML_NOT_INTEGER, 1, 7);
+    settings = NULL;
 }
 
-/* No text and no buffer. */
+/* No text, no settings and no buffer. */
 static void nothing(void) {
     int32_t got;
     memset(&result, 0xff, sizeof result);
-    got = yaml_canonical_from_json(NULL, 0, NULL, 0, &result);
+    got = yaml_canonical_from_json(NULL, 0, NULL, NULL, 0, &result);
     tell("no text", got, got == YAML_NOT_JSON && reports(0, 1, 1));
-    got = yaml_canonical_from_json((const uint8_t *)"1", 1, NULL, 0, &result);
+    got = yaml_canonical_from_json((const uint8_t *)"1", 1, NULL, NULL, 0, &result);
     tell("no buffer", got, got == YAML_TOO_SMALL && reports(14, 0, 0));
 }
 
@@ -287,11 +332,12 @@ int main(void) {
     int32_t got;
     checks();
     places();
+    keys();
     spoiled();
     texts_of_json();
     nothing();
     memset(&result, 0xff, sizeof result);
-    got = yaml_is_canonical(NULL, 0, &result);
+    got = yaml_is_canonical(NULL, 0, NULL, &result);
     tell("no bytes", got, got == YAML_NOT_CANONICAL && reports(0, 1, 1));
     deep();
     printf("%d calls, %d not as written\n", calls, failures);

@@ -89,9 +89,20 @@ static int32_t from_toml(size_t capacity) {
     return yaml_from_toml((const uint8_t *)text, sizeof text - 1, &settings, out, capacity, &result);
 }
 
+/* A map with a list and a map as keys. */
+static int32_t is_canonical(size_t capacity) {
+    static const struct yaml_c_canonical_settings settings = {0};
+    static const char bytes[] =
+        "---\n!!map {\n  ? !!seq [\n    !!int \"1\",\n  ]\n  : !!null \"null\",\n  ? !!map {\n    ? !!str \"" LETTERS "\"\n    : !!int \"1\",\n  }\n"
+        "  : !!str \"a\\tb\",\n}\n";
+    (void)capacity;
+    return yaml_is_canonical((const uint8_t *)bytes, sizeof bytes - 1, &settings, &result);
+}
+
 static int32_t canonical_from_json(size_t capacity) {
+    static const struct yaml_c_canonical_settings settings = {0};
     static const char text[] = "{\"first\": [1, {\"a\\tb\": \"" LETTERS "\"}], \"second\": \"" LETTERS LETTERS "\"}";
-    return yaml_canonical_from_json((const uint8_t *)text, sizeof text - 1, out, capacity, &result);
+    return yaml_canonical_from_json((const uint8_t *)text, sizeof text - 1, &settings, out, capacity, &result);
 }
 
 static int32_t give_kind(struct yaml_c_emitter *kept, uint32_t kind) {
@@ -346,6 +357,7 @@ int main(void) {
     refuse_each("yaml_run", run);
     refuse_each("yaml_from_json", from_json);
     refuse_each("yaml_from_toml", from_toml);
+    refuse_each("yaml_is_canonical", is_canonical);
     refuse_each("yaml_canonical_from_json", canonical_from_json);
     refuse_each("yaml_c_emitter_emit_json", json_in_stream);
     refuse_each_of_texts();

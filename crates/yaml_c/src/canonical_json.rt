@@ -2,6 +2,7 @@
 ghost use Rattle.yaml_c.specs.Answers.{CopiesToCaller};
 ghost use Rattle.yaml_c.specs.CanonicalJson.{IsCanonicalRun, canonical_results, found_of};
 
+use crate::canonical::{CanonicalOptions, keys_from};
 use crate::json_texts::move_json;
 use crate::results::{CallResult, move_to_caller};
 use crate::statuses::{NOT_INTEGER, NOT_JSON};
@@ -14,11 +15,13 @@ use yaml_json_value::{ValueError, canonical_from_json};
 pub extern "C" fn yaml_canonical_from_json(
     alloc: Global,
     text: &[u8],
+    options: &CanonicalOptions,
     out: &mut [u8],
     report: &mut CallResult,
 ) -> i32
-    ensures { IsCanonicalRun text.now out.old result out.new report.new }
+    ensures { IsCanonicalRun options.now text.now out.old result out.new report.new }
 {
+    let keys = keys_from(options);
     let content = match std::str::from_utf8(text) {
         Ok(content) => content,
         Err(error) => {
@@ -27,7 +30,7 @@ pub extern "C" fn yaml_canonical_from_json(
             return NOT_JSON;
         }
     };
-    move_canonical(canonical_from_json(alloc, content), out, report)
+    move_canonical(canonical_from_json(alloc, content, keys), out, report)
 }
 
 /// Moves the bytes to the caller's buffer, or reports the error, and returns the status.

@@ -2,19 +2,22 @@ use Rattle.yaml_c.proofs.Common.{ℕ, ℤ, List, ◌≡◌, rules, subst, sym, w
 use Rattle.yaml_c.proofs.CanonicalLemmas.{right_found}
 use Rattle.std.specs.Prelude.{IsUtf8}
 use Rattle.std.proofs.Common.{ap}
+use Rattle.yaml_value.specs.declared.keys.Keys.{Keys}
 use Rattle.yaml_c.specs.{Answers.CopiesToCaller, Answers.results_failed, declared.results.CallResult.CallResult}
 use Rattle.yaml_c.specs.CanonicalJson.{Found, IsFound, canonical_results, found_of, is_no_text}
 use Rattle.yaml_c.proofs.canonical_json.yaml_canonical_from_json.Goals as goal
 
 pub returns : goal.returns
 returns c =
+    let mode = c.keys_from-keys.result in
     let call = c.canonical_from_json.ensures in
     let found : Found = found_of c.canonical_from_json.result in
     let same : c.in-Ok.content.now ≡ c.args.text.now = search rules in
     let fits : to_z w32 (of_z w32 c.move_canonical.result) ≡ c.move_canonical.result = search rules in
-    let right = right_found c.in-Ok.content.now c.canonical_from_json.result (subst IsUtf8 (sym same) c.in-Ok.ensures.cases.1) call.written call.why in (
+    let utf8 = subst IsUtf8 (sym same) c.in-Ok.ensures.cases.1 in
+    let right = right_found mode c.in-Ok.content.now c.canonical_from_json.result utf8 call.written call.why in (
       found,
-      subst (λ (x : List ℕ). IsFound x found) same right,
+      subst (λ (x : Keys). IsFound x c.args.text.now found) c.keys_from-keys.ensures (subst (λ (x : List ℕ). IsFound mode x found) same right),
       subst (λ (status : ℤ). CopiesToCaller (canonical_results found c.args.out.now) status c.move_canonical.new.out c.move_canonical.new.report)
           (sym fits) c.move_canonical.ensures,
     )
