@@ -56,12 +56,19 @@ def around(r, inner, others):
     return tuple(pairs)
 
 
+def with_repeated_key(r, pairs):
+    """The pairs of a map and one more, whose key is that of one of them."""
+    at = r.randrange(len(pairs) + 1)
+    return (*pairs[:at], (r.choice(pairs)[0], leaf(r)), *pairs[at:])
+
+
 def random_value(r, levels):
     """A value that nests at least so many levels deep, and at most one deeper."""
     if levels == 0:
         return leaf(r)
     others = [random_value(r, r.randrange(min(levels, 3))) for _ in range(r.choice([0, 0, 0, 1, 1, 2]))]
-    return around(r, random_value(r, levels - 1), others)
+    value = around(r, random_value(r, levels - 1), others)
+    return with_repeated_key(r, value) if isinstance(value, tuple) and r.random() < 0.1 else value
 
 
 def deep_value(r, levels):

@@ -2,6 +2,9 @@
 that lies too deep, by the words of `crates/yaml_read/specs/Grammar.antt`. None of the words that may come at one place begins another, so there
 is one such place, and the contract of `read_canonical` (`IsPlaced`) allows no other.
 
+If keys must differ, bytes also stop at the first key that its map has already: where it begins, once the `: ` after it has come. The keys of one
+map are as deep as one another, so two of them are equal if their texts are.
+
 The model tells how a character is written: `writes` is its module `layout`, and `reads` its module `readers`."""
 import re
 
@@ -21,9 +24,20 @@ class TooDeep(Exception):
     """A list or a map lies too deep."""
 
 
+class Repeats(Exception):
+    """A map has a key twice."""
+
+
+class Open:
+    """A list or a map that is open: what comes next in it, an item, a key or a value, and where that begins; and the texts of its keys."""
+
+    def __init__(self, due, at):
+        self.due, self.begin, self.keys = due, at, set()
+
+
 class Words:
-    def __init__(self, text, writes, reads):
-        self.text, self.at, self.writes, self.reads = text, 0, writes, reads
+    def __init__(self, text, writes, reads, differ):
+        self.text, self.at, self.writes, self.reads, self.differ = text, 0, writes, reads, differ
 
     def take(self, *words):
         """Passes the one of these words that comes here, and returns it."""
@@ -88,23 +102,32 @@ class Words:
             self.indentation(len(open_ones) + 1)
             if opening == "{":
                 self.take("? ")
-            open_ones.append("key" if opening == "{" else "item")
+            open_ones.append(Open("key" if opening == "{" else "item", self.at))
             return True
+
+    def add_key(self, inner, key):
+        """Adds a key to an open map, if it is new there or keys may repeat."""
+        if self.differ and key in inner.keys:
+            self.at = inner.begin
+            raise Repeats
+        inner.keys.add(key)
 
     def behind_node(self, open_ones):
         """Passes what leads to the next node, and returns whether there is one."""
         while open_ones:
             inner, depth = open_ones[-1], len(open_ones) - 1
-            if inner == "key":
+            if inner.due == "key":
+                end = self.at
                 self.line(depth)
                 self.take("  : ")
-                open_ones[-1] = "value"
+                self.add_key(inner, self.text[inner.begin:end])
+                inner.due = "value"
                 return True
             self.take(",")
             self.line(depth)
-            lead, closing = ("  ", "]") if inner == "item" else ("  ? ", "}")
+            lead, closing = ("  ", "]") if inner.due == "item" else ("  ? ", "}")
             if self.take(lead, closing) == lead:
-                open_ones[-1] = "item" if inner == "item" else "key"
+                inner.due, inner.begin = "item" if inner.due == "item" else "key", self.at
                 return True
             open_ones.pop()
         return False
@@ -124,10 +147,10 @@ def place_in(text):
     return text.count("\n") + 1, len(text) - text.rfind("\n")
 
 
-def place(data, writes, reads):
-    """The line, the column, and what an answer says of them; zeros where the bytes are canonical."""
+def place(data, writes, reads, differ):
+    """The line, the column, and what an answer says of them, if keys must differ or may repeat; zeros where the bytes are canonical."""
     try:
-        words = Words(data.decode(), writes, reads)
+        words = Words(data.decode(), writes, reads, differ)
     except UnicodeDecodeError as error:
         return *place_in(data[:error.start].decode()), "not canonical"
     try:
@@ -136,4 +159,6 @@ def place(data, writes, reads):
         return *place_in(words.text[:words.at]), "not canonical"
     except TooDeep:
         return *place_in(words.text[:words.at]), "nested too deep"
+    except Repeats:
+        return *place_in(words.text[:words.at]), "a name is given twice"
     return 0, 0, "done"
