@@ -9,6 +9,15 @@
 #include "nested.h"
 #include "yaml_c.h"
 
+/* The sanitizer of addresses needs more stack: gcc and clang say in their own ways that it is on. */
+#ifdef __SANITIZE_ADDRESS__
+#define SANITIZED
+#elif defined(__has_feature)
+#if __has_feature(address_sanitizer)
+#define SANITIZED
+#endif
+#endif
+
 #define STACK 65536
 #define MARK 0xa5
 #define MOST 1000
@@ -29,9 +38,9 @@ static void make_bytes(void) {
     status = yaml_canonical_from_json((const uint8_t *)text, strlen(text), settings, out, sizeof out, &result);
 }
 
-/* Makes a call in the stack. Returns whether nothing below it was written. (The sanitizer of addresses needs a larger one.) */
+/* Makes a call in the stack. Returns whether nothing below it was written. */
 static int called(void (*call)(void)) {
-#ifdef __SANITIZE_ADDRESS__
+#ifdef SANITIZED
     call();
     return 1;
 #else
