@@ -1,5 +1,5 @@
 //! The conversion of each file by itself, to one beside it.
-ghost use Rattle.std.specs.Prelude.{◌≡◌, ◌≤◌, ◌++◌, IfOk, false};
+ghost use Rattle.std.specs.Prelude.{◌≡◌, ◌≤◌, ◌++◌, IfOk, false, max};
 ghost use Rattle.yaml_program.specs.Conversions.{EachIsDone, IsDoneBeside, names_of};
 
 use crate::arguments::Conversion;
@@ -79,6 +79,7 @@ fn worse(first: u8, second: u8) -> u8
     ensures known { result ≤ 3 }
     ensures first { result ≡ 0 → first ≡ 0 }
     ensures second { result ≡ 0 → second ≡ 0 }
+    ensures worst { result ≡ max first second }
 {
     if first < second { second } else { first }
 }

@@ -1,12 +1,12 @@
 //! The names of files that are written beside others.
-ghost use Rattle.std.specs.Prelude.{◌≡◌, ◌++◌, ℕ, List, IfOk, IfSome, string_bytes};
+ghost use Rattle.std.specs.Prelude.{◌≡◌, ◌≢◌, ◌++◌, ℕ, List, IfOk, MatchOption, string_bytes};
 ghost use Rattle.yaml_program.specs.Conversions.{IsBeside};
 
 use std::alloc::{AllocError, Global};
 
 /// Returns a name without this ending, or `None` if it ends otherwise.
 pub fn stem_of<'a>(name: &'a str, ending: &str) -> Option<&'a str>
-    ensures { IfSome result (λ stem. name.now ≡ stem.now ++ ending.now) }
+    ensures { MatchOption result ((stem : List ℕ) → name.now ≢ stem ++ ending.now) (λ stem. name.now ≡ stem.now ++ ending.now) }
 {
     name.strip_suffix(ending)
 }
