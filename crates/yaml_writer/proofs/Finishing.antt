@@ -27,7 +27,8 @@ refuses_one given all error state at = record {
 
 -- an error stays when an event is given
 pub error_kept : (before after : State) (event : Event) (error : yaml_error_t)
-    → (IsSome before.error → after ≡ record before { events = before.events ++ event ∷ []; started = true }) → before.error ≡ Some error → after.error ≡ Some error
+    → (IsSome before.error → after ≡ record before { events = before.events ++ event ∷ []; started = true })
+    → before.error ≡ Some error → after.error ≡ Some error
 error_kept before after event error kept is = ap (λ (s : State). s.error) (kept (ap is_some is)) ∙ is
 
 pub same_error : (a b : yaml_error_t) → Some a ≡ Some b → a ≡ b

@@ -119,7 +119,8 @@ emits_alone event before settled machine answer text none h alone ready wrote =
     let empty : before.held ≡ [] = sym (settled_same event before settled h unready) ∙ alone in
     absurd (false≢true (sym unready ∙ ap (λ (l : List Event). is_head_ready (l ++ event ∷ [])) empty ∙ ready)))
     (λ some. absurd (some_error before.error none some))
-    (keeps_set_then (starting before event) settled (with_machine settled settled.held machine) h.set (keeps_with_machine settled settled.held machine wrote.set))
+    (keeps_set_then (starting before event) settled (with_machine settled settled.held machine) h.set
+    (keeps_with_machine settled settled.held machine wrote.set))
     wrote.answered
 
 -- An event was appended to those that wait still, and the first of them goes on waiting.

@@ -4,4 +4,5 @@ use Rattle.yaml_emitter.proofs.borrowed.yaml_emitter_emit_scalar.Goals as goal
 
 pub invariant_of-emitter : goal.invariant_of-emitter
 invariant_of-emitter g c =
-    keeps_scalar (scalar (seen_scalar c.args.content.now)) c.emit_scalar.result (ap (λ (s : State). s.has_output) c.emitter.view_is ∙ c.requires) c.emit_scalar.ensures.emits c.emitter.invariant
+    keeps_scalar (scalar (seen_scalar c.args.content.now)) c.emit_scalar.result (ap (λ (s : State). s.has_output) c.emitter.view_is ∙ c.requires)
+    c.emit_scalar.ensures.emits c.emitter.invariant

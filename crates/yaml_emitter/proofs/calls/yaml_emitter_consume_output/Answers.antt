@@ -9,7 +9,8 @@ invariant_of-emitter-inside g c = emitter_kept c.emitter-inside.inside.0.0 c.con
 
 pub invariant_of-emitter : goal.invariant_of-emitter
 invariant_of-emitter g c =
-    keeps_taken (state_taken c.emitter-inside.inside.0.0 c.emitter.inside.engine c.consume_output.new.self (ap engine_of c.emitter-inside.view_is) c.consume_output.ensures)
+    keeps_taken
+    (state_taken c.emitter-inside.inside.0.0 c.emitter.inside.engine c.consume_output.new.self (ap engine_of c.emitter-inside.view_is) c.consume_output.ensures)
     c.emitter.invariant
 
 pub returns-clause-taken : goal.returns-clause-taken

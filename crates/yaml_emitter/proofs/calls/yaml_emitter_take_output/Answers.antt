@@ -9,7 +9,8 @@ invariant_of-emitter-inside g c = emitter_kept c.emitter-inside.inside.0.0 c.tak
 
 pub invariant_of-emitter : goal.invariant_of-emitter
 invariant_of-emitter g c =
-    keeps_taken (state_taken c.emitter-inside.inside.0.0 c.emitter.inside.engine c.take_output.new.self (ap engine_of c.emitter-inside.view_is) c.take_output.ensures.taken)
+    keeps_taken
+    (state_taken c.emitter-inside.inside.0.0 c.emitter.inside.engine c.take_output.new.self (ap engine_of c.emitter-inside.view_is) c.take_output.ensures.taken)
     c.emitter.invariant
 
 pub returns-clause-taken : goal.returns-clause-taken

@@ -5,7 +5,8 @@ use Rattle.yaml_emitter.proofs.emitter.yaml_emitter_t.mark_closed.Goals as goal
 
 pub invariant_of-self : goal.invariant_of-self
 invariant_of-self g c =
-    keeps_flagged c.self.inside.engine.opened true (ap (λ (s : State). let made : State = record s { closed = true } in made) (ap engine_of c.self-inside.view_is))
+    keeps_flagged c.self.inside.engine.opened true
+    (ap (λ (s : State). let made : State = record s { closed = true } in made) (ap engine_of c.self-inside.view_is))
     c.self.invariant
 
 pub returns-clause-set : goal.returns-clause-set

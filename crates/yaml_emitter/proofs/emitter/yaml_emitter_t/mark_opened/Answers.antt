@@ -15,7 +15,8 @@ invariant_of-self-inside g c =
 
 pub invariant_of-self : goal.invariant_of-self
 invariant_of-self g c =
-    keeps_flagged true c.self.inside.engine.closed (ap (λ (s : State). let made : State = record s { opened = true } in made) (ap engine_of c.self-inside.view_is))
+    keeps_flagged true c.self.inside.engine.closed
+    (ap (λ (s : State). let made : State = record s { opened = true } in made) (ap engine_of c.self-inside.view_is))
     c.self.invariant
 
 pub returns-clause-set : goal.returns-clause-set

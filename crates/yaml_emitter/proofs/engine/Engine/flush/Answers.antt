@@ -1,5 +1,6 @@
 use Rattle.yaml_emitter.proofs.Common.{◌≤◌, None, Some, List, refl, ◌≡◌, ap, subst, sym, ◌∙◌, Event, seen_events, state_of, is_head_ready, MachineStands}
-use Rattle.yaml_emitter.proofs.Common.{[], ◌++◌, append-nil, StandsAfter, State, MachineState, none_from_result, some_from_result, encoded, result_of_error, Grows}
+use Rattle.yaml_emitter.proofs.Common.{[], ◌++◌, append-nil}
+use Rattle.yaml_emitter.proofs.Common.{StandsAfter, State, MachineState, none_from_result, some_from_result, encoded, result_of_error, Grows}
 use Rattle.yaml_emitter.proofs.Common.{KeepsSet, Page}
 use Rattle.yaml_base.specs.declared.errors.yaml_error_t.TheVariants.{Memory}
 use Rattle.yaml_emitter.proofs.standing.{EmitterKept.has_output_inside, EmitterKept.kept_emitting, Growing.flushed_unflushed, Moving.moved_nowhere}
@@ -23,7 +24,15 @@ returns-in-Some-clause-moves g c =
     record {
       stands = λ given all stands. subst (λ (l : List Event). StandsAfter given l c.args.self.now) (sym (append-nil all)) stands;
       grows = grows_itself c.args.self.now.page;
-      set = record { events = sym (append-nil c.args.self.now.events); given = refl; started = refl; has_output = refl; opened = refl; closed = refl; taken = refl };
+      set = record {
+        events = sym (append-nil c.args.self.now.events);
+        given = refl;
+        started = refl;
+        has_output = refl;
+        opened = refl;
+        closed = refl;
+        taken = refl;
+      };
       answered = sym (ap result_of_error (sym (ap (λ (s : State). s.error) c.self.view_is) ∙ sym c.error.ensures ∙ c.in-Some.is));
     }
 
@@ -42,7 +51,8 @@ returns-in-Ok-clause-moves g c =
           });
       grows = subst (λ (s : State). Grows s.page c.flush.new.self.page) c.self.view_is (flushed_grows c.flush.ensures.flushed);
       set =
-          subst (λ (s : State). KeepsSet (record s { events = s.events ++ []; started = s.started }) (state_of (record c.self.inside { machine = c.flush.new.self })))
+          subst (λ (s : State). KeepsSet (record s { events = s.events ++ []; started = s.started })
+          (state_of (record c.self.inside { machine = c.flush.new.self })))
           c.self.view_is
           (record {
             events = sym (append-nil c.self.inside.history.events);
