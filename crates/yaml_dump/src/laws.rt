@@ -5,7 +5,6 @@ ghost use Rattle.yaml_dump.specs.EqualBytes as equal;
 ghost use Rattle.yaml_dump.specs.GraphTrees.{DumpedTreesUnfold};
 ghost use Rattle.yaml_dump.specs.TypedDumps.{TypedDumpsReadBack};
 
-use yaml_emitter::laws::standing_is_promised;
 pub use yaml_emitter::laws::{
     bodies_are_tidy, breaks_agree, bytes_have_one_text, canonical_bytes_read,
     canonical_documents_have_texts, canonical_output_reads, documents_unfold, encoded_alike,
