@@ -29,6 +29,10 @@ given_type T = plain (λ _. param 0 T)
 abbrev layout : RattleType → syntax.Args
 layout T = layouts (a_type ∷ []) (T, tt)
 
+-- what a shared reference asks that isn't read
+abbrev unread : Unit {0} × Unit {0}
+unread = (tt, tt)
+
 abbrev stayed : (T : RattleType) → Stays (contract.ended T).signature.params (contract.ended T).kept
 stayed T = (stay_none_ref (0 ∷ []) tt list yes, (stay_none_ref (1 ∷ []) tt (given_type T) yes, tt))
 
@@ -47,8 +51,8 @@ with_spec 𝓤 𝓛 𝓜 𝓡 wired T LT =
     -- (nothing is required)
     via 𝓤 _ (fst∗ 𝓤 _ ((clauses κs given).requires event))
     (qed 𝓛 (raw (alive 𝓛 signature κs qs) ∷ ‵ (owns (types_at signature.params κs) given stored) ∷ []) ∵ enter ! _ _ _ _ _ $
-    alloc_all ! (λ local. pass_all ! refl ((tt, tt), ((tt, tt), tt)) $
-    sets ! (agg ! (no_more !)) refl (tt, tt) $ returns ! (look_at ! 0 refl) $ free_all ! refl $
+    alloc_all ! (λ local. pass_all ! refl (unread, (unread, tt)) $
+    sets ! (agg ! (no_more !)) refl unread $ returns ! (look_at ! 0 refl) $ free_all ! refl $
     -- [the tokens; the parameters]
     suffices ! _ (ends_at 𝓛 (contract.ended T) (stayed T) clauses ((κs, qs, bounds, given, stored), event) stored_history (history_of longer)
     (tt, (tt, tt)) (tt, (tt, tt))) $
