@@ -1,5 +1,5 @@
 -- The view of an emitter in contracts.
-use Rattle.std.specs.Prelude.{◌≡◌, ℕ, Bool, true, false, not, ◌||◌, is_some, Option, None, List, []}
+use Rattle.std.specs.Prelude.{◌≡◌, ℕ, Bool, true, false, not, ◌||◌, is_some, Option, None, List, [], take}
 use Rattle.yaml_base.specs.Settings.{largest_usize, Settings, Effective, effective, nothing_given}
 use Rattle.yaml_base.specs.Event.{Event}
 use Rattle.yaml_base.specs.Layout.{Standing}
@@ -98,6 +98,10 @@ FitsPage _ page = IsReady page
 -- the emitter with all its output taken
 abbrev pub with_all_taken : State → State
 with_all_taken state = record state { page = all_taken state.page }
+
+-- the bytes of the output that were taken
+abbrev pub bytes_taken : State → List ℕ
+bytes_taken state = take state.page.taken state.page.output
 
 -- true if the stream has not begun
 abbrev pub is_at_stream : Stage → Bool

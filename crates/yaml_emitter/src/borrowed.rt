@@ -6,6 +6,7 @@ ghost use Rattle.yaml_base.specs.Event.{scalar};
 ghost use Rattle.yaml_base.specs.Meaning.{has_scalar_texts};
 ghost use Rattle.yaml_base.specs.Seen.{seen_event, seen_text};
 ghost use Rattle.yaml_emitter.specs.BorrowedTexts.{CopiesText, seen_name, seen_scalar};
+ghost use Rattle.yaml_emitter.specs.Emits.{TakesScalar};
 ghost use Rattle.yaml_emitter.specs.EmitsEvent.{EmitsScalar, result_of_answer};
 ghost use Rattle.yaml_emitter.specs.Queue.{are_ready_by_one_more};
 
@@ -57,6 +58,7 @@ pub fn yaml_emitter_emit_scalar<A: Allocator + Copy>(
     content: &ScalarContent<'_>,
 ) -> ScalarAnswer
     requires { emitter.old.has_output ≡ true }
+    ensures takes { TakesScalar emitter.old (scalar (seen_scalar content.now)) result emitter.new }
     ensures emits { EmitsScalar emitter.old (scalar (seen_scalar content.now)) result emitter.new }
     ensures output { emitter.new.has_output ≡ true }
 {

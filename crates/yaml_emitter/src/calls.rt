@@ -6,7 +6,7 @@ ghost use Rattle.yaml_base.specs.Seen.{seen_event};
 ghost use Rattle.yaml_base.specs.Ready.{written};
 ghost use Rattle.yaml_base.specs.Settings.{Settings};
 ghost use Rattle.yaml_pen.specs.Page.{output_left};
-ghost use Rattle.yaml_emitter.specs.Emits.{Emits};
+ghost use Rattle.yaml_emitter.specs.Emits.{Emits, IsFlushed};
 ghost use Rattle.yaml_emitter.specs.Moves.{Moves};
 ghost use Rattle.yaml_emitter.specs.Promises.{HasAllBytes, Promised};
 ghost use Rattle.yaml_emitter.specs.State.{with_all_taken};
@@ -34,6 +34,7 @@ pub fn yaml_emitter_emit<A: Allocator + Copy>(
     ensures emits { Emits emitter.old (seen_event event ∷ []) result emitter.new }
     ensures moves { Moves emitter.old (seen_event event ∷ []) result emitter.new }
     ensures promised { (given : Settings) (all : List Event) → StandsAfter given all emitter.old → Promised given (all ++ seen_event event ∷ []) emitter.new }
+    ensures unready { emitter.old.error ≡ None → written emitter.new.events ≡ written emitter.old.events → IsOk result }
     ensures waits { (given : Settings) (all : List Event) → StandsAfter given all emitter.old → emitter.old.error ≡ None
         → written (all ++ seen_event event ∷ []) ≡ written all → IsOk result }
     ensures kept { IsSome emitter.old.error
@@ -57,6 +58,8 @@ pub fn yaml_emitter_flush<A: Allocator + Copy>(
     requires output { emitter.old.has_output ≡ true }
     ensures emits { Emits emitter.old [] result emitter.new }
     ensures moves { Moves emitter.old [] result emitter.new }
+    ensures whole { OnOk result (IsFlushed emitter.new) }
+    ensures idle { emitter.old.error ≡ None → IsFlushed emitter.old → emitter.new ≡ emitter.old }
     ensures flushed { OnOk result ((given : Settings) (all : List Event) → StandsAfter given all emitter.old → HasAllBytes given all emitter.new) }
     ensures unflushed { result ≡ Err yaml_error_t.Memory → emitter.new.page.output ≡ emitter.old.page.output }
     ensures empty { (given : Settings) (all : List Event) → StandsAfter given all emitter.old → emitter.old.error ≡ None → HasAllBytes given all emitter.old

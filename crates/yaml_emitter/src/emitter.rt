@@ -1,6 +1,6 @@
 //! The emitter: it writes the events that it is given.
 
-ghost use Rattle.std.specs.Prelude.{◌≡◌, IfOk, IfErr, []};
+ghost use Rattle.std.specs.Prelude.{◌≡◌, ◌≤◌, IfOk, IfErr, [], length};
 ghost use Rattle.yaml_base.specs.Settings.{nothing_given};
 ghost use Rattle.yaml_emitter.specs.Emits.{IsPromised};
 ghost use Rattle.yaml_emitter.specs.Given.{seen_settings};
@@ -75,6 +75,7 @@ impl<A: Allocator> yaml_emitter_t<A> {
     /// States what a caller may rely on, whatever was called before.
     pub fn promised(&self)
         ensures stands { StandsAfter self.now.given self.now.events self.now }
+        ensures taken { self.now.page.taken ≤ length self.now.page.output }
         ensures promised { IsPromised self.now }
     {
         standing_is_promised();

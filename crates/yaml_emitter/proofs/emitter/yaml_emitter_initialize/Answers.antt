@@ -6,4 +6,4 @@ use Rattle.yaml_emitter.proofs.emitter.yaml_emitter_initialize.Goals as goal
 pub invariant_of-result : goal.invariant_of-result
 invariant_of-result g c =
     keeps_new c.in_ok-engine.engine nothing_given (ap (λ (s : State). s.events) c.in_ok-engine.ensures.made)
-    (ap (λ (s : State). s.given) c.in_ok-engine.ensures.made) c.in_ok-engine.ensures.stands
+    (ap (λ (s : State). s.given) c.in_ok-engine.ensures.made) (ap (λ (s : State). s.page.taken) c.in_ok-engine.ensures.made) c.in_ok-engine.ensures.stands

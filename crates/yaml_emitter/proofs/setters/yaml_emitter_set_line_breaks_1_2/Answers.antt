@@ -1,5 +1,5 @@
-use Rattle.yaml_emitter.proofs.Common.{arith, common_steps, rules, refl, ap, State}
-use Rattle.yaml_emitter.proofs.{Keeping.keeps_given, standing.StandingSet.stands_given}
+use Rattle.yaml_emitter.proofs.Common.{arith, common_steps, rules, refl, ap, State, subst, sym}
+use Rattle.yaml_emitter.proofs.{Keeping.Within, Keeping.keeps_given, standing.StandingSet.stands_given}
 use Rattle.yaml_emitter.proofs.setters.yaml_emitter_set_line_breaks_1_2.Goals as goal
 
 pub returns-clause-set : goal.returns-clause-set
@@ -10,4 +10,5 @@ returns-clause-stands g c stands = stands_given c.args.emitter.now _ _ _ (return
 
 pub invariant_of-emitter : goal.invariant_of-emitter
 invariant_of-emitter g c =
-    keeps_given c.emitter.view_is c.requires (ap (λ (s : State). s.events) (returns-clause-set g c)) (returns-clause-stands g c) c.emitter.invariant
+    keeps_given c.emitter.view_is c.requires (ap (λ (s : State). s.events) (returns-clause-set g c))
+    (subst Within (sym (returns-clause-set g c))) (returns-clause-stands g c) c.emitter.invariant

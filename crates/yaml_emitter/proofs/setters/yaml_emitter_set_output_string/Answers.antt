@@ -1,5 +1,5 @@
-use Rattle.yaml_emitter.proofs.Common.{arith, common_steps, rules, ap, ◌∙◌, State}
-use Rattle.yaml_emitter.proofs.{Keeping.keeps_limited, standing.EmitterKept.kept_limited, standing.StandingSet.stands_limited}
+use Rattle.yaml_emitter.proofs.Common.{arith, common_steps, rules, ap, ◌∙◌, State, subst, sym}
+use Rattle.yaml_emitter.proofs.{Keeping.Within, Keeping.keeps_limited, standing.EmitterKept.kept_limited, standing.StandingSet.stands_limited}
 use Rattle.yaml_emitter.specs.EmitterInside.{engine_of}
 use Rattle.yaml_emitter.proofs.setters.yaml_emitter_set_output_string.Goals as goal
 
@@ -18,4 +18,5 @@ invariant_of-emitter-inside g c = kept_limited c.emitter-inside.inside.0.0 c.set
 
 pub invariant_of-emitter : goal.invariant_of-emitter
 invariant_of-emitter g c =
-    keeps_limited c.emitter.view_is c.requires (ap (λ (s : State). s.events) (returns-clause-set g c)) (returns-clause-stands g c) c.emitter.invariant
+    keeps_limited c.emitter.view_is c.requires (ap (λ (s : State). s.events) (returns-clause-set g c))
+    (subst Within (sym (returns-clause-set g c))) (returns-clause-stands g c) c.emitter.invariant
