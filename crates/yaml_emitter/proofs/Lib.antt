@@ -8,6 +8,7 @@ pub mod AcceptedLists
 pub mod Digits
 pub mod EndedStreams
 pub mod rows
+pub mod Giving
 pub mod Histories
 pub mod EventLives
 pub mod Keeping

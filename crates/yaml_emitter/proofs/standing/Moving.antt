@@ -5,12 +5,8 @@ use Rattle.std.specs.Prelude.{IfErr}
 use Rattle.yaml_base.specs.{Settings.Settings, declared.errors.yaml_error_t.yaml_error_t, declared.errors.yaml_error_t.TheVariants.Memory}
 use Rattle.yaml_pen.{proofs.Composing.grows_then, proofs.Composing.grows_itself, specs.Page.result_of_error}
 use Rattle.yaml_emitter.specs.{Moves.Moves, Moves.MovesTell, Moves.started_by, Promises.FitsLimit, Promises.Promised}
+use Rattle.yaml_emitter.proofs.Giving.{started_then}
 use Rattle.yaml_emitter.proofs.standing.{Promising.promised, PromisingRoom.memory_only, StandingFlagged.stands_flagged}
-
-started_then : (started : Bool) (first next : List Event) → started_by (started_by started first) next ≡ started_by started (first ++ next)
-started_then started [] next = refl
-started_then started (event ∷ first) [] = refl
-started_then started (event ∷ first) (other ∷ next) = refl
 
 pub moves_then : {before between after : State} {first next : List Event} {one two : Result (Unit {0}) yaml_error_t} → Moves before first one between
     → Moves between next two after → Moves before (first ++ next) two after
