@@ -1,12 +1,15 @@
 -- The conversion that options ask for, and what a conversion does with files whose bytes are known. `IsYaml` relates some files and the
 -- bytes of the stream of their texts.
-use Rattle.std.specs.Prelude.{◌≡◌, ◌⊎◌, ℕ, Option, Some, List, [], ◌∷◌, ◌++◌, codes, chars, encode_utf8_all, map, option_map, None, Bool, true, false}
+use Rattle.std.specs.Prelude.{◌≡◌, ◌≢◌, ◌⊎◌, ℕ, Option, Some, List, [], ◌∷◌, ◌++◌, codes, chars, encode_utf8_all, map, option_map, None, Bool, true, false}
+use Rattle.std.specs.List.{Any}
 use Rattle.std.specs.Io.KnownBytes.{Appends}
 use Rattle.clap.specs.Words.{first_value, found_of}
 use Rattle.clap.specs.declared.parser.matches.ArgMatches.{ArgMatches}
 use Rattle.yaml_writer.specs.Headings.{comment_lines}
+use Rattle.yaml_program.specs.Faults.{failure_status}
 use Rattle.yaml_program.specs.Options.{IsOn, files_named, value_of}
 use Rattle.yaml_program.specs.declared.arguments.Conversion.{Conversion}
+use Rattle.yaml_program.specs.declared.faults.Failure.{Failure}
 
 -- ---- the conversion that is asked for
 
@@ -83,6 +86,19 @@ WroteToStream is_yaml bytes_of conversion before after =
 abbrev pub HaveYaml : (IsYaml : List (List ℕ) → List ℕ → Type 0) → List (List ℕ) → Type 0
 HaveYaml IsYaml files = (bytes : List ℕ) × IsYaml files bytes
 
+-- True if these files have no stream.
+abbrev pub HaveNoYaml : (IsYaml : List (List ℕ) → List ℕ → Type 0) → List (List ℕ) → Type 0
+HaveNoYaml IsYaml files = HaveYaml IsYaml files → ⊥
+
+-- True of a failure if it has status 1 only if the files that are read have no stream.
+abbrev pub RefusesFiles : (List ℕ → Option (List ℕ)) → (IsYaml : List (List ℕ) → List ℕ → Type 0) → (names : List (List ℕ)) → Failure → Type 0
+RefusesFiles bytes_of IsYaml names failure = failure_status failure ≡ 1 → OfNames bytes_of names (HaveNoYaml IsYaml)
+
+-- The same of a conversion, by the relation of its format.
+abbrev pub RefusesConversion : {F : Type 0} → (is_yaml : F → List (List ℕ) → List ℕ → Type 0) → (List ℕ → Option (List ℕ)) → Conversion F → Failure
+    → Type 0
+RefusesConversion is_yaml bytes_of conversion = RefusesFiles bytes_of (is_yaml conversion.format) (names_of conversion)
+
 -- ---- the effect of a conversion
 
 -- True if the bytes of what has this name, if they are known, are the heading's lines and the stream of the files that are read.
@@ -129,3 +145,50 @@ abbrev pub AllDone : {F : Type 0} → (is_yaml : F → List (List ℕ) → List 
     → Conversion F → (each : Bool) → Type 0
 AllDone is_yaml ending bytes_of conversion true = EachIsDone is_yaml ending bytes_of conversion (names_of conversion)
 AllDone is_yaml ending bytes_of conversion false = IsDone is_yaml bytes_of conversion (option_map (λ name. name.now) conversion.output)
+
+-- ---- a conversion that isn't done
+
+-- True if the files have a stream, and what has this name doesn't have the bytes of the heading's lines and that stream.
+abbrev pub Differs : (List ℕ → Option (List ℕ)) → (IsYaml : List (List ℕ) → List ℕ → Type 0) → (heading : Option (List ℕ)) → List (List ℕ)
+    → (name : List ℕ) → Type 0
+Differs bytes_of IsYaml heading files name = (bytes : List ℕ) × IsYamlBehind IsYaml heading files bytes × (bytes_of name ≢ Some bytes)
+
+-- True if the files that are read have no stream, or files are compared and the target differs.
+abbrev pub IsUndoneAs : (List ℕ → Option (List ℕ)) → (IsYaml : List (List ℕ) → List ℕ → Type 0) → (heading : Option (List ℕ)) → (checks : Bool)
+    → (names : List (List ℕ)) → (target : Option (List ℕ)) → Type 0
+IsUndoneAs bytes_of IsYaml heading checks names target =
+    OfNames bytes_of names (λ files.
+    HaveNoYaml IsYaml files ⊎ ((checks ≡ true) × (name : List ℕ) × (target ≡ Some name) × Differs bytes_of IsYaml heading files name))
+
+-- The same of a conversion, by the relation of its format.
+abbrev pub IsUndone : {F : Type 0} → (is_yaml : F → List (List ℕ) → List ℕ → Type 0) → (List ℕ → Option (List ℕ)) → Conversion F
+    → (target : Option (List ℕ)) → Type 0
+IsUndone is_yaml bytes_of conversion target =
+    IsUndoneAs bytes_of (is_yaml conversion.format) (heading_of conversion) conversion.checks (names_of conversion) target
+
+-- True if a file isn't converted by itself to the file beside it.
+pub record IsUndoneBeside {F : Type 0} (is_yaml : F → List (List ℕ) → List ℕ → Type 0) (ending : List ℕ) (bytes_of : List ℕ → Option (List ℕ))
+    (conversion : Conversion F) (name : List ℕ) : Type 0 where
+  pub target : List ℕ
+  pub beside : IsBeside ending name target
+  pub undone : IsUndoneAs bytes_of (is_yaml conversion.format) (heading_of conversion) conversion.checks (name ∷ []) (Some target)
+
+-- True if one of the files isn't converted by itself, or all of them aren't together.
+abbrev pub SomeUndone : {F : Type 0} → (is_yaml : F → List (List ℕ) → List ℕ → Type 0) → (ending : List ℕ) → (List ℕ → Option (List ℕ))
+    → Conversion F → (each : Bool) → Type 0
+SomeUndone is_yaml ending bytes_of conversion true = Any (IsUndoneBeside is_yaml ending bytes_of conversion) (names_of conversion)
+SomeUndone is_yaml ending bytes_of conversion false = IsUndone is_yaml bytes_of conversion (option_map (λ name. name.now) conversion.output)
+
+-- True if the name doesn't have the format's ending.
+abbrev pub EndsOtherwise : (ending name : List ℕ) → Type 0
+EndsOtherwise ending name = (stem : List ℕ) → name ≢ stem ++ ending
+
+-- True if the options name no file with which the YAML could be compared.
+abbrev pub ComparesNothing : {F : Type 0} → Conversion F → Type 0
+ComparesNothing conversion = (conversion.checks ≡ true) × (conversion.each ≡ false) × IsToStream conversion
+
+-- True if a conversion is refused for its options: for its depth, since it compares nothing, or for a name without the format's ending.
+abbrev pub IsRefusedByOptions : {F : Type 0} → (allows_depth : F → Bool) → (ending : List ℕ) → Conversion F → Type 0
+IsRefusedByOptions allows_depth ending conversion =
+    (allows_depth conversion.format ≡ false)
+    ⊎ (ComparesNothing conversion ⊎ ((conversion.each ≡ true) × Any (EndsOtherwise ending) (names_of conversion)))

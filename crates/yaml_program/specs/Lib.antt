@@ -1,4 +1,5 @@
 pub mod Faults
+pub mod Messages
 pub mod Options
 pub mod Conversions
 pub mod Bounds

@@ -1,13 +1,13 @@
 //! The comparison of a file with the YAML that would be written to it.
-ghost use Rattle.std.specs.Prelude.{◌≡◌, ◌≤◌};
-ghost use Rattle.yaml_program.specs.Conversions.{HaveYaml, IsThere, OfFiles, heading_of, names_of};
+ghost use Rattle.std.specs.Prelude.{◌≡◌, ◌≢◌, ◌≤◌, ◌⊎◌};
+ghost use Rattle.yaml_program.specs.Conversions.{Differs, HaveNoYaml, HaveYaml, IsThere, OfFiles, heading_of, names_of};
 
 use crate::arguments::Conversion;
 use crate::faults::{Failure, Messages, give_up, report};
 use crate::formats::Format;
 use crate::sending::send_all;
-use crate::sources::{Sources, read_file};
-use std::io::{ErrorKind, Write};
+use crate::sources::{Sources, read_if_there};
+use std::io::Write;
 use yaml_base::Quoted;
 
 /// Reports that a file differs from the YAML that would be written to it, or is missing.
@@ -32,20 +32,23 @@ pub fn check<F: Format, S: Sources + AllocGlobal, W: Write>(
     ensures stream { result ≡ 0 → OfFiles (S.bytes_of sources.now) conversion.now (HaveYaml (F.is_yaml conversion.now.format)) }
     ensures there { result ≡ 0 → IsThere (S.bytes_of sources.now) (F.is_yaml conversion.now.format) (heading_of conversion.now) (names_of conversion.now)
         name.now }
+    ensures differs { result ≡ 1 → OfFiles (S.bytes_of sources.now) conversion.now (λ files. HaveNoYaml (F.is_yaml conversion.now.format) files
+        ⊎ Differs (S.bytes_of sources.now) (F.is_yaml conversion.now.format) (heading_of conversion.now) files name.now) }
+    ensures understood { result ≢ 2 }
 {
     let mut yaml = Vec::new(sources.alloc());
     if let Err(stop) = send_all(sources, conversion, &mut yaml) {
         return report(Err(stop), None, faults);
     }
-    match read_file(sources, name) {
-        Ok(there) => {
+    match read_if_there(sources, name) {
+        Ok(Some(there)) => {
             if yaml.as_slice() == there.as_slice() {
                 0
             } else {
                 tell_difference(name, faults)
             }
         }
-        Err(error) if error.kind() == ErrorKind::NotFound => tell_difference(name, faults),
+        Ok(None) => tell_difference(name, faults),
         Err(error) => give_up(Failure::ReadFailed(error), Some(name), faults),
     }
 }

@@ -1,6 +1,7 @@
 //! The conversion of each file by itself, to one beside it.
-ghost use Rattle.std.specs.Prelude.{◌≡◌, ◌≤◌, ◌++◌, IfOk, false, max};
-ghost use Rattle.yaml_program.specs.Conversions.{EachIsDone, IsDoneBeside, names_of};
+ghost use Rattle.std.specs.List.{Any};
+ghost use Rattle.std.specs.Prelude.{◌≡◌, ◌≢◌, ◌≤◌, ◌⊎◌, ◌++◌, IfOk, false, max};
+ghost use Rattle.yaml_program.specs.Conversions.{EachIsDone, EndsOtherwise, IsDoneBeside, IsUndoneBeside, names_of};
 
 use crate::arguments::Conversion;
 use crate::faults::{Messages, run_out};
@@ -26,6 +27,8 @@ fn convert_stem<'a, F: Format + Copy + Drop, S: Sources + AllocGlobal, W: Write>
     requires { names.0.now ≡ names.1.now ++ F.ending }
     ensures known { IfOk result (λ status. status ≤ 3) }
     ensures done { IfOk result (λ status. status ≡ 0 → IsDoneBeside F.is_yaml F.ending (S.bytes_of sources.now) conversion.now names.entry.0.now) }
+    ensures undone { IfOk result (λ status. status ≡ 1 → IsUndoneBeside F.is_yaml F.ending (S.bytes_of sources.now) conversion.now names.entry.0.now) }
+    ensures understood { IfOk result (λ status. status ≢ 2) }
 {
     let (name, stem) = names;
     let target = yaml_name(sources.alloc(), stem)?;
@@ -52,6 +55,8 @@ fn convert_beside<'a, F: Format + Copy + Drop, S: Sources + AllocGlobal, W: Writ
 ) -> u8
     ensures known { result ≤ 3 }
     ensures done { result ≡ 0 → IsDoneBeside F.is_yaml F.ending (S.bytes_of sources.now) conversion.now name.now }
+    ensures undone { result ≡ 1 → IsUndoneBeside F.is_yaml F.ending (S.bytes_of sources.now) conversion.now name.now }
+    ensures otherwise { result ≡ 2 → EndsOtherwise F.ending name.now }
 {
     let ending = conversion.format.ending();
     match stem_of(name, ending) {
@@ -80,6 +85,7 @@ fn worse(first: u8, second: u8) -> u8
     ensures first { result ≡ 0 → first ≡ 0 }
     ensures second { result ≡ 0 → second ≡ 0 }
     ensures worst { result ≡ max first second }
+    ensures one { (result ≡ first) ⊎ (result ≡ second) }
 {
     if first < second { second } else { first }
 }
@@ -105,6 +111,8 @@ pub fn convert_each<F: Format + Copy + Drop, S: Sources + AllocGlobal, W: Write>
 ) -> u8
     ensures known { result ≤ 3 }
     ensures done { result ≡ 0 → EachIsDone F.is_yaml F.ending (S.bytes_of sources.now) conversion.now (names_of conversion.now) }
+    ensures undone { result ≡ 1 → Any (IsUndoneBeside F.is_yaml F.ending (S.bytes_of sources.now) conversion.now) (names_of conversion.now) }
+    ensures otherwise { result ≡ 2 → Any (EndsOtherwise F.ending) (names_of conversion.now) }
 {
     let names = conversion.files.as_slice();
     let tells = names.len() >= MANY && rt.stderr().is_terminal();

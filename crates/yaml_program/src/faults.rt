@@ -1,12 +1,16 @@
 //! The failures of a program, its messages for them, and its status.
-ghost use Rattle.std.specs.Prelude.{◌≡◌, ◌≤◌, IsOk, false};
+ghost use Rattle.std.specs.IoError.{error_kind};
+ghost use Rattle.std.specs.Prelude.{◌≡◌, ◌≤◌, IsOk, codes, false, flat_map, true};
+ghost use Rattle.std.specs.declared.io.Error.{Error};
+ghost use Rattle.yaml_base.specs.Sinks.{AppendsFirst};
 ghost use Rattle.yaml_program.specs.Faults as statuses;
+ghost use Rattle.yaml_program.specs.Messages as messages;
 
 use crate::sources::STREAM;
 use crate::words::Wording;
 use std::io::{ErrorKind, Write};
 use std::{fmt, io};
-use yaml_base::Quoted;
+use yaml_base::{Quoted, write_to_sink};
 use yaml_writer::yaml_error_t;
 
 /// The reason why a text is refused.
@@ -23,6 +27,8 @@ pub enum Reason {
 }
 
 impl fmt::Display for Reason {
+    ghost output = { messages.reason_text };
+
     fn fmt<W: fmt::Write>(&self, f: &mut fmt::Formatter<W>) -> fmt::Result {
         match self {
             Reason::Words(words) => f.write_str(words),
@@ -55,6 +61,8 @@ pub enum Failure {
 
 /// Writes the reason, without the place.
 impl fmt::Display for Failure {
+    ghost output = { messages.failure_text };
+
     fn fmt<W: fmt::Write>(&self, f: &mut fmt::Formatter<W>) -> fmt::Result {
         match self {
             Failure::Refused { reason, .. } => reason.fmt(f),
@@ -66,6 +74,24 @@ impl fmt::Display for Failure {
 
 /// The failure that is reported if no memory is left.
 pub const NO_MEMORY: Failure = Failure::Unwritten(yaml_error_t::Memory);
+
+/// Writes texts to a sink, one after another up to the first that can't be written whole.
+fn write_texts<W: Write>(sink: &mut W, texts: &[&str])
+    ensures { AppendsFirst (W.contents sink.old) (W.contents sink.new) (flat_map (λ text. text.now) texts.now) }
+{
+    for text in texts {
+        if let Err(_) = write_to_sink(sink, text.as_bytes()) {
+            return;
+        }
+    }
+}
+
+/// Writes a message of this program as a line, up to the first part that can't be written whole.
+fn write_message<'a, W: Write>(sink: &mut W, program: &'a str, words: &'a str)
+    ensures { AppendsFirst (W.contents sink.old) (W.contents sink.new) (messages.message_line program.now words.now) }
+{
+    write_texts(sink, &[program, ": ", words, "\n"]);
+}
 
 /// The output to which a program reports failures.
 #[derive(Drop)]
@@ -90,17 +116,22 @@ impl<W: Write> Messages<W> {
 
     /// Ends the line that counts the files that are done, if there is one.
     pub(crate) fn end_line(&mut self)
-        ensures { self.new.has_open_line ≡ false }
+        ensures ended { self.new.has_open_line ≡ false }
+        ensures words { self.new.words ≡ self.old.words }
+        ensures told { AppendsFirst (W.contents self.old.sink) (W.contents self.new.sink) (messages.line_end self.old.has_open_line) }
     {
         if self.has_open_line {
-            let _reported = writeln!(&mut self.sink);
+            let _reported = write_to_sink(&mut self.sink, b"\n");
             self.has_open_line = false;
         }
     }
 }
 
 /// Returns whether a failure is that no memory was left.
-fn is_out_of_memory(error: &Failure) -> bool {
+fn is_out_of_memory(error: &Failure) -> bool
+    ensures memory { error.now ≡ Failure.Unwritten yaml_error_t.Memory → result ≡ true }
+    ensures system { result ≡ true → (found : Error) → error.now ≡ Failure.WriteFailed found → error_kind found ≡ ErrorKind.OutOfMemory }
+{
     match error {
         Failure::Unwritten(yaml_error_t::Memory) => true,
         Failure::ReadFailed(error) | Failure::WriteFailed(error) => {
@@ -127,6 +158,8 @@ enum Place<'a> {
 }
 
 impl fmt::Display for Place<'_> {
+    ghost output = { messages.place_text };
+
     fn fmt<W: fmt::Write>(&self, f: &mut fmt::Formatter<W>) -> fmt::Result {
         match self {
             Place::File(name) => name.fmt(f),
@@ -168,17 +201,20 @@ fn write_error<W: Write>(
 
 /// Reports why the arguments are refused, and returns the status for that.
 pub fn refuse<W: Write>(why: &str, faults: &mut Messages<W>) -> u8
-    ensures { result ≡ 2 }
+    ensures status { result ≡ 2 }
+    ensures told { messages.Reports faults.old.has_open_line (messages.message_line faults.old.words.now.name.now why.now)
+        (W.contents faults.old.sink) (W.contents faults.new.sink) }
 {
     faults.end_line();
-    let program = faults.words.name;
-    let _reported = writeln!(&mut faults.sink, "{program}: {why}");
+    write_message(&mut faults.sink, faults.words.name, why);
     2
 }
 
 /// Reports that no memory is left, and returns the status.
 pub fn run_out<W: Write>(faults: &mut Messages<W>) -> u8
-    ensures { result ≡ 3 }
+    ensures status { result ≡ 3 }
+    ensures told { messages.Reports faults.old.has_open_line (messages.message_line faults.old.words.now.name.now (codes "out of memory"))
+        (W.contents faults.old.sink) (W.contents faults.new.sink) }
 {
     refuse("out of memory", faults);
     3
@@ -190,6 +226,11 @@ pub fn give_up<W: Write>(error: Failure, name: Option<&str>, faults: &mut Messag
     ensures status { result ≡ statuses.failure_status error }
     ensures some { 1 ≤ result }
     ensures known { result ≤ 3 }
+    ensures memory { error ≡ Failure.Unwritten yaml_error_t.Memory
+        → messages.Reports faults.old.has_open_line (messages.message_line faults.old.words.now.name.now (codes "out of memory"))
+        (W.contents faults.old.sink) (W.contents faults.new.sink) }
+    ensures unread { (found : Error) → error ≡ Failure.WriteFailed found → error_kind found ≡ ErrorKind.BrokenPipe
+        → W.contents faults.new.sink ≡ W.contents faults.old.sink }
 {
     if is_out_of_memory(&error) {
         run_out(faults);
@@ -212,6 +253,7 @@ pub fn report<W: Write>(
 ) -> u8
     ensures status { result ≡ statuses.status_of_run sent.entry }
     ensures done { result ≡ 0 → IsOk sent.entry }
+    ensures quiet { IsOk sent.entry → W.contents faults.new.sink ≡ W.contents faults.old.sink }
     ensures known { result ≤ 3 }
 {
     match sent {

@@ -1,7 +1,7 @@
 //! The formats that a program converts.
-ghost use Rattle.std.specs.Prelude.{◌≡◌, ℕ, Bool, List, OnOk, map};
+ghost use Rattle.std.specs.Prelude.{◌≡◌, ℕ, Bool, List, IfErr, OnOk, map};
 ghost use Rattle.clap.specs.declared.parser.matches.ArgMatches.{ArgMatches};
-ghost use Rattle.yaml_program.specs.Conversions.{OfNames, WroteStream};
+ghost use Rattle.yaml_program.specs.Conversions.{OfNames, RefusesFiles, WroteStream};
 
 use crate::faults::Failure;
 use crate::sources::Sources;
@@ -49,6 +49,7 @@ pub trait Format {
         names: &[&'a str],
         sink: &mut W,
     ) -> Result<(), (Option<&'a str>, Failure)>
-        ensures { OnOk result (OfNames (S.bytes_of sources.now) (map (λ name. name.now) names.now) (λ files.
-            WroteStream (is_yaml self.now) files (W.contents sink.old) (W.contents sink.new))) };
+        ensures wrote { OnOk result (OfNames (S.bytes_of sources.now) (map (λ name. name.now) names.now) (λ files.
+            WroteStream (is_yaml self.now) files (W.contents sink.old) (W.contents sink.new))) }
+        ensures refused { IfErr result (λ stop. RefusesFiles (S.bytes_of sources.now) (is_yaml self.now) (map (λ name. name.now) names.now) stop.1) };
 }

@@ -1,8 +1,10 @@
 //! The program: the conversion that its arguments ask for, with files and the standard streams.
-ghost use Rattle.std.specs.Prelude.{◌≡◌, ◌≤◌, IfErr, IfOk, OnOk, Some, false, option_map};
+ghost use Rattle.std.specs.List.{Any};
+ghost use Rattle.std.specs.Prelude.{◌≡◌, ◌≢◌, ◌≤◌, IfErr, IfOk, OnOk, Some, false, option_map, true};
 ghost use Rattle.std.specs.Io.Buffered.{writer_contents, writer_inner};
 ghost use Rattle.clap.specs.Values.{kind_of};
-ghost use Rattle.yaml_program.specs.Conversions.{AllDone, HaveYaml, IsDone, OfFiles, WroteToStream};
+ghost use Rattle.yaml_program.specs.Conversions.{AllDone, EndsOtherwise, HaveNoYaml, HaveYaml, IsDone, IsRefusedByOptions, IsUndone, OfFiles};
+ghost use Rattle.yaml_program.specs.Conversions.{RefusesConversion, SomeUndone, WroteConversion, WroteToStream, names_of};
 ghost use Rattle.yaml_program.specs.Faults as statuses;
 
 use crate::arguments::{Conversion, conversion_of, read_arguments};
@@ -35,7 +37,8 @@ fn send_to_file<'a, F: Format, S: Sources + AllocGlobal>(
     conversion: &Conversion<'a, F>,
     name: &str,
 ) -> Result<(), (Option<&'a str>, Failure)>
-    ensures { OnOk result (OfFiles (S.bytes_of sources.now) conversion.now (HaveYaml (F.is_yaml conversion.now.format))) }
+    ensures stream { OnOk result (OfFiles (S.bytes_of sources.now) conversion.now (HaveYaml (F.is_yaml conversion.now.format))) }
+    ensures refused { IfErr result (λ stop. RefusesConversion F.is_yaml (S.bytes_of sources.now) conversion.now stop.1) }
 {
     let beside = match Beside::create(rt, F::words().name, name) {
         Ok(made) => made,
@@ -60,7 +63,8 @@ fn send_to_device<'a, F: Format, S: Sources + AllocGlobal>(
     conversion: &Conversion<'a, F>,
     name: &str,
 ) -> Result<(), (Option<&'a str>, Failure)>
-    ensures { OnOk result (OfFiles (S.bytes_of sources.now) conversion.now (HaveYaml (F.is_yaml conversion.now.format))) }
+    ensures stream { OnOk result (OfFiles (S.bytes_of sources.now) conversion.now (HaveYaml (F.is_yaml conversion.now.format))) }
+    ensures refused { IfErr result (λ stop. RefusesConversion F.is_yaml (S.bytes_of sources.now) conversion.now stop.1) }
 {
     let file = match fs::create(rt, name) {
         Ok(file) => file,
@@ -103,6 +107,8 @@ pub fn perform<F: Format, S: Sources + AllocGlobal, W: Write>(
 ) -> u8
     ensures known { result ≤ 3 }
     ensures done { result ≡ 0 → IsDone F.is_yaml (S.bytes_of sources.now) conversion.now (Some name.now) }
+    ensures undone { result ≡ 1 → IsUndone F.is_yaml (S.bytes_of sources.now) conversion.now (Some name.now) }
+    ensures understood { result ≢ 2 }
 {
     if conversion.checks {
         return check(sources, conversion, name, faults);
@@ -115,6 +121,23 @@ pub fn perform<F: Format, S: Sources + AllocGlobal, W: Write>(
     report(sent, Some(name), faults)
 }
 
+/// Writes the YAML of a conversion to standard output; reports a failure, and returns the status.
+fn send_to_stream<F: Format, S: Sources + AllocGlobal, O: Write + Drop, W: Write>(
+    sources: &S,
+    conversion: &Conversion<'_, F>,
+    stdout: &mut BufWriter<O>,
+    faults: &mut Messages<W>,
+) -> u8
+    ensures known { result ≤ 3 }
+    ensures wrote { result ≡ 0 → WroteConversion F.is_yaml (S.bytes_of sources.now) conversion.now (writer_contents O.contents stdout.old)
+        (O.contents (writer_inner stdout.new)) }
+    ensures refused { result ≡ 1 → OfFiles (S.bytes_of sources.now) conversion.now (HaveNoYaml (F.is_yaml conversion.now.format)) }
+    ensures understood { result ≢ 2 }
+{
+    let sent = send_buffered(sources, conversion, stdout);
+    report(sent, conversion.output, faults)
+}
+
 /// Writes the YAML of a conversion to a file, to which it may be compared, or to standard output; reports a failure, and returns the status.
 fn convert_together<F: Format, S: Sources + AllocGlobal, O: Write + Drop, W: Write>(
     rt: &HostRuntime,
@@ -125,6 +148,8 @@ fn convert_together<F: Format, S: Sources + AllocGlobal, O: Write + Drop, W: Wri
 ) -> u8
     ensures known { result ≤ 3 }
     ensures done { result ≡ 0 → IsDone F.is_yaml (S.bytes_of sources.now) conversion.now (option_map (λ name. name.now) conversion.now.output) }
+    ensures undone { result ≡ 1 → IsUndone F.is_yaml (S.bytes_of sources.now) conversion.now (option_map (λ name. name.now) conversion.now.output) }
+    ensures understood { result ≢ 2 }
     ensures wrote { result ≡ 0 → WroteToStream F.is_yaml (S.bytes_of sources.now) conversion.now (writer_contents O.contents stdout.old)
         (O.contents (writer_inner stdout.new)) }
 {
@@ -132,10 +157,7 @@ fn convert_together<F: Format, S: Sources + AllocGlobal, O: Write + Drop, W: Wri
         Some(name) if conversion.checks || name != STREAM => {
             perform(rt, sources, conversion, name, faults)
         }
-        _ => {
-            let sent = send_buffered(sources, conversion, stdout);
-            report(sent, conversion.output, faults)
-        }
+        _ => send_to_stream(sources, conversion, stdout, faults),
     }
 }
 
@@ -162,6 +184,8 @@ fn convert<
 ) -> u8
     ensures known { result ≤ 3 }
     ensures done { result ≡ 0 → AllDone F.is_yaml F.ending (S.bytes_of sources.now) conversion.now conversion.now.each }
+    ensures undone { result ≡ 1 → SomeUndone F.is_yaml F.ending (S.bytes_of sources.now) conversion.now conversion.now.each }
+    ensures otherwise { result ≡ 2 → (conversion.now.each ≡ true) × Any (EndsOtherwise F.ending) (names_of conversion.now) }
     ensures wrote { result ≡ 0 → conversion.now.each ≡ false → WroteToStream F.is_yaml (S.bytes_of sources.now) conversion.now
         (writer_contents O.contents streams.old.output) (O.contents (writer_inner streams.new.output)) }
 {
@@ -247,6 +271,8 @@ pub fn serve<
     ensures wrote { result ≡ 0 → IfOk asked.now (λ conversion. conversion.each ≡ false → WroteToStream F.is_yaml (S.bytes_of sources.now) conversion
         (writer_contents O.contents streams.old.output) (O.contents (writer_inner streams.new.output))) }
     ensures done { result ≡ 0 → IfOk asked.now (λ conversion. AllDone F.is_yaml F.ending (S.bytes_of sources.now) conversion conversion.each) }
+    ensures undone { result ≡ 1 → IfOk asked.now (λ conversion. SomeUndone F.is_yaml F.ending (S.bytes_of sources.now) conversion conversion.each) }
+    ensures options { result ≡ 2 → IfOk asked.now (λ conversion. IsRefusedByOptions F.allows_depth F.ending conversion) }
     ensures bounded { IfOk asked.now (λ conversion. F.allows_depth conversion.format ≡ false → result ≡ 2) }
     ensures refused { IfErr asked.now (λ error. statuses.IsStatusOfUsage (kind_of error) result) }
 {

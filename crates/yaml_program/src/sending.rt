@@ -1,8 +1,9 @@
 //! The output of a conversion: a heading, and the YAML of the files.
-ghost use Rattle.std.specs.Prelude.{IfOk, OnOk, option_map};
+ghost use Rattle.std.specs.Prelude.{◌≡◌, IfErr, IfOk, OnOk, option_map};
 ghost use Rattle.std.specs.Io.Buffered.{writer_contents, writer_inner};
 ghost use Rattle.std.specs.Io.KnownBytes.{Appends};
-ghost use Rattle.yaml_program.specs.Conversions.{WroteConversion, heading_bytes};
+ghost use Rattle.yaml_program.specs.Conversions.{RefusesConversion, WroteConversion, heading_bytes};
+ghost use Rattle.yaml_program.specs.Faults as statuses;
 
 use crate::arguments::Conversion;
 use crate::faults::{Failure, NO_MEMORY};
@@ -20,7 +21,8 @@ fn send_heading<S: Sources + AllocGlobal, W: Write>(
     heading: Option<&str>,
     sink: &mut W,
 ) -> Result<(), Failure>
-    ensures { OnOk result (Appends (W.contents sink.old) (W.contents sink.new) (heading_bytes (option_map (λ text. text.now) heading.entry))) }
+    ensures wrote { OnOk result (Appends (W.contents sink.old) (W.contents sink.new) (heading_bytes (option_map (λ text. text.now) heading.entry))) }
+    ensures failed { IfErr result (λ failure. statuses.failure_status failure ≡ 3) }
 {
     let Some(text) = heading else {
         return Ok(());
@@ -44,7 +46,8 @@ pub fn send_all<'a, F: Format, S: Sources + AllocGlobal, W: Write>(
     conversion: &Conversion<'a, F>,
     sink: &mut W,
 ) -> Result<(), (Option<&'a str>, Failure)>
-    ensures { OnOk result (WroteConversion F.is_yaml (S.bytes_of sources.now) conversion.now (W.contents sink.old) (W.contents sink.new)) }
+    ensures wrote { OnOk result (WroteConversion F.is_yaml (S.bytes_of sources.now) conversion.now (W.contents sink.old) (W.contents sink.new)) }
+    ensures refused { IfErr result (λ stop. RefusesConversion F.is_yaml (S.bytes_of sources.now) conversion.now stop.1) }
 {
     if let Err(error) = send_heading(sources, conversion.heading, sink) {
         return Err((None, error));
@@ -66,8 +69,9 @@ pub fn send_buffered<'a, F: Format, S: Sources + AllocGlobal, W: Write + Drop>(
     conversion: &Conversion<'a, F>,
     buffer: &mut BufWriter<W>,
 ) -> Result<(), (Option<&'a str>, Failure)>
-    ensures { OnOk result (WroteConversion F.is_yaml (S.bytes_of sources.now) conversion.now (writer_contents W.contents buffer.old)
+    ensures wrote { OnOk result (WroteConversion F.is_yaml (S.bytes_of sources.now) conversion.now (writer_contents W.contents buffer.old)
         (W.contents (writer_inner buffer.new))) }
+    ensures refused { IfErr result (λ stop. RefusesConversion F.is_yaml (S.bytes_of sources.now) conversion.now stop.1) }
 {
     let sent = send_all(sources, conversion, buffer);
     let flushed = buffer.flush();
@@ -90,7 +94,8 @@ pub fn send_to_sink<'a, F: Format, S: Sources + AllocGlobal, W: Write + Drop>(
     conversion: &Conversion<'a, F>,
     sink: W,
 ) -> Result<W, (Option<&'a str>, Failure)>
-    ensures { IfOk result (λ written. WroteConversion F.is_yaml (S.bytes_of sources.now) conversion.now (W.contents sink) (W.contents written)) }
+    ensures wrote { IfOk result (λ written. WroteConversion F.is_yaml (S.bytes_of sources.now) conversion.now (W.contents sink) (W.contents written)) }
+    ensures refused { IfErr result (λ stop. RefusesConversion F.is_yaml (S.bytes_of sources.now) conversion.now stop.1) }
 {
     let mut buffer = match BufWriter::with_capacity(sources.alloc(), BUFFER_SIZE, sink) {
         Ok(buffer) => buffer,

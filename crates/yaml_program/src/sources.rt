@@ -1,9 +1,10 @@
 //! The files and streams that the program reads.
-ghost use Rattle.std.specs.Prelude.{◌≡◌, ℕ, List, Option, None, Some, IfOk, IfSome};
+ghost use Rattle.std.specs.IoError.{error_kind};
+ghost use Rattle.std.specs.Prelude.{◌≡◌, ℕ, List, Option, None, Some, IfErr, IfOk, IfSome, MatchOption};
 
 use std::fs::File;
 use std::io;
-use std::io::{Read, Stdin};
+use std::io::{ErrorKind, Read, Stdin};
 
 /// The name of standard input among the files that are read, and of standard output as the file that is written.
 pub const STREAM: &str = "-";
@@ -15,9 +16,10 @@ pub trait Sources {
 
     type Reader: Read + Drop;
 
-    /// Returns a reader of what has this name.
+    /// Returns a reader of what has this name. What is known isn't missing.
     fn open(&self, name: &str) -> io::Result<Self::Reader>
-        ensures known { IfOk result (λ reader. IfSome (bytes_of self.now name.now) (λ bytes. Self.Reader.remaining reader ≡ Some bytes)) };
+        ensures known { IfOk result (λ reader. IfSome (bytes_of self.now name.now) (λ bytes. Self.Reader.remaining reader ≡ Some bytes)) }
+        ensures missing { IfErr result (λ error. error_kind error ≡ ErrorKind.NotFound → bytes_of self.now name.now ≡ None) };
 }
 
 /// A file, or standard input.
@@ -48,6 +50,29 @@ impl Sources for HostRuntime {
             Ok(file) => Ok(Source::File(file)),
             Err(error) => Err(error),
         }
+    }
+}
+
+/// Returns all bytes of what has this name, or `None` if nothing has it.
+///
+/// # Errors
+///
+/// That of opening or reading it.
+pub fn read_if_there<S: Sources + AllocGlobal>(
+    sources: &S,
+    name: &str,
+) -> io::Result<Option<Vec<u8>>>
+    ensures { IfOk result (λ found. MatchOption found (S.bytes_of sources.now name.now ≡ None)
+        (λ bytes. (there : List ℕ) → S.bytes_of sources.now name.now ≡ Some there → bytes.items ≡ there)) }
+{
+    let mut bytes = Vec::new(sources.alloc());
+    match sources.open(name) {
+        Ok(mut reader) => match reader.read_to_end(&mut bytes) {
+            Ok(_) => Ok(Some(bytes)),
+            Err(error) => Err(error),
+        },
+        Err(error) if error.kind() == ErrorKind::NotFound => Ok(None),
+        Err(error) => Err(error),
     }
 }
 

@@ -1,8 +1,10 @@
 //! The YAML of several files, written one after another as one stream.
-ghost use Rattle.std.specs.Prelude.{◌≡◌, ℕ, List, Some, OnOk, false, map};
+ghost use Rattle.std.specs.Prelude.{◌≡◌, ℕ, List, Some, IfErr, OnOk, false, map};
 ghost use Rattle.yaml_writer.specs.Writing.{awaits_node};
 ghost use Rattle.yaml_program.specs.Conversions.{AreBytesOf, OfNames};
-ghost use Rattle.yaml_program.specs.Streams.{BeganDocument, Sending, SentBehind, SentFiles, SentStream};
+ghost use Rattle.yaml_program.specs.Faults as statuses;
+ghost use Rattle.yaml_program.specs.Streams.{BeganDocument, RefusesBehind, RefusesDocument, RefusesSome, RefusesStream};
+ghost use Rattle.yaml_program.specs.Streams.{Sending, SentBehind, SentFiles, SentStream};
 
 use crate::faults::Failure;
 use crate::sources::{STREAM, Sources};
@@ -14,6 +16,9 @@ use yaml_writer::{Settings, Writer};
 pub trait SendsFile {
     // Relates a file and the states before and after it is sent.
     ghost sent: { Self → Sending };
+
+    // Relates a file that is refused and the states before and after it is sent as far as it goes.
+    ghost refused: { Self → Sending };
 
     /// Gives a writer the YAML of a file, or of standard input for its name, and writes to the sink all but the last document, which the
     /// writer keeps.
@@ -31,7 +36,10 @@ pub trait SendsFile {
         requires { awaits_node writer.old ≡ false }
         ensures free { OnOk result (awaits_node writer.new ≡ false) }
         ensures sent { OnOk result ((file : List ℕ) → S.bytes_of sources.now name.now ≡ Some file
-            → sent self.now file writer.old (W.contents sink.old) writer.new (W.contents sink.new)) };
+            → sent self.now file writer.old (W.contents sink.old) writer.new (W.contents sink.new)) }
+        ensures refused { IfErr result (λ failure. statuses.failure_status failure ≡ 1
+            → (file : List ℕ) → S.bytes_of sources.now name.now ≡ Some file
+            → refused self.now file writer.old (W.contents sink.old) writer.new (W.contents sink.new)) };
 }
 
 /// Begins the next document of a writer, and writes those before it to the sink.
@@ -39,6 +47,7 @@ fn begin_next<W: Write>(writer: &mut Writer<Global>, sink: &mut W) -> Result<(),
     requires { awaits_node writer.old ≡ false }
     ensures free { OnOk result (awaits_node writer.new ≡ false) }
     ensures begun { OnOk result (BeganDocument writer.old (W.contents sink.old) writer.new (W.contents sink.new)) }
+    ensures refused { IfErr result (λ failure. statuses.failure_status failure ≡ 1 → RefusesDocument writer.old writer.new) }
 {
     if let Err(error) = writer.next_document() {
         return Err(Failure::Unwritten(error));
@@ -62,8 +71,12 @@ fn send_others<'a, F: SendsFile, S: Sources + AllocGlobal, W: Write>(
     sink: &mut W,
 ) -> Result<(), (Option<&'a str>, Failure)>
     requires { awaits_node writer.old ≡ false }
-    ensures { OnOk result ((files : List (List ℕ)) → AreBytesOf (S.bytes_of sources.now) (map (λ name. name.now) names.now) files
+    ensures free { OnOk result (awaits_node writer.new ≡ false) }
+    ensures sent { OnOk result ((files : List (List ℕ)) → AreBytesOf (S.bytes_of sources.now) (map (λ name. name.now) names.now) files
         → SentBehind (F.sent format.now) files writer.old (W.contents sink.old) writer.new (W.contents sink.new)) }
+    ensures refused { IfErr result (λ stop. statuses.failure_status stop.1 ≡ 1
+        → (files : List (List ℕ)) → AreBytesOf (S.bytes_of sources.now) (map (λ name. name.now) names.now) files
+        → RefusesBehind (F.sent format.now) (F.refused format.now) files writer.old (W.contents sink.old) writer.new (W.contents sink.new)) }
 {
     for name in names {
         if let Err(error) = begin_next(writer, sink) {
@@ -89,8 +102,12 @@ fn send_documents<'a, F: SendsFile, S: Sources + AllocGlobal, W: Write>(
     sink: &mut W,
 ) -> Result<(), (Option<&'a str>, Failure)>
     requires { awaits_node writer.old ≡ false }
-    ensures { OnOk result (OfNames (S.bytes_of sources.now) (map (λ name. name.now) names.now) (λ files.
+    ensures free { OnOk result (awaits_node writer.new ≡ false) }
+    ensures sent { OnOk result (OfNames (S.bytes_of sources.now) (map (λ name. name.now) names.now) (λ files.
         SentFiles (F.sent format.now) files writer.old (W.contents sink.old) writer.new (W.contents sink.new))) }
+    ensures refused { IfErr result (λ stop. statuses.failure_status stop.1 ≡ 1
+        → OfNames (S.bytes_of sources.now) (map (λ name. name.now) names.now) (λ files.
+        RefusesSome (F.sent format.now) (F.refused format.now) files writer.old (W.contents sink.old) writer.new (W.contents sink.new))) }
 {
     let Some((first, others)) = names.split_first() else {
         return match format.send_file(sources, STREAM, writer, sink) {
@@ -116,8 +133,11 @@ pub fn send_stream<'a, F: SendsFile, S: Sources + AllocGlobal, W: Write>(
     names: &[&'a str],
     sink: &mut W,
 ) -> Result<(), (Option<&'a str>, Failure)>
-    ensures { OnOk result (OfNames (S.bytes_of sources.now) (map (λ name. name.now) names.now) (λ files.
+    ensures sent { OnOk result (OfNames (S.bytes_of sources.now) (map (λ name. name.now) names.now) (λ files.
         SentStream (F.sent format.now) settings files (W.contents sink.old) (W.contents sink.new))) }
+    ensures refused { IfErr result (λ stop. statuses.failure_status stop.1 ≡ 1
+        → OfNames (S.bytes_of sources.now) (map (λ name. name.now) names.now) (λ files.
+        RefusesStream (F.sent format.now) (F.refused format.now) settings files (W.contents sink.old) (W.contents sink.new))) }
 {
     let mut writer = match Writer::new(sources.alloc(), settings) {
         Ok(writer) => writer,

@@ -1,10 +1,12 @@
-use Rattle.std.proofs.Common.{ℕ, List, Bor, map, length, take, ◌≡◌, ap, subst, ◌∙◌, arith, refl, le_refl, take_all}
-use Rattle.yaml_program.specs.Conversions.{EachIsDone, IsDoneBeside}
-use Rattle.yaml_program.proofs.Doing.{next_done}
+use Rattle.std.proofs.Common.{arith, refl}
+use Rattle.std.specs.List.{Any}
+use Rattle.yaml_program.specs.Conversions.{EachIsDone, EndsOtherwise, IsDoneBeside, IsUndoneBeside}
+use Rattle.yaml_program.proofs.Doing.{next_done, next_some, of_all}
 use Rattle.yaml_program.proofs.each.convert_each.Goals as goal
 
 pub loop-name-init : goal.loop-name-init
-loop-name-init g c = (omega arith, refl, omega arith, λ zero. tt)
+loop-name-init g c =
+    (omega arith, refl, omega arith, (λ zero. tt), (λ one. absurd (omega (arith, one))), (λ two. absurd (omega (arith, two))))
 
 pub loop-name-preserved : goal.loop-name-preserved
 loop-name-preserved g c =
@@ -12,18 +14,36 @@ loop-name-preserved g c =
       omega arith,
       refl,
       c.worse-status.ensures.known,
-      λ zero.
+      (
+          λ zero.
           next_done (IsDoneBeside g.F.Format.is_yaml g.F.Format.ending (g.S.Sources.bytes_of c.args.sources.now) c.args.conversion.now)
           c.as_slice-names.result.now l.name-index _ c.loop-name-test.true
-          (l.invariant.3 (c.worse-status.ensures.first zero)) (c.convert_beside-one.ensures.done (c.worse-status.ensures.second zero)),
+          (l.invariant.3 (c.worse-status.ensures.first zero)) (c.convert_beside-one.ensures.done (c.worse-status.ensures.second zero))
+          ),
+      next_some (IsUndoneBeside g.F.Format.is_yaml g.F.Format.ending (g.S.Sources.bytes_of c.args.sources.now) c.args.conversion.now)
+          c.as_slice-names.result.now l.name-index _ 1 l.status c.convert_beside-one.result c.worse-status.result c.loop-name-test.true
+          c.worse-status.ensures.one l.invariant.4 c.convert_beside-one.ensures.undone,
+      next_some (EndsOtherwise g.F.Format.ending)
+          c.as_slice-names.result.now l.name-index _ 2 l.status c.convert_beside-one.result c.worse-status.result c.loop-name-test.true
+          c.worse-status.ensures.one l.invariant.5 c.convert_beside-one.ensures.otherwise,
     )
 
 pub returns-clause-done : goal.returns-clause-done
 returns-clause-done g c zero =
-    let names = c.as_slice-names.result.now in
     let l = c.loop-name in
-    let past : l.name-index ≡ length names = omega (arith, l.invariant.0, l.invariant.1, c.loop-name-test.false) in
-    let all : take l.name-index names ≡ c.args.conversion.now.files.items = ap (λ (n : ℕ). take n names) past
-    ∙ take_all (length names) names (le_refl (length names)) ∙ c.as_slice-names.ensures.value in
-    subst (λ (some : List (Bor (List ℕ))). EachIsDone g.F.Format.is_yaml g.F.Format.ending (g.S.Sources.bytes_of c.args.sources.now) c.args.conversion.now
-    (map (λ name. name.now) some)) all (l.invariant.3 zero)
+    of_all (EachIsDone g.F.Format.is_yaml g.F.Format.ending (g.S.Sources.bytes_of c.args.sources.now) c.args.conversion.now) c.as_slice-names.result.now
+    c.args.conversion.now.files.items l.name-index (omega (arith, l.invariant.0, l.invariant.1, c.loop-name-test.false)) c.as_slice-names.ensures.value
+    (l.invariant.3 zero)
+
+pub returns-clause-undone : goal.returns-clause-undone
+returns-clause-undone g c one =
+    let l = c.loop-name in
+    of_all (Any (IsUndoneBeside g.F.Format.is_yaml g.F.Format.ending (g.S.Sources.bytes_of c.args.sources.now) c.args.conversion.now))
+    c.as_slice-names.result.now c.args.conversion.now.files.items l.name-index (omega (arith, l.invariant.0, l.invariant.1, c.loop-name-test.false))
+    c.as_slice-names.ensures.value (l.invariant.4 one)
+
+pub returns-clause-otherwise : goal.returns-clause-otherwise
+returns-clause-otherwise g c two =
+    let l = c.loop-name in
+    of_all (Any (EndsOtherwise g.F.Format.ending)) c.as_slice-names.result.now c.args.conversion.now.files.items l.name-index
+    (omega (arith, l.invariant.0, l.invariant.1, c.loop-name-test.false)) c.as_slice-names.ensures.value (l.invariant.5 two)

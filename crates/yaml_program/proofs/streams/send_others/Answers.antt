@@ -1,5 +1,6 @@
-use Rattle.std.proofs.Common.{arith, refl}
+use Rattle.std.proofs.Common.{arith, inr, refl}
 use Rattle.yaml_program.proofs.FilesInTurn.{behind_none, next_behind}
+use Rattle.yaml_program.proofs.Refusals.{behind_refused, behind_unbegun}
 use Rattle.yaml_program.proofs.streams.send_others.Goals as goal
 
 pub loop-name-init : goal.loop-name-init
@@ -21,3 +22,23 @@ loop-name-preserved g c =
           (g.W.Write.contents c.begin_next.new.sink) (g.W.Write.contents c.send_file.new.sink) c.loop-name-test.true l.invariant.3
           c.in_default.ensures.begun c.in_default-send_file.ensures.sent,
     )
+
+pub returns-in-Err-clause-refused : goal.returns-in-Err-clause-refused
+returns-in-Err-clause-refused g c status =
+    let l = c.loop-name in
+    behind_unbegun (g.F.SendsFile.sent c.args.format.now) (g.F.SendsFile.refused c.args.format.now) (g.S.Sources.bytes_of c.args.sources.now)
+    c.args.names.now l.name-index c.args.writer.now l.writer c.begin_next.new.writer (g.W.Write.contents c.args.sink.now)
+    (g.W.Write.contents l.sink) (g.W.Write.contents c.begin_next.new.sink) c.loop-name-test.true l.invariant.3 (c.in-Err.ensures.refused status)
+
+pub returns-in-Err-send_file-clause-refused : goal.returns-in-Err-send_file-clause-refused
+returns-in-Err-send_file-clause-refused g c status =
+    let l = c.loop-name in
+    behind_refused (g.F.SendsFile.sent c.args.format.now) (g.F.SendsFile.refused c.args.format.now) (g.S.Sources.bytes_of c.args.sources.now)
+    c.args.names.now l.name-index _ c.args.writer.now l.writer c.send_file.new.writer (g.W.Write.contents c.args.sink.now)
+    (g.W.Write.contents l.sink) (g.W.Write.contents c.send_file.new.sink) c.loop-name-test.true l.invariant.3
+    (λ file known. inr (
+      c.begin_next.new.writer,
+      g.W.Write.contents c.begin_next.new.sink,
+      c.in_default.ensures.begun,
+      c.in-Err-send_file.ensures.refused status file known,
+    ))

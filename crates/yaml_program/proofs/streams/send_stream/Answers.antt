@@ -2,15 +2,15 @@ use Rattle.std.proofs.Common.{ℕ, List, subst}
 use Rattle.std.specs.Io.KnownBytes.{Appends}
 use Rattle.yaml_program.proofs.streams.send_stream.Goals as goal
 
-pub returns-in-Ok-write_all : goal.returns-in-Ok-write_all
-returns-in-Ok-write_all g c = λ files are.
+pub returns-in-Ok-write_all-clause-sent : goal.returns-in-Ok-write_all-clause-sent
+returns-in-Ok-write_all-clause-sent g c = λ files are.
     let held = g.W.Write.contents c.send_documents.new.sink in record {
       first = c.in-Ok.writer;
       stands = c.in-Ok.ensures.stands;
       canonical = c.in-Ok.ensures.canonical;
       last = c.send_documents.new.writer;
       held = held;
-      documents = c.in_default.ensures files are;
+      documents = c.in_default.ensures.sent files are;
       rest = (
         c.in-Ok-finish.bytes.items,
         subst (λ (bytes : List ℕ). Appends held (g.W.Write.contents c.write_all.new.self) bytes) c.as_slice.ensures.value c.in-Ok-write_all.ensures.bytes,
