@@ -2,6 +2,9 @@
 use Rattle.std.proofs.Common.{ℕ, Option, List, [], ◌∷◌, ◌++◌, map, flat_map, Bool, ◌≡◌, ap, subst, sym, ◌∙◌, append-nil, append_assoc}
 use Rattle.yaml_base.proofs.Common.{flat_map-append, map-append, Event}
 use Rattle.std.specs.Io.KnownBytes.{Appends}
+use Rattle.std.specs.List.{All}
+use Rattle.std.specs.Str.{IsUtf8}
+use Rattle.std.proofs.lemmas.List.Elements.{All-append, All-nil, All-push}
 use Rattle.json.specs.Json.{Json}
 use Rattle.yaml_pen.specs.Page.{output_left}
 use Rattle.yaml_emitter.specs.Given.{seen_settings}
@@ -17,12 +20,12 @@ use Rattle.yaml_json.specs.declared.settings.JsonSettings.{JsonSettings}
 use Rattle.yaml_json.proofs.TextsInTurn.{some_text}
 use Rattle.json2yaml.specs.Conversions.{IsYamlOfJsonFiles, SentJsonFile}
 use Rattle.yaml_program.specs.Conversions.{WroteStream}
-use Rattle.yaml_program.specs.Streams.{BeganDocument, SentStream}
+use Rattle.yaml_program.specs.Streams.{BeganDocument, SentFiles, SentStream}
 use Rattle.yaml_program.proofs.FilesInTurn.{each_sent}
 
 -- ---- texts after others
 
-both_json : (depth : ℕ) (parts more : List (List ℕ × Json)) → AreJson depth parts → AreJson depth more → AreJson depth (parts ++ more)
+pub both_json : (depth : ℕ) (parts more : List (List ℕ × Json)) → AreJson depth parts → AreJson depth more → AreJson depth (parts ++ more)
 both_json depth [] more each others = others
 both_json depth (part ∷ parts) more each others = (each.0, both_json depth parts more each.1 others)
 
@@ -53,6 +56,7 @@ pub record SentJsonFiles (settings : JsonSettings) (files : List (List ℕ)) (wa
     (after : Option (List ℕ)) : Type 0 where
   pub first : List ℕ × Json
   pub rest : List (List ℕ × Json)
+  pub utf8 : All IsUtf8 files
   pub cut : map (λ part. part.0) (first ∷ rest) ≡ flat_map texts_in files
   pub each : AreJson settings.depth (first ∷ rest)
   pub names : HaveNamesOnce settings.unique_names (flat_map texts_in files)
@@ -65,11 +69,12 @@ module _ (settings : JsonSettings) where
   one_file : (file : List ℕ) (was now : WriterState) (before after : Option (List ℕ)) (parts : List (List ℕ × Json))
       → map (λ part. part.0) parts ≡ texts_in file → AreJson settings.depth parts → HaveNamesOnce settings.unique_names (texts_in file)
       → (handed : List ℕ) → Appends before after handed → WroteTaking was (parts_events was.canonical settings.flow parts) handed now
-      → SentJsonFiles settings (file ∷ []) was before now after
-  one_file file was now before after [] cut each names handed sends wrote =
+      → IsUtf8 file → SentJsonFiles settings (file ∷ []) was before now after
+  one_file file was now before after [] cut each names handed sends wrote utf8 =
       let (next, later, is) = some_text file in absurd (cc (cut ∙ is))
-  one_file file was now before after (first ∷ rest) cut each names handed sends wrote =
+  one_file file was now before after (first ∷ rest) cut each names handed sends wrote utf8 =
       record {
+        utf8 = All-push IsUtf8 [] file (All-nil IsUtf8) utf8;
         first = first;
         rest = rest;
         cut = cut ∙ sym (append-nil (texts_in file));
@@ -83,7 +88,7 @@ module _ (settings : JsonSettings) where
   file_sent : (file : List ℕ) (was now : WriterState) (before after : Option (List ℕ)) → SentJsonFile settings file was before now after
       → SentJsonFiles settings (file ∷ []) was before now after
   file_sent file was now before after sent =
-      one_file file was now before after sent.parts sent.cut sent.each sent.names sent.handed sent.sends sent.wrote
+      one_file file was now before after sent.parts sent.cut sent.each sent.names sent.handed sent.sends sent.wrote sent.utf8
 
   -- and another
   next_sent : (files : List (List ℕ)) (file : List ℕ) (was middle begun now : WriterState) (start held holds after : Option (List ℕ))
@@ -99,6 +104,7 @@ module _ (settings : JsonSettings) where
       let joined : flat_map texts_in (files ++ file ∷ []) ≡ flat_map texts_in files ++ flat_map texts_in (file ∷ []) =
       flat_map-append texts_in files (file ∷ []) in
       record {
+        utf8 = All-append IsUtf8 files (file ∷ []) sent.utf8 other.utf8;
         first = sent.first;
         rest = sent.rest ++ more;
         cut = map-append (λ (part : List ℕ × Json). part.0) parts more
@@ -119,14 +125,19 @@ module _ (settings : JsonSettings) where
       }
 
   -- and all
+  pub all_sent : (files : List (List ℕ)) (was now : WriterState) (before after : Option (List ℕ)) → SentFiles (SentJsonFile settings) files was before now after
+      → SentJsonFiles settings files was before now after
+  all_sent files was now before after =
+      each_sent (SentJsonFile settings) (λ all now holds. SentJsonFiles settings all was before now holds)
+      (λ some file middle begun now held holds later. next_sent some file was middle begun now before held holds later) files was now before after
+      (λ file now holds. file_sent file was now before holds)
+
   pub all_wrote : (files : List (List ℕ)) (before after : Option (List ℕ)) → SentStream (SentJsonFile settings) settings.writer files before after
       → WroteStream (IsYamlOfJsonFiles settings) files before after
   all_wrote files before after whole =
       let given = seen_settings settings.writer in
       let was = whole.first in
-      let sent = each_sent (SentJsonFile settings) (λ all now holds. SentJsonFiles settings all was before now holds)
-      (λ some file middle begun now held holds later. next_sent some file was middle begun now before held holds later) files was whole.last before
-      whole.held (λ file now holds. file_sent file was now before holds) whole.documents in
+      let sent = all_sent files was whole.last before whole.held whole.documents in
       let parts = sent.first ∷ sent.rest in
       let (bytes, sends, finishes) = whole.rest in
       let stood = subst (λ (c : Bool). StandsTaken given (opening ++ parts_events c settings.flow parts) sent.handed whole.last.emitter) whole.canonical
@@ -134,6 +145,7 @@ module _ (settings : JsonSettings) where
         sent.handed ++ bytes,
         Appends-trans before whole.held after sent.handed bytes sent.sends sends,
         record {
+          utf8 = sent.utf8;
           parts = parts;
           cut = sent.cut;
           each = sent.each;

@@ -1,1 +1,4 @@
 mod Files
+mod Parts
+mod Refusals
+mod Texts

@@ -1,14 +1,17 @@
 -- The settings that the options ask for, and the YAML of the texts of several files, which a sink is given.
-use Rattle.std.specs.Prelude.{◌≡◌, ℕ, List, ◌++◌, codes, flat_map, map}
+use Rattle.std.specs.List.{All}
+use Rattle.std.specs.Prelude.{◌≡◌, ℕ, List, ◌++◌, codes, flat_map, map, Err, IsUtf8, Option}
 use Rattle.clap.specs.declared.parser.matches.ArgMatches.{ArgMatches}
 use Rattle.json.specs.Json.{Json}
 use Rattle.yaml_emitter.specs.Given.{seen_settings}
-use Rattle.yaml_writer.specs.Writing.{IsStream, closing, opening}
+use Rattle.yaml_writer.specs.Writing.{IsStream, WriterState, closing, opening}
 use Rattle.yaml_json.specs.Refused.{HaveNamesOnce}
-use Rattle.yaml_json.specs.Sent.{SentTexts}
+use Rattle.yaml_json.specs.Sent.{IsSoundSending, SentTexts, StopsSending}
 use Rattle.yaml_json.specs.Texts.{texts_in}
 use Rattle.yaml_json.specs.Wrote.{AreJson, parts_events}
+use Rattle.yaml_json.specs.declared.error.StreamError.{StreamError}
 use Rattle.yaml_json.specs.declared.settings.JsonSettings.{JsonSettings}
+use Rattle.json2yaml.specs.Statuses.{json_status}
 use Rattle.yaml_program.specs.Options.{AreWriterSettings, IsCountOf, IsOff, IsOn, value_of}
 use Rattle.yaml_program.specs.Streams.{Sending}
 
@@ -25,8 +28,18 @@ pub record AreJsonSettings (matches : ArgMatches) (settings : JsonSettings) : Ty
 abbrev pub SentJsonFile : JsonSettings → Sending
 SentJsonFile settings = SentTexts settings.depth settings.unique_names settings.flow
 
--- True if the bytes are the stream of the texts of these files, a document each, by these settings.
+-- True if one of the texts of this file is refused, or the emitter refuses an event of it, or the bytes pass the limit there; and what comes
+-- before it was sent.
+pub record RefusedJsonFile (settings : JsonSettings) (file : List ℕ) (was : WriterState) (before : Option (List ℕ)) (now : WriterState)
+    (after : Option (List ℕ)) : Type 0 where
+  pub error : StreamError
+  pub status : json_status error ≡ 1
+  pub sound : IsSoundSending was (Err error) now
+  pub stops : StopsSending settings.depth settings.unique_names settings.flow file was before error now after
+
+-- True if the files are UTF-8, and the bytes are the stream of their texts, a document each, by these settings.
 pub record IsYamlOfJsonFiles (settings : JsonSettings) (files : List (List ℕ)) (bytes : List ℕ) : Type 0 where
+  pub utf8 : All IsUtf8 files
   pub parts : List (List ℕ × Json)
   pub cut : map (λ part. part.0) parts ≡ flat_map texts_in files
   pub each : AreJson settings.depth parts

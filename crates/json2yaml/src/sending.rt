@@ -1,5 +1,5 @@
 //! The YAML of a file of JSON texts, written by the settings that are asked for.
-ghost use Rattle.json2yaml.specs.Conversions.{SentJsonFile};
+ghost use Rattle.json2yaml.specs.Conversions.{RefusedJsonFile, SentJsonFile};
 
 use crate::failures::failure_of;
 use crate::formats::JsonFormat;
@@ -10,6 +10,8 @@ use yaml_program::{Failure, SendsFile, Sources};
 
 impl SendsFile for JsonFormat {
     ghost sent = { λ format. SentJsonFile format.settings };
+
+    ghost refused = { λ format. RefusedJsonFile format.settings };
 
     fn send_file<S: Sources + AllocGlobal, W: Write>(
         &self,
