@@ -10,7 +10,7 @@ use Rattle.yaml_writer.specs.WasGiven.{between, WroteTaking}
 use Rattle.std.proofs.KnownBytes.{Appends-nil, Appends-trans}
 use Rattle.yaml_writer.proofs.GivenAndTaken.{begun_taken, taking_then, taking_same, took_none}
 use Rattle.yaml_program.specs.Conversions.{WroteStream}
-use Rattle.yaml_program.specs.Streams.{BeganDocument, SentStream}
+use Rattle.yaml_program.specs.Streams.{BeganDocument, SentFiles, SentStream}
 use Rattle.yaml_program.proofs.FilesInTurn.{each_sent}
 use Rattle.yaml_toml.specs.declared.settings.TomlSettings.{TomlSettings}
 use Rattle.toml2yaml.specs.Conversions.{AreToml, IsYamlOfTomlFiles, SentTomlFile, toml_parts_events, root_events}
@@ -95,14 +95,19 @@ module _ (settings : TomlSettings) where
       }
 
   -- and all
+  pub all_sent : (files : List (List ℕ)) (was now : WriterState) (before after : Option (List ℕ)) → SentFiles (SentTomlFile settings) files was before now after
+      → SentTomlFiles settings files was before now after
+  all_sent files was now before after =
+      each_sent (SentTomlFile settings) (λ all now holds. SentTomlFiles settings all was before now holds)
+      (λ some file middle begun now held holds later. next_sent some file was middle begun now before held holds later) files was now before after
+      (λ file now holds. file_sent file was now before holds)
+
   pub all_wrote : (files : List (List ℕ)) (before after : Option (List ℕ)) → SentStream (SentTomlFile settings) settings.writer files before after
       → WroteStream (IsYamlOfTomlFiles settings) files before after
   all_wrote files before after whole =
       let given = seen_settings settings.writer in
       let was = whole.first in
-      let sent = each_sent (SentTomlFile settings) (λ all now holds. SentTomlFiles settings all was before now holds)
-      (λ some file middle begun now held holds later. next_sent some file was middle begun now before held holds later) files was whole.last before
-      whole.held (λ file now holds. file_sent file was now before holds) whole.documents in
+      let sent = all_sent files was whole.last before whole.held whole.documents in
       let parts = sent.first ∷ sent.rest in
       let (bytes, sends, finishes) = whole.rest in
       let stood = subst (λ (c : Bool). StandsTaken given (opening ++ toml_parts_events c settings.flow parts) sent.handed whole.last.emitter) whole.canonical

@@ -1,7 +1,8 @@
 //! The YAML of a file of TOML, written by the settings that are asked for.
-ghost use Rattle.std.specs.Prelude.{◌≡◌, OnOk};
+ghost use Rattle.std.specs.Prelude.{◌≡◌, IfErr, OnOk};
 ghost use Rattle.yaml_writer.specs.WasGiven.{IsBare};
-ghost use Rattle.toml2yaml.specs.Conversions.{SentTomlFile, WroteFile};
+ghost use Rattle.toml2yaml.specs.Conversions.{RefusedTomlFile, RefusesFile, SentTomlFile, WroteFile};
+ghost use Rattle.yaml_program.specs.Faults as statuses;
 
 use crate::failures::{failure_of, refused};
 use crate::formats::TomlFormat;
@@ -22,6 +23,7 @@ fn write_bytes(
     requires { IsBare writer.old }
     ensures bare { OnOk result (IsBare writer.new) }
     ensures wrote { OnOk result (WroteFile settings.now.depth settings.now.flow bytes.now writer.old writer.new) }
+    ensures refused { IfErr result (λ failure. statuses.failure_status failure ≡ 1 → RefusesFile settings.now bytes.now writer.old writer.new) }
 {
     let text = match str::from_utf8(bytes) {
         Ok(text) => text,
@@ -38,6 +40,8 @@ fn write_bytes(
 
 impl SendsFile for TomlFormat {
     ghost sent = { λ format. SentTomlFile format.settings };
+
+    ghost refused = { λ format. RefusedTomlFile format.settings };
 
     fn send_file<S: Sources + AllocGlobal, W: Write>(
         &self,
