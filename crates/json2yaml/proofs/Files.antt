@@ -1,5 +1,5 @@
 -- The texts of several files, sent one after another.
-use Rattle.std.proofs.Common.{ℕ, Option, List, [], ◌∷◌, ◌++◌, map, flat_map, Bool, ◌≡◌, ap, subst, sym, ◌∙◌, append-nil, append_assoc}
+use Rattle.std.proofs.Common.{ℕ, Option, List, [], ◌∷◌, ◌++◌, map, flat_map, Bool, refl, ◌≡◌, ap, subst, sym, ◌∙◌, append-nil, append_assoc}
 use Rattle.yaml_base.proofs.Common.{flat_map-append, map-append, Event}
 use Rattle.std.specs.Io.KnownBytes.{Appends}
 use Rattle.std.specs.List.{All}
@@ -7,17 +7,17 @@ use Rattle.std.specs.Str.{IsUtf8}
 use Rattle.std.proofs.lemmas.List.Elements.{All-append, All-nil, All-push}
 use Rattle.json.specs.Json.{Json}
 use Rattle.yaml_pen.specs.Page.{output_left}
-use Rattle.yaml_emitter.specs.Given.{seen_settings}
-use Rattle.yaml_writer.specs.Writing.{StandsTaken, WriterState, opening}
+use Rattle.yaml_writer.specs.Writing.{WriterState}
 use Rattle.yaml_writer.specs.WasGiven.{between, WroteTaking}
 use Rattle.std.proofs.KnownBytes.{Appends-trans}
-use Rattle.yaml_writer.proofs.GivenAndTaken.{begun_taken, taking_then}
+use Rattle.yaml_writer.proofs.GivenAndTaken.{begun_taken, stream_finished, taking_then}
 use Rattle.yaml_json.specs.JsonEvents.{json_events}
 use Rattle.yaml_json.specs.Refused.{HaveNamesOnce}
 use Rattle.yaml_json.specs.Texts.{texts_in}
 use Rattle.yaml_json.specs.Wrote.{AreJson, parts_events}
 use Rattle.yaml_json.specs.declared.settings.JsonSettings.{JsonSettings}
 use Rattle.yaml_json.proofs.TextsInTurn.{some_text}
+use Rattle.yaml_json.proofs.YamlOf.{opened_events}
 use Rattle.json2yaml.specs.Conversions.{IsYamlOfJsonFiles, SentJsonFile}
 use Rattle.yaml_program.specs.Conversions.{WroteStream}
 use Rattle.yaml_program.specs.Streams.{BeganDocument, SentFiles, SentStream}
@@ -95,7 +95,7 @@ module _ (settings : JsonSettings) where
       → SentJsonFiles settings files was start middle held → BeganDocument middle held begun holds → SentJsonFile settings file begun holds now after
       → SentJsonFiles settings (files ++ file ∷ []) was start now after
   next_sent files file was middle begun now start held holds after sent began one =
-      let begins = begun_taken middle began.begun begun (output_left began.begun.emitter.page) held holds sent.wrote.bare began.passed began.takes
+      let begins = begun_taken middle began.begun begun (output_left began.begun.emitter.page) held holds sent.wrote.bare began.passed refl
       began.kept began.sends in
       let other = file_sent file begun now holds after one in
       let parts = sent.first ∷ sent.rest in
@@ -135,13 +135,12 @@ module _ (settings : JsonSettings) where
   pub all_wrote : (files : List (List ℕ)) (before after : Option (List ℕ)) → SentStream (SentJsonFile settings) settings.writer files before after
       → WroteStream (IsYamlOfJsonFiles settings) files before after
   all_wrote files before after whole =
-      let given = seen_settings settings.writer in
       let was = whole.first in
       let sent = all_sent files was whole.last before whole.held whole.documents in
       let parts = sent.first ∷ sent.rest in
       let (bytes, sends, finishes) = whole.rest in
-      let stood = subst (λ (c : Bool). StandsTaken given (opening ++ parts_events c settings.flow parts) sent.handed whole.last.emitter) whole.canonical
-      (sent.wrote.adds given opening [] whole.stands) in (
+      let emits = sent.wrote.emits in
+      let new = whole.is_new in (
         sent.handed ++ bytes,
         Appends-trans before whole.held after sent.handed bytes sent.sends sends,
         record {
@@ -150,6 +149,8 @@ module _ (settings : JsonSettings) where
           cut = sent.cut;
           each = sent.each;
           names = sent.names;
-          stream = finishes given (opening ++ parts_events settings.writer.canonical settings.flow parts) sent.handed stood;
+          stream = stream_finished whole.last.emitter bytes (emits.given ∙ new.settings)
+              (opened_events (λ c. parts_events c settings.flow parts) emits.appended new.events new.canonical)
+              (emits.taken ∙ ap (λ (taken : List ℕ). taken ++ sent.handed) new.untaken) finishes;
         },
       )

@@ -13,10 +13,11 @@ use Rattle.yaml_base.specs.declared.errors.yaml_error_t.{yaml_error_t}
 use Rattle.yaml_pen.specs.Page.{output_left}
 use Rattle.yaml_pen.proofs.Writing.{some_from_result}
 use Rattle.yaml_emitter.specs.Given.{seen_settings}
-use Rattle.yaml_emitter.specs.StandsAfter.{StandsAfter}
-use Rattle.yaml_writer.specs.Writing.{StandsTaken, WriterState, closing, opening}
-use Rattle.yaml_writer.specs.WasGiven.{AddsTaking, between}
-use Rattle.yaml_writer.proofs.GivenAndTaken.{adds_taking_then, begun_taken}
+use Rattle.yaml_emitter.specs.Emits.{IsPromised}
+use Rattle.yaml_emitter.specs.State.{bytes_taken}
+use Rattle.yaml_writer.specs.Writing.{IsNewWriter, WriterState, closing, opening}
+use Rattle.yaml_writer.specs.WasGiven.{EmitsTaking, between}
+use Rattle.yaml_writer.proofs.GivenAndTaken.{emits_taking_then, begun_taken}
 use Rattle.yaml_json.specs.Failing.{events_with_separators}
 use Rattle.yaml_json.specs.JsonEvents.{json_events}
 use Rattle.yaml_json.specs.Refused.{ExplainsError, HasNamesOnce, HaveNamesOnce, IsOfText, NamesTwiceAt, TokensStopAt}
@@ -35,7 +36,7 @@ use Rattle.yaml_json.proofs.TokenLemmas.{some_then, value_given}
 use Rattle.yaml_program.specs.Conversions.{HaveNoYaml}
 use Rattle.yaml_program.specs.Faults.{emitter_status}
 use Rattle.yaml_program.specs.Streams.{BeganDocument, RefusesDocument, RefusesEnd, RefusesNext, RefusesSome, RefusesStream, SentFiles}
-use Rattle.yaml_program.proofs.Refusals.{never_fails, never_unended}
+use Rattle.yaml_program.proofs.Refusals.{events_given, never_fails, never_unended}
 use Rattle.json2yaml.specs.Conversions.{IsYamlOfJsonFiles, RefusedJsonFile, SentJsonFile}
 use Rattle.json2yaml.specs.Statuses.{json_status}
 use Rattle.json2yaml.proofs.Files.{SentJsonFiles, all_sent, both_json}
@@ -50,7 +51,7 @@ record Reached (settings : JsonSettings) (files : List (List ℕ)) (was begun : 
   pub cut : map (λ part. part.0) parts ≡ flat_map texts_in files
   pub each : AreJson settings.depth parts
   pub handed : List ℕ
-  pub adds : AddsTaking was.emitter (events_with_separators was.canonical settings.flow parts) handed begun.emitter
+  pub emits : EmitsTaking was.emitter (events_with_separators was.canonical settings.flow parts) handed begun.emitter
   pub canonical : begun.canonical ≡ was.canonical
 
 module _ (settings : JsonSettings) where
@@ -61,26 +62,23 @@ module _ (settings : JsonSettings) where
         cut = refl;
         each = tt;
         handed = [];
-        adds = λ given all sent stands.
-            subst (λ (events : List Event). StandsTaken given events (sent ++ []) was.emitter) (sym (append-nil all))
-            (subst (λ (s : List ℕ). StandsTaken given all s was.emitter) (sym (append-nil sent)) stands);
+        emits = record { given = refl; appended = sym (append-nil was.emitter.events); taken = sym (append-nil (bytes_taken was.emitter)) };
         canonical = refl;
       }
 
   reached_next : (files : List (List ℕ)) (was middle begun : WriterState) (start held holds : Option (List ℕ))
       → SentJsonFiles settings files was start middle held → BeganDocument middle held begun holds → Reached settings files was begun
   reached_next files was middle begun start held holds sent began =
-      let begins = begun_taken middle began.begun begun (output_left began.begun.emitter.page) held holds sent.wrote.bare began.passed began.takes
+      let begins = begun_taken middle began.begun begun (output_left began.begun.emitter.page) held holds sent.wrote.bare began.passed refl
       began.kept began.sends in
       record {
         parts = sent.first ∷ sent.rest;
         cut = sent.cut;
         each = sent.each;
         handed = sent.handed ++ begins.bytes;
-        adds = subst (λ (events : List Event). AddsTaking was.emitter events (sent.handed ++ begins.bytes) begun.emitter)
-            (with_between was.canonical settings.flow sent.first sent.rest)
-            (adds_taking_then was.emitter middle.emitter begun.emitter (parts_events was.canonical settings.flow (sent.first ∷ sent.rest)) between
-            sent.handed begins.bytes sent.wrote.adds begins.wrote.adds);
+        emits =
+            subst (λ (events : List Event). EmitsTaking was.emitter events (sent.handed ++ begins.bytes) begun.emitter)
+            (with_between was.canonical settings.flow sent.first sent.rest) (emits_taking_then sent.wrote.emits begins.wrote.emits);
         canonical = begins.wrote.canonical ∙ sent.wrote.canonical;
       }
 
@@ -159,7 +157,7 @@ module _ (depth : ℕ) (unique : Bool) (text : List ℕ) (taken left : List Toke
 -- ---- files that have a stream
 
 module _ (settings : JsonSettings) (files : List (List ℕ)) (bytes : List ℕ) (whole : IsYamlOfJsonFiles settings files bytes) (first : WriterState)
-    (stands : StandsTaken (seen_settings settings.writer) opening [] first.emitter) (canonical : first.canonical ≡ settings.writer.canonical) where
+    (new : IsNewWriter (seen_settings settings.writer) first) where
   abbrev events_before : List (List ℕ × Json) → List Event
   events_before parts = events_with_separators settings.writer.canonical settings.flow parts
 
@@ -178,7 +176,8 @@ module _ (settings : JsonSettings) (files : List (List ℕ)) (bytes : List ℕ) 
 
   -- one of their texts isn't refused
   module _ (front : List (List ℕ)) (file : List ℕ) (later : List (List ℕ)) (are : front ++ file ∷ later ≡ files) (begun now : WriterState)
-      (before after : Option (List ℕ)) (reached : Reached settings front first begun) (refused : RefusedJsonFile settings file begun before now after) where
+      (before after : Option (List ℕ)) (promised : IsPromised now.emitter) (reached : Reached settings front first begun)
+      (refused : RefusedJsonFile settings file begun before now after) where
     abbrev earlier : List (List ℕ × Json)
     earlier = reached.parts ++ refused.stops.parts
 
@@ -207,15 +206,17 @@ module _ (settings : JsonSettings) (files : List (List ℕ)) (bytes : List ℕ) 
         text_utf8 file (file_utf8 front file later (subst (All IsUtf8) (sym are) whole.utf8)) (map (λ part. part.0) refused.stops.parts)
         refused.stops.next refused.stops.later refused.stops.cut
 
-    stood : StandsTaken (seen_settings settings.writer)
-        ((opening ++ events_before reached.parts) ++ (events_before refused.stops.parts ++ given_of refused.stops.taken))
-        (([] ++ reached.handed) ++ refused.stops.handed) now.emitter
-    stood =
-        subst (λ (c : Bool). AddsTaking begun.emitter (events_with_separators c settings.flow refused.stops.parts ++ tokens_events c settings.flow
-        refused.stops.taken) refused.stops.handed now.emitter) (reached.canonical ∙ canonical) refused.stops.adds
-        (seen_settings settings.writer) (opening ++ events_before reached.parts) ([] ++ reached.handed)
-        (subst (λ (c : Bool). AddsTaking first.emitter (events_with_separators c settings.flow reached.parts) reached.handed begun.emitter) canonical
-        reached.adds (seen_settings settings.writer) opening [] stands)
+    set : now.emitter.given ≡ seen_settings settings.writer
+    set = refused.stops.emits.given ∙ reached.emits.given ∙ new.settings
+
+    events_are : now.emitter.events
+        ≡ (opening ++ events_before reached.parts) ++ (events_before refused.stops.parts ++ given_of refused.stops.taken)
+    events_are =
+        events_given
+        (λ c. events_with_separators c settings.flow refused.stops.parts ++ tokens_events c settings.flow refused.stops.taken)
+        refused.stops.emits.appended
+        (events_given (λ c. events_with_separators c settings.flow reached.parts) reached.emits.appended new.events new.canonical)
+        (reached.canonical ∙ new.canonical)
 
     by_rest : (rest : List (List ℕ × Json)) → earlier ++ rest ≡ whole.parts → map (λ part. part.0) rest ≡ refused.stops.next ∷ others
         → AreJson settings.depth rest → ⊥
@@ -246,8 +247,8 @@ module _ (settings : JsonSettings) (files : List (List ℕ)) (bytes : List ℕ) 
         never_stopped settings.depth settings.unique_names refused.stops.next refused.stops.taken refused.stops.left refused.stops.split one.1 read names
         begun now utf8
         (λ code has status. never_fails (seen_settings settings.writer) all bytes whole.stream
-        ((opening ++ events_before reached.parts) ++ (events_before refused.stops.parts ++ taken)) (left ++ (more ++ closing)) now.emitter code stood.stands
-        begins has status)
+        ((opening ++ events_before reached.parts) ++ (events_before refused.stops.parts ++ taken)) (left ++ (more ++ closing)) now.emitter code set events_are
+        promised begins has status)
         refused.error refused.status refused.sound refused.stops.why
 
     text_refused : ⊥
@@ -258,7 +259,8 @@ module _ (settings : JsonSettings) (files : List (List ℕ)) (bytes : List ℕ) 
 
   -- nor is the next document
   module _ (front : List (List ℕ)) (file : List ℕ) (later : List (List ℕ)) (are : front ++ file ∷ later ≡ files) (middle now : WriterState)
-      (before held : Option (List ℕ)) (sent : SentJsonFiles settings front first before middle held) (refuses : RefusesDocument middle now) where
+      (before held : Option (List ℕ)) (promised : IsPromised now.emitter)
+      (sent : SentJsonFiles settings front first before middle held) (refuses : RefusesDocument middle now) where
     abbrev some : List (List ℕ × Json)
     some = sent.first ∷ sent.rest
 
@@ -270,8 +272,8 @@ module _ (settings : JsonSettings) (files : List (List ℕ)) (bytes : List ℕ) 
         let none : [] ≡ next ∷ (others ++ flat_map texts_in later) = texts ∙ ap (λ (t : List (List ℕ)). t ++ flat_map texts_in later) is in
         absurd (cc)
     by_more (one ∷ rest) same texts =
-        let stood = subst (λ (c : Bool). StandsTaken (seen_settings settings.writer) (opening ++ parts_events c settings.flow some) ([] ++ sent.handed)
-        middle.emitter) canonical (sent.wrote.adds (seen_settings settings.writer) opening [] stands) in
+        let emits = refuses.passed.emits in
+        let events = events_given (λ c. parts_events c settings.flow some) sent.wrote.emits.appended new.events new.canonical in
         let begins : ((opening ++ events_of some) ++ between) ++ (events_of (one ∷ rest) ++ closing) ≡ all =
         ap (λ (events : List Event). opening ++ events)
         (sym (append_assoc (events_of some ++ between) (events_of (one ∷ rest)) closing)
@@ -279,8 +281,9 @@ module _ (settings : JsonSettings) (files : List (List ℕ)) (bytes : List ℕ) 
         (ap (λ (events : List Event). events ++ events_of (one ∷ rest)) (with_between settings.writer.canonical settings.flow sent.first sent.rest)
         ∙ parts_begin settings.writer.canonical settings.flow some one rest ∙ ap events_of same)) in
         never_fails (seen_settings settings.writer) all bytes whole.stream ((opening ++ events_of some) ++ between) (events_of (one ∷ rest) ++ closing)
-        now.emitter refuses.error (refuses.passed.moves.stands (seen_settings settings.writer) (opening ++ events_of some) stood.stands) begins
-        (some_from_result now.emitter.error refuses.error refuses.passed.moves.answered) refuses.status
+        now.emitter refuses.error (emits.set.given ∙ sent.wrote.emits.given ∙ new.settings)
+        (emits.set.events ∙ ap (λ (first : List Event). first ++ between) events) promised begins
+        (some_from_result now.emitter.error refuses.error emits.answered) refuses.status
 
     document_refused : ⊥
     document_refused =
@@ -296,11 +299,11 @@ module _ (settings : JsonSettings) (files : List (List ℕ)) (bytes : List ℕ) 
 
     by_end : (rest : List (List ℕ × Json)) → sent_parts ++ rest ≡ whole.parts → map (λ part. part.0) rest ≡ [] → ⊥
     by_end [] same none =
-        let stood = subst (λ (c : Bool). StandsTaken (seen_settings settings.writer) (opening ++ parts_events c settings.flow sent_parts) ([] ++ sent.handed)
-        last.emitter) canonical (sent.wrote.adds (seen_settings settings.writer) opening [] stands) in
         never_unended (seen_settings settings.writer) (opening ++ events_of whole.parts) bytes whole.stream last.emitter
-        (subst (λ (parts : List (List ℕ × Json)). StandsAfter (seen_settings settings.writer) (opening ++ events_of parts) last.emitter)
-        (sym (append-nil sent_parts) ∙ same) stood.stands) refuses
+        (sent.wrote.emits.given ∙ new.settings)
+        (events_given (λ c. parts_events c settings.flow sent_parts) sent.wrote.emits.appended new.events new.canonical
+        ∙ ap (λ (parts : List (List ℕ × Json)). opening ++ events_of parts) (sym (append-nil sent_parts) ∙ same))
+        refuses
     by_end (one ∷ rest) same none = absurd (cc)
 
     end_refused : ⊥
@@ -316,18 +319,18 @@ module _ (settings : JsonSettings) (files : List (List ℕ)) (before after : Opt
       (held : Option (List ℕ)) → SentJsonFiles settings front refuses.first before middle held
       → RefusesNext (SentJsonFile settings) (RefusedJsonFile settings) file middle held refuses.last after → ⊥
   at_file front file later are middle held sent (inl document) =
-      document_refused settings files bytes whole refuses.first refuses.stands refuses.canonical front file later are middle refuses.last before held sent
-      document
+      document_refused settings files bytes whole refuses.first refuses.is_new front file later are middle refuses.last before held refuses.promised
+      sent document
   at_file front file later are middle held sent (inr (begun, holds, began, refused)) =
-      text_refused settings files bytes whole refuses.first refuses.stands refuses.canonical front file later are begun refuses.last holds after
-      (reached_next settings front refuses.first middle begun before held holds sent began) refused
+      text_refused settings files bytes whole refuses.first refuses.is_new front file later are begun refuses.last holds after
+      refuses.promised (reached_next settings front refuses.first middle begun before held holds sent began) refused
 
   at_some : (some : List (List ℕ)) → some ≡ files
       → RefusesSome (SentJsonFile settings) (RefusedJsonFile settings) some refuses.first before refuses.last after → ⊥
   at_some [] same never = never
   at_some (file ∷ later) same (inl refused) =
-      text_refused settings files bytes whole refuses.first refuses.stands refuses.canonical [] file later same refuses.first refuses.last before after
-      (reached_none settings refuses.first) refused
+      text_refused settings files bytes whole refuses.first refuses.is_new [] file later same refuses.first refuses.last before after
+      refuses.promised (reached_none settings refuses.first) refused
   at_some (file ∷ more) same (inr (middle, holds, one, (front, next, later, last, held, are, behind, stops))) =
       at_file (file ∷ front) next later (ap (λ (all : List (List ℕ)). file ∷ all) are ∙ same) last held
       (all_sent settings (file ∷ front) refuses.first last before held (middle, holds, one, behind)) stops
@@ -336,7 +339,7 @@ module _ (settings : JsonSettings) (files : List (List ℕ)) (before after : Opt
       ⊎ (SentFiles (SentJsonFile settings) files refuses.first before refuses.last after × RefusesEnd refuses.last.emitter) → ⊥
   by_why (inl some) = at_some files refl some
   by_why (inr (sent, end)) =
-      end_refused settings files bytes whole refuses.first refuses.stands refuses.canonical refuses.last before after
+      end_refused settings files bytes whole refuses.first refuses.is_new refuses.last before after
       (all_sent settings files refuses.first refuses.last before after sent) end
 
 pub refused_none : (settings : JsonSettings) (files : List (List ℕ)) (before after : Option (List ℕ))

@@ -1,14 +1,14 @@
 -- The documents of several files, sent one after another.
-use Rattle.std.proofs.Common.{ℕ, Option, List, [], ◌∷◌, ◌++◌, map, Bool, ◌≡◌, refl, ap, subst, sym, ◌∙◌, append-nil, append_assoc}
+use Rattle.std.proofs.Common.{ℕ, Option, List, [], ◌∷◌, ◌++◌, map, Bool, ◌≡◌, refl, ap, ap₂, subst, sym, ◌∙◌, append-nil, append_assoc}
 use Rattle.std.specs.Io.KnownBytes.{Appends}
 use Rattle.toml_ordered.specs.Data.{TomlNodes}
 use Rattle.yaml_base.proofs.Common.{map-append, Event}
 use Rattle.yaml_pen.specs.Page.{output_left}
-use Rattle.yaml_emitter.specs.Given.{seen_settings}
-use Rattle.yaml_writer.specs.Writing.{StandsTaken, WriterState, opening}
+use Rattle.yaml_base.specs.Settings.{Settings}
+use Rattle.yaml_writer.specs.Writing.{IsStream, WriterState, closing}
 use Rattle.yaml_writer.specs.WasGiven.{between, WroteTaking}
 use Rattle.std.proofs.KnownBytes.{Appends-nil, Appends-trans}
-use Rattle.yaml_writer.proofs.GivenAndTaken.{begun_taken, taking_then, taking_same, took_none}
+use Rattle.yaml_writer.proofs.GivenAndTaken.{begun_taken, stream_finished, taking_then, taking_same, took_none}
 use Rattle.yaml_program.specs.Conversions.{WroteStream}
 use Rattle.yaml_program.specs.Streams.{BeganDocument, SentFiles, SentStream}
 use Rattle.yaml_program.proofs.FilesInTurn.{each_sent}
@@ -70,7 +70,7 @@ module _ (settings : TomlSettings) where
       → SentTomlFiles settings files was start middle held → BeganDocument middle held begun holds
       → SentTomlFile settings file begun holds now after → SentTomlFiles settings (files ++ file ∷ []) was start now after
   next_sent files file was middle begun now start held holds after sent began ((utf8, nests, one), stays) =
-      let begins = begun_taken middle began.begun begun (output_left began.begun.emitter.page) held holds sent.wrote.bare began.passed began.takes
+      let begins = begun_taken middle began.begun begun (output_left began.begun.emitter.page) held holds sent.wrote.bare began.passed refl
       began.kept began.sends in
       let next : List ℕ × TomlNodes = (file, one.root) in
       let parts = sent.first ∷ sent.rest in
@@ -105,19 +105,20 @@ module _ (settings : TomlSettings) where
   pub all_wrote : (files : List (List ℕ)) (before after : Option (List ℕ)) → SentStream (SentTomlFile settings) settings.writer files before after
       → WroteStream (IsYamlOfTomlFiles settings) files before after
   all_wrote files before after whole =
-      let given = seen_settings settings.writer in
       let was = whole.first in
       let sent = all_sent files was whole.last before whole.held whole.documents in
       let parts = sent.first ∷ sent.rest in
       let (bytes, sends, finishes) = whole.rest in
-      let stood = subst (λ (c : Bool). StandsTaken given (opening ++ toml_parts_events c settings.flow parts) sent.handed whole.last.emitter) whole.canonical
-      (sent.wrote.adds given opening [] whole.stands) in (
+      let emits = sent.wrote.emits in
+      let new = whole.is_new in (
         sent.handed ++ bytes,
         Appends-trans before whole.held after sent.handed bytes sent.sends sends,
         record {
           parts = parts;
           are = sent.are;
           each = sent.each;
-          stream = finishes given (opening ++ toml_parts_events settings.writer.canonical settings.flow parts) sent.handed stood;
+          stream = stream_finished whole.last.emitter bytes (emits.given ∙ new.settings)
+              (emits.appended ∙ ap₂ (λ (before : List Event) (c : Bool). before ++ toml_parts_events c settings.flow parts) new.events new.canonical)
+              (emits.taken ∙ ap (λ (taken : List ℕ). taken ++ sent.handed) new.untaken) finishes;
         },
       )

@@ -9,11 +9,12 @@ use Rattle.yaml_base.specs.declared.errors.yaml_error_t.{yaml_error_t}
 use Rattle.yaml_pen.specs.Page.{output_left}
 use Rattle.yaml_pen.proofs.Writing.{some_from_result}
 use Rattle.yaml_emitter.specs.Given.{seen_settings}
-use Rattle.yaml_emitter.specs.StandsAfter.{StandsAfter}
+use Rattle.yaml_emitter.specs.Emits.{IsPromised}
+use Rattle.yaml_emitter.specs.State.{bytes_taken}
 use Rattle.yaml_writer.specs.Failing.{HasErrorSaid}
-use Rattle.yaml_writer.specs.Writing.{StandsTaken, WriterState, closing, opening}
-use Rattle.yaml_writer.specs.WasGiven.{AddsTaking, between}
-use Rattle.yaml_writer.proofs.GivenAndTaken.{adds_taking_then, begun_taken}
+use Rattle.yaml_writer.specs.Writing.{IsNewWriter, WriterState, closing, opening}
+use Rattle.yaml_writer.specs.WasGiven.{EmitsTaking, between}
+use Rattle.yaml_writer.proofs.GivenAndTaken.{emits_taking_then, begun_taken}
 use Rattle.yaml_toml.specs.Depth.{NestsDeeper, NestsWithin, document_nesting}
 use Rattle.yaml_toml.specs.Failing.{GaveFirst}
 use Rattle.yaml_toml.specs.WritingCalls.{DocumentUnwritten}
@@ -23,7 +24,7 @@ use Rattle.yaml_toml.specs.declared.settings.TomlSettings.{TomlSettings}
 use Rattle.yaml_program.specs.Conversions.{HaveNoYaml}
 use Rattle.yaml_program.specs.Faults.{emitter_status}
 use Rattle.yaml_program.specs.Streams.{BeganDocument, RefusesDocument, RefusesEnd, RefusesNext, RefusesSome, RefusesStream, SentFiles}
-use Rattle.yaml_program.proofs.Refusals.{never_fails, never_unended}
+use Rattle.yaml_program.proofs.Refusals.{events_given, never_fails, never_unended}
 use Rattle.toml2yaml.specs.Conversions.{AreToml, IsYamlOfTomlFiles, RefusedTomlFile, RefusesFile, SentTomlFile, root_events, toml_parts_events}
 use Rattle.toml2yaml.specs.Statuses.{toml_status}
 use Rattle.toml2yaml.proofs.Files.{SentTomlFiles, all_sent}
@@ -95,7 +96,7 @@ record Reached (settings : TomlSettings) (files : List (List ℕ)) (was begun : 
   pub are : map (λ part. part.0) parts ≡ files
   pub each : AreToml settings.depth parts
   pub handed : List ℕ
-  pub adds : AddsTaking was.emitter (before_next was.canonical settings.flow parts) handed begun.emitter
+  pub emits : EmitsTaking was.emitter (before_next was.canonical settings.flow parts) handed begun.emitter
   pub canonical : begun.canonical ≡ was.canonical
 
 module _ (settings : TomlSettings) where
@@ -106,26 +107,23 @@ module _ (settings : TomlSettings) where
         are = refl;
         each = tt;
         handed = [];
-        adds = λ given all sent stands.
-            subst (λ (events : List Event). StandsTaken given events (sent ++ []) was.emitter) (sym (append-nil all))
-            (subst (λ (s : List ℕ). StandsTaken given all s was.emitter) (sym (append-nil sent)) stands);
+        emits = record { given = refl; appended = sym (append-nil was.emitter.events); taken = sym (append-nil (bytes_taken was.emitter)) };
         canonical = refl;
       }
 
   reached_next : (files : List (List ℕ)) (was middle begun : WriterState) (start held holds : Option (List ℕ))
       → SentTomlFiles settings files was start middle held → BeganDocument middle held begun holds → Reached settings files was begun
   reached_next files was middle begun start held holds sent began =
-      let begins = begun_taken middle began.begun begun (output_left began.begun.emitter.page) held holds sent.wrote.bare began.passed began.takes
+      let begins = begun_taken middle began.begun begun (output_left began.begun.emitter.page) held holds sent.wrote.bare began.passed refl
       began.kept began.sends in
       record {
         parts = sent.first ∷ sent.rest;
         are = sent.are;
         each = sent.each;
         handed = sent.handed ++ begins.bytes;
-        adds = subst (λ (events : List Event). AddsTaking was.emitter events (sent.handed ++ begins.bytes) begun.emitter)
-            (with_between was.canonical settings.flow sent.first sent.rest)
-            (adds_taking_then was.emitter middle.emitter begun.emitter (toml_parts_events was.canonical settings.flow (sent.first ∷ sent.rest)) between
-            sent.handed begins.bytes sent.wrote.adds begins.wrote.adds);
+        emits =
+            subst (λ (events : List Event). EmitsTaking was.emitter events (sent.handed ++ begins.bytes) begun.emitter)
+            (with_between was.canonical settings.flow sent.first sent.rest) (emits_taking_then sent.wrote.emits begins.wrote.emits);
         canonical = begins.wrote.canonical ∙ sent.wrote.canonical;
       }
 
@@ -159,7 +157,7 @@ module _ (settings : TomlSettings) (file : List ℕ) (root : TomlNodes) (read : 
 -- ---- files that have a stream
 
 module _ (settings : TomlSettings) (files : List (List ℕ)) (bytes : List ℕ) (whole : IsYamlOfTomlFiles settings files bytes) (first : WriterState)
-    (stands : StandsTaken (seen_settings settings.writer) opening [] first.emitter) (canonical : first.canonical ≡ settings.writer.canonical) where
+    (new : IsNewWriter (seen_settings settings.writer) first) where
   abbrev events_before : List (List ℕ × TomlNodes) → List Event
   events_before parts = before_next settings.writer.canonical settings.flow parts
 
@@ -171,14 +169,12 @@ module _ (settings : TomlSettings) (files : List (List ℕ)) (bytes : List ℕ) 
 
   -- one of them isn't refused
   module _ (front : List (List ℕ)) (file : List ℕ) (later : List (List ℕ)) (are : front ++ file ∷ later ≡ files) (begun now : WriterState)
-      (reached : Reached settings front first begun) where
+      (promised : IsPromised now.emitter) (reached : Reached settings front first begun) where
     cut : map (λ part. part.0) reached.parts ++ file ∷ later ≡ map (λ part. part.0) whole.parts
     cut = ap (λ (texts : List (List ℕ)). texts ++ file ∷ later) reached.are ∙ are ∙ sym whole.are
 
-    stood : StandsTaken (seen_settings settings.writer) (opening ++ events_before reached.parts) ([] ++ reached.handed) begun.emitter
-    stood =
-        subst (λ (c : Bool). AddsTaking first.emitter (before_next c settings.flow reached.parts) reached.handed begun.emitter) canonical
-        reached.adds (seen_settings settings.writer) opening [] stands
+    events_are : begun.emitter.events ≡ opening ++ events_before reached.parts
+    events_are = events_given (λ c. before_next c settings.flow reached.parts) reached.emits.appended new.events new.canonical
 
     module _ (one : List ℕ × TomlNodes) (rest : List (List ℕ × TomlNodes)) (same : reached.parts ++ one ∷ rest ≡ whole.parts) (is : one.0 ≡ file)
         (good : AreToml settings.depth (one ∷ rest)) where
@@ -191,10 +187,11 @@ module _ (settings : TomlSettings) (files : List (List ℕ)) (bytes : List ℕ) 
       emitter_sound gave code has status =
           let (more, next) = next_begins settings.writer.canonical settings.flow one rest in
           let begins : gave.given ++ gave.begins.rest ≡ root_events settings.writer.canonical settings.flow one.1 =
-          gave.begins.parts ∙ ap (λ (c : Bool). root_events c settings.flow one.1) (reached.canonical ∙ canonical) in
+          gave.begins.parts ∙ ap (λ (c : Bool). root_events c settings.flow one.1) (reached.canonical ∙ new.canonical) in
           never_fails (seen_settings settings.writer) all bytes whole.stream ((opening ++ events_before reached.parts) ++ gave.given)
           (gave.begins.rest ++ (more ++ closing)) now.emitter code
-          (gave.gave.adds.stands (seen_settings settings.writer) (opening ++ events_before reached.parts) stood.stands)
+          (gave.gave.emits.set.given ∙ reached.emits.given ∙ new.settings)
+          (gave.gave.emits.set.events ∙ ap (λ (first : List Event). first ++ gave.given) events_are) promised
           (ap (λ (events : List Event). opening ++ events)
           (regroup (events_before reached.parts) gave.given gave.begins.rest more closing
           ∙ ap (λ (events : List Event). events ++ closing)
@@ -222,15 +219,16 @@ module _ (settings : TomlSettings) (files : List (List ℕ)) (bytes : List ℕ) 
 
   -- nor is the next document
   module _ (front : List (List ℕ)) (file : List ℕ) (later : List (List ℕ)) (are : front ++ file ∷ later ≡ files) (middle now : WriterState)
-      (before held : Option (List ℕ)) (sent : SentTomlFiles settings front first before middle held) (refuses : RefusesDocument middle now) where
+      (before held : Option (List ℕ)) (promised : IsPromised now.emitter)
+      (sent : SentTomlFiles settings front first before middle held) (refuses : RefusesDocument middle now) where
     abbrev some : List (List ℕ × TomlNodes)
     some = sent.first ∷ sent.rest
 
     by_more : (rest : List (List ℕ × TomlNodes)) → some ++ rest ≡ whole.parts → map (λ part. part.0) rest ≡ file ∷ later → ⊥
     by_more [] same texts = absurd (cc)
     by_more (one ∷ rest) same texts =
-        let stood = subst (λ (c : Bool). StandsTaken (seen_settings settings.writer) (opening ++ toml_parts_events c settings.flow some)
-        ([] ++ sent.handed) middle.emitter) canonical (sent.wrote.adds (seen_settings settings.writer) opening [] stands) in
+        let emits = refuses.passed.emits in
+        let events = events_given (λ c. toml_parts_events c settings.flow some) sent.wrote.emits.appended new.events new.canonical in
         let begins : ((opening ++ events_of some) ++ between) ++ (events_of (one ∷ rest) ++ closing) ≡ all =
         ap (λ (events : List Event). opening ++ events)
         (sym (append_assoc (events_of some ++ between) (events_of (one ∷ rest)) closing)
@@ -238,8 +236,9 @@ module _ (settings : TomlSettings) (files : List (List ℕ)) (bytes : List ℕ) 
         (ap (λ (events : List Event). events ++ events_of (one ∷ rest)) (with_between settings.writer.canonical settings.flow sent.first sent.rest)
         ∙ parts_begin settings.writer.canonical settings.flow some one rest ∙ ap events_of same)) in
         never_fails (seen_settings settings.writer) all bytes whole.stream ((opening ++ events_of some) ++ between) (events_of (one ∷ rest) ++ closing)
-        now.emitter refuses.error (refuses.passed.moves.stands (seen_settings settings.writer) (opening ++ events_of some) stood.stands) begins
-        (some_from_result now.emitter.error refuses.error refuses.passed.moves.answered) refuses.status
+        now.emitter refuses.error (emits.set.given ∙ sent.wrote.emits.given ∙ new.settings)
+        (emits.set.events ∙ ap (λ (first : List Event). first ++ between) events) promised begins
+        (some_from_result now.emitter.error refuses.error emits.answered) refuses.status
 
     document_refused : ⊥
     document_refused =
@@ -255,11 +254,11 @@ module _ (settings : TomlSettings) (files : List (List ℕ)) (bytes : List ℕ) 
 
     by_end : (rest : List (List ℕ × TomlNodes)) → sent_parts ++ rest ≡ whole.parts → map (λ part. part.0) rest ≡ [] → ⊥
     by_end [] same none =
-        let stood = subst (λ (c : Bool). StandsTaken (seen_settings settings.writer) (opening ++ toml_parts_events c settings.flow sent_parts)
-        ([] ++ sent.handed) last.emitter) canonical (sent.wrote.adds (seen_settings settings.writer) opening [] stands) in
         never_unended (seen_settings settings.writer) (opening ++ events_of whole.parts) bytes whole.stream last.emitter
-        (subst (λ (parts : List (List ℕ × TomlNodes)). StandsAfter (seen_settings settings.writer) (opening ++ events_of parts) last.emitter)
-        (sym (append-nil sent_parts) ∙ same) stood.stands) refuses
+        (sent.wrote.emits.given ∙ new.settings)
+        (events_given (λ c. toml_parts_events c settings.flow sent_parts) sent.wrote.emits.appended new.events new.canonical
+        ∙ ap (λ (parts : List (List ℕ × TomlNodes)). opening ++ events_of parts) (sym (append-nil sent_parts) ∙ same))
+        refuses
     by_end (one ∷ rest) same none = absurd (cc)
 
     end_refused : ⊥
@@ -275,18 +274,18 @@ module _ (settings : TomlSettings) (files : List (List ℕ)) (before after : Opt
       (held : Option (List ℕ)) → SentTomlFiles settings front refuses.first before middle held
       → RefusesNext (SentTomlFile settings) (RefusedTomlFile settings) file middle held refuses.last after → ⊥
   at_file front file later are middle held sent (inl document) =
-      document_refused settings files bytes whole refuses.first refuses.stands refuses.canonical front file later are middle refuses.last before held sent
-      document
+      document_refused settings files bytes whole refuses.first refuses.is_new front file later are middle refuses.last before held refuses.promised
+      sent document
   at_file front file later are middle held sent (inr (begun, holds, began, refused)) =
-      text_refused settings files bytes whole refuses.first refuses.stands refuses.canonical front file later are begun refuses.last
-      (reached_next settings front refuses.first middle begun before held holds sent began) refused.0
+      text_refused settings files bytes whole refuses.first refuses.is_new front file later are begun refuses.last
+      refuses.promised (reached_next settings front refuses.first middle begun before held holds sent began) refused.0
 
   at_some : (some : List (List ℕ)) → some ≡ files
       → RefusesSome (SentTomlFile settings) (RefusedTomlFile settings) some refuses.first before refuses.last after → ⊥
   at_some [] same never = never
   at_some (file ∷ later) same (inl refused) =
-      text_refused settings files bytes whole refuses.first refuses.stands refuses.canonical [] file later same refuses.first refuses.last
-      (reached_none settings refuses.first) refused.0
+      text_refused settings files bytes whole refuses.first refuses.is_new [] file later same refuses.first refuses.last
+      refuses.promised (reached_none settings refuses.first) refused.0
   at_some (file ∷ others) same (inr (middle, holds, one, (front, next, later, last, held, are, behind, stops))) =
       at_file (file ∷ front) next later (ap (λ (all : List (List ℕ)). file ∷ all) are ∙ same) last held
       (all_sent settings (file ∷ front) refuses.first last before held (middle, holds, one, behind)) stops
@@ -295,7 +294,7 @@ module _ (settings : TomlSettings) (files : List (List ℕ)) (before after : Opt
       ⊎ (SentFiles (SentTomlFile settings) files refuses.first before refuses.last after × RefusesEnd refuses.last.emitter) → ⊥
   by_why (inl some) = at_some files refl some
   by_why (inr (sent, end)) =
-      end_refused settings files bytes whole refuses.first refuses.stands refuses.canonical refuses.last before after
+      end_refused settings files bytes whole refuses.first refuses.is_new refuses.last before after
       (all_sent settings files refuses.first refuses.last before after sent) end
 
 pub refused_none : (settings : TomlSettings) (files : List (List ℕ)) (before after : Option (List ℕ))

@@ -111,13 +111,12 @@ over_emitter settings text before now (Ok done) utf8 none unclosed writes some =
       json = wrote.json;
       read = wrote.read;
       names = writes.names;
-      adds = wrote.wrote.adds;
-      grows = writes.grows;
+      emits = wrote.wrote.emits;
       no_error = writes.sound;
     }
 over_emitter settings text before now (Err error) utf8 none unclosed writes some =
     let stops = writes.stopped in
-    let still : now.emitter.closed ≡ false = stops.adds.set.closed ∙ unclosed in
+    let still : now.emitter.closed ≡ false = stops.emits.set.closed ∙ unclosed in
     inr
     (record {
       stopped = now.emitter;
@@ -127,9 +126,8 @@ over_emitter settings text before now (Err error) utf8 none unclosed writes some
         left = stops.left;
         split = stops.split;
         why = stops.why;
-        adds = stops.adds;
+        emits = stops.emits;
         sound = said_of_emitter (writer_over before) (writers_error error) now writes.sound;
-        grows = writes.grows;
         place = writes.place;
       };
       closes = refl;
@@ -156,7 +154,8 @@ by_outcome : (settings : JsonSettings) (text : List ℕ) (before after : State) 
     → GaveJson settings.depth settings.unique_names settings.flow text outcome before after
 by_outcome settings text before after now result (Answered same) utf8 none unclosed writes settles =
     subst (λ (e : State). GaveJson settings.depth settings.unique_names settings.flow text (Answered same) before e) (sym settles.1)
-    (subst (λ (r : Result (Unit {0}) JsonError). GaveJson settings.depth settings.unique_names settings.flow text (Answered r) before (closed_after result now.emitter))
+    (subst (λ (r : Result (Unit {0}) JsonError).
+    GaveJson settings.depth settings.unique_names settings.flow text (Answered r) before (closed_after result now.emitter))
     (sym settles.0) (over_emitter settings text before now result utf8 none unclosed writes settles.2))
 by_outcome settings text before after now result NoMemory utf8 none unclosed writes settles =
     settles.3 ∙ same_emitter settings text before now result writes settles.0 settles.1 settles.2

@@ -5,8 +5,7 @@ use Rattle.yaml_base.specs.scripts.Script.{Numbered}
 use Rattle.yaml_base.specs.declared.errors.yaml_error_t.{yaml_error_t}
 use Rattle.yaml_base.specs.declared.errors.yaml_error_t.TheVariants as errors
 use Rattle.yaml_emitter.specs.State.{State}
-use Rattle.yaml_emitter.specs.StandsAfter.{StandsAfter}
-use Rattle.yaml_tool.specs.Runs.{EmitsScript, FlushFails, FlushesLast, RefusesAt, events_in}
+use Rattle.yaml_tool.specs.Runs.{EmitsScript, FlushFails, FlushesLast, IsAfter, RefusesAt}
 use Rattle.yaml_tool.specs.declared.answers.run_answer_t.TheVariants as run
 use Rattle.yaml_c.specs.Answers.{CallResults, CopiesToCaller, nothing_reported, results_done, results_failed}
 use Rattle.yaml_c.specs.EventRecords.{events_from}
@@ -28,7 +27,7 @@ HasAllRead all records = length all ≡ length records
 pub record StopsAtBad (given : Settings) (all : List Numbered) (records : List EventRecord) (number : ℕ) (state : State) : Type 0 where
   pub first : number ≡ length all
   pub within : number < length records
-  pub stands : StandsAfter given (events_in all) state
+  pub after : IsAfter given all state
   pub no_error : state.error ≡ None
 
 -- there was no memory to copy the texts of the record of this number; the events before it were given, and no call returned an error
@@ -38,7 +37,7 @@ pub record StopsForRoom (given : Settings) (all : List Numbered) (records : List
   pub parts : all ≡ earlier ++ later
   pub first : number ≡ length earlier
   pub within : number < length records
-  pub stands : StandsAfter given (events_in earlier) state
+  pub after : IsAfter given earlier state
   pub no_error : state.error ≡ None
 
 -- True of the emitter after an answer. The last flush matters only if all events were given.
@@ -50,11 +49,11 @@ EmitsRecords given all records (BadEvent number) state = StopsAtBad given all re
 EmitsRecords given all records (NoRoom number) state = StopsForRoom given all records number state
 EmitsRecords given all records NoMemory state = ⊤
 
--- The effect of the last flush, by the number of its call.
-abbrev pub FlushesAfter : ℕ → State → Emission → State → Type 0
-FlushesAfter number before Done after = FlushesLast number before run.Done after
-FlushesAfter number before (Refused report error) after = FlushesLast number before (run.Refused report error) after
-FlushesAfter number before emission after = ⊥
+-- The effect of the last flush, by the number of the last event.
+abbrev pub FlushesAfter : Option ℕ → State → Emission → State → Type 0
+FlushesAfter last before Done after = FlushesLast last before run.Done after
+FlushesAfter last before (Refused report error) after = FlushesLast last before (run.Refused report error) after
+FlushesAfter last before emission after = ⊥
 
 -- ---- the results
 

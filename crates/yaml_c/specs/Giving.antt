@@ -3,7 +3,7 @@ use Rattle.std.specs.Prelude.{◌≡◌, Bool, true, false, Option, None, Some}
 use Rattle.yaml_base.specs.Event.{Event, scalar}
 use Rattle.yaml_base.specs.Seen.{seen_event}
 use Rattle.yaml_emitter.specs.BorrowedTexts.{seen_scalar}
-use Rattle.yaml_emitter.specs.EmitsEvent.{EmitsEvent}
+use Rattle.yaml_emitter.specs.Emits.{TakesEvent}
 use Rattle.yaml_emitter.specs.Queue.{are_ready_by_one_more}
 use Rattle.yaml_emitter.specs.State.{State}
 use Rattle.yaml_c.specs.declared.giving.Giving.{Giving}
@@ -28,6 +28,6 @@ MayCopy read before = is_read_scalar read ≡ true → (before.error ≡ None) �
 
 -- True if an emitter took the event of a record, or nothing changed, since the record has no reading or memory ran out.
 abbrev pub GaveRecord : Option Event → Giving → (before after : State) → Type 0
-GaveRecord read (Emitted answer) before after = (event : Event) × (read ≡ Some event) × EmitsEvent before event answer after
+GaveRecord read (Emitted answer) before after = (event : Event) × (read ≡ Some event) × TakesEvent before event answer after
 GaveRecord read Unreadable before after = (read ≡ None) × (after ≡ before)
 GaveRecord read NoMemory before after = (after ≡ before) × MayCopy read before

@@ -6,9 +6,10 @@ use Rattle.json.specs.Lex.{tokens}
 use Rattle.json.specs.Token.{Token}
 use Rattle.yaml_base.specs.declared.errors.yaml_error_t.{yaml_error_t}
 use Rattle.yaml_base.specs.values.LinesAndColumns.{column_of, line_of}
+use Rattle.yaml_emitter.specs.Emits.{Emits}
 use Rattle.yaml_emitter.specs.State.{State}
-use Rattle.yaml_pen.specs.Wrote.{Grows}
-use Rattle.yaml_writer.specs.Writing.{AddsEvents, writer_over}
+use Rattle.yaml_pen.specs.Page.{result_of_error}
+use Rattle.yaml_writer.specs.Writing.{writer_over}
 use Rattle.yaml_json.specs.Failing.{IsSound}
 use Rattle.yaml_json.specs.JsonEvents.{json_events}
 use Rattle.yaml_json.specs.Places.{HasPlace}
@@ -29,8 +30,7 @@ pub record GaveText (depth : ℕ) (unique in_flow : Bool) (text : List ℕ) (bef
   pub json : Json
   pub read : value depth (tokens text) ≡ Some (json, [])
   pub names : HasNamesOnce unique text
-  pub adds : AddsEvents before (json_events before.given.canonical in_flow json) after
-  pub grows : Grows before.page after.page
+  pub emits : Emits before (json_events before.given.canonical in_flow json) (result_of_error after.error) after
   pub no_error : after.error ≡ None
 
 -- True if the events of the text's first tokens were given, and no more, for this reason.
@@ -40,9 +40,8 @@ pub record StoppedInText (depth : ℕ) (unique in_flow : Bool) (text : List ℕ)
   pub left : List Token
   pub split : taken ++ left ≡ tokens text
   pub why : TokensStopAt depth unique text taken left error
-  pub adds : AddsEvents before (tokens_events before.given.canonical in_flow taken) after
+  pub emits : Emits before (tokens_events before.given.canonical in_flow taken) (result_of_error after.error) after
   pub sound : IsSound (writer_over before) (Err error) (writer_over after)
-  pub grows : Grows before.page after.page
   pub place : HasPlace depth text error
 
 -- True if the text isn't UTF-8, and the error has the place of the first byte that isn't.

@@ -1,23 +1,20 @@
 -- The results of the calls over an emitter that a C program keeps, and the emitter after them.
-use Rattle.std.specs.Prelude.{◌≡◌, ℕ, ℤ, pos, true, false, Option, None, Some, IsSome, List, [], ◌∷◌, ◌++◌, length, nat_le, if◌then◌else◌}
+use Rattle.std.specs.Prelude.{◌≡◌, ℕ, ℤ, pos, true, false, Option, None, Some, IsSome, List, [], length, nat_le, if◌then◌else◌}
 use Rattle.yaml_base.specs.Event.{Event}
-use Rattle.yaml_base.specs.Ready.{written}
 use Rattle.yaml_base.specs.Settings.{Settings}
 use Rattle.yaml_base.specs.declared.errors.yaml_error_t.{yaml_error_t}
 use Rattle.yaml_base.specs.declared.errors.yaml_error_t.TheVariants.{Memory}
-use Rattle.yaml_emitter.specs.Promises.{HasAllBytes, Promised}
-use Rattle.yaml_emitter.specs.StandsAfter.{StandsAfter}
-use Rattle.yaml_emitter.specs.State.{KeepsSet, State, with_all_taken}
-use Rattle.yaml_pen.specs.Page.{output_left}
-use Rattle.yaml_pen.specs.Wrote.{Grows}
+use Rattle.yaml_emitter.specs.Emits.{Emits, IsFlushed, IsPromised, TakesEvent}
+use Rattle.yaml_emitter.specs.State.{State, new_state_with, with_all_taken}
+use Rattle.yaml_pen.specs.Page.{output_left, result_of_error}
 use Rattle.yaml_c.specs.Answers.{CopiesToCaller, nothing_reported, results_done}
 use Rattle.yaml_c.specs.Emission.{error_number}
 use Rattle.yaml_c.specs.Giving.{MayCopy}
 use Rattle.yaml_c.specs.declared.results.CallResult.{CallResult}
 
--- True if a call was made over an open emitter, which stays open.
+-- True if a call was made over an open emitter, which stays open and keeps its promises.
 abbrev pub Changes : (State → State → Type 0) → Option State → Option State → Type 0
-Changes relation (Some before) (Some after) = (after.has_output ≡ true) × relation before after
+Changes relation (Some before) (Some after) = (after.has_output ≡ true) × IsPromised after × relation before after
 Changes relation before after = ⊥
 
 -- True if an emitter is open and its output is set.
@@ -51,34 +48,15 @@ UnlessClosed status report relation before after =
 
 -- ---- the calls
 
--- True of a new emitter with these settings: no event was given, and nothing is written.
-pub record IsNew (given : Settings) (state : State) : Type 0 where
-  pub stands : StandsAfter given [] state
-  pub has_output : state.has_output ≡ true
-  pub unclosed : state.closed ≡ false
-  pub no_error : state.error ≡ None
-  pub nothing : state.page.output ≡ []
-  pub untaken : state.page.taken ≡ 0
-
--- True if an emitter is made, or memory ran out, or no emitter has such settings.
+-- True if a new emitter with these settings is made, or memory ran out, or no emitter has such settings.
 abbrev pub MakesEmitter : Option Settings → (status : ℤ) → Option State → Type 0
 MakesEmitter None status made = (status ≡ pos 9) × (made ≡ None)
-MakesEmitter (Some given) status (Some state) = (status ≡ pos 0) × IsNew given state
+MakesEmitter (Some given) status (Some state) = (status ≡ pos 0) × (state ≡ new_state_with given) × IsPromised state
 MakesEmitter (Some given) status None = status ≡ pos 3
-
--- True if an emitter was given an event.
-pub record TakesEvent (event : Event) (before after : State) : Type 0 where
-  pub stands : (given : Settings) (all : List Event) → StandsAfter given all before → StandsAfter given (all ++ event ∷ []) after
-  pub promised : (given : Settings) (all : List Event) → StandsAfter given all before → Promised given (all ++ event ∷ []) after
-  pub waits : (given : Settings) (all : List Event) → StandsAfter given all before → before.error ≡ None
-      → written (all ++ event ∷ []) ≡ written all → after.error ≡ None
-  pub grows : Grows before.page after.page
-  pub kept : IsSome before.error → after ≡ record before { events = before.events ++ event ∷ []; started = true }
-  pub set : KeepsSet (record before { events = before.events ++ event ∷ []; started = true }) after
 
 -- True if an emitter was given the event of a record, or nothing changed, since the record has no reading or memory for its texts ran out.
 pub data GivesRecord (read : Option Event) (status : ℤ) (report : CallResult) (before after : State) : Type 0 where
-  gives : (event : Event) → read ≡ Some event → TakesEvent event before after → TellsError after.error status report
+  gives : (event : Event) → read ≡ Some event → TakesEvent before event (result_of_error after.error) after → TellsError after.error status report
       → GivesRecord read status report before after
   unreadable : read ≡ None → status ≡ pos 8 → report ≡ nothing_reported → after ≡ before → GivesRecord read status report before after
   no_memory : status ≡ pos 3 → report ≡ nothing_reported → after ≡ before → MayCopy read before → GivesRecord read status report before after
@@ -86,18 +64,13 @@ pub data GivesRecord (read : Option Event) (status : ℤ) (report : CallResult) 
 -- True if an emitter was flushed. If the output can't grow, it stays as it was; if all is flushed already, nothing changes.
 pub record Flushes (status : ℤ) (report : CallResult) (before after : State) : Type 0 where
   pub tells : TellsError after.error status report
-  pub stands : (given : Settings) (all : List Event) → StandsAfter given all before → StandsAfter given all after
-  pub promised : (given : Settings) (all : List Event) → StandsAfter given all before → Promised given all after
-  pub grows : Grows before.page after.page
-  pub flushed : after.error ≡ None → (given : Settings) (all : List Event) → StandsAfter given all before → HasAllBytes given all after
+  pub emits : Emits before [] (result_of_error after.error) after
+  pub flushed : after.error ≡ None → IsFlushed after
   pub unflushed : after.error ≡ Some Memory → after.page.output ≡ before.page.output
-  pub empty : (given : Settings) (all : List Event) → StandsAfter given all before → before.error ≡ None → HasAllBytes given all before → after ≡ before
+  pub idle : before.error ≡ None → IsFlushed before → after ≡ before
   pub kept : IsSome before.error → after ≡ before
-  pub set : KeepsSet before after
 
 -- True if the flushed bytes that weren't taken are copied to the caller's buffer and taken, if they fit.
 pub record TakesOutput (old : List ℕ) (status : ℤ) (new : List ℕ) (report : CallResult) (before after : State) : Type 0 where
   pub copied : CopiesToCaller (results_done (output_left before.page) 0 old) status new report
   pub left : after ≡ (if nat_le (length (output_left before.page)) (length old) then with_all_taken before else before)
-  pub stands : (given : Settings) (all : List Event) → StandsAfter given all before → StandsAfter given all after
-  pub promised : (given : Settings) (all : List Event) → StandsAfter given all before → Promised given all after

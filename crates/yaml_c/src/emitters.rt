@@ -1,10 +1,7 @@
 //! Emitters that a C program keeps from call to call.
 ghost use Rattle.std.specs.Prelude.{◌≡◌, IfNone, IfSome, List, Option, None, Some, true, false, length, nat_le, if◌then◌else◌};
 ghost use Rattle.yaml_base.specs.Event.{Event};
-ghost use Rattle.yaml_base.specs.Settings.{Settings};
 ghost use Rattle.yaml_base.specs.declared.errors.yaml_error_t.{yaml_error_t};
-ghost use Rattle.yaml_emitter.specs.Promises.{Promised};
-ghost use Rattle.yaml_emitter.specs.StandsAfter.{StandsAfter};
 ghost use Rattle.yaml_emitter.specs.State.{State, with_all_taken};
 ghost use Rattle.yaml_pen.specs.Page.{output_left, result_of_error};
 ghost use Rattle.yaml_c.specs.Answers.{CopiesToCaller, results_done};
@@ -23,7 +20,6 @@ use crate::settings::{EmitterSettings, settings_from};
 use crate::statuses::{BAD_EVENT, BAD_SETTINGS, DONE, NO_MEMORY, REFUSED, TOO_SMALL};
 use std::alloc::{Allocator, Global};
 use yaml_base::yaml_error_t;
-use yaml_emitter::laws::standing_is_promised;
 use yaml_emitter::{yaml_emitter_flush, yaml_emitter_t, yaml_emitter_take_output};
 
 /// Makes an emitter with these settings, but for their `skip`. See the header.
@@ -45,6 +41,7 @@ pub extern "C" fn yaml_c_emitter_new(
     let Ok(boxed) = Box::new(alloc, made) else {
         return NO_MEMORY;
     };
+    boxed.promised();
     emitter.put(boxed);
     DONE
 }
@@ -65,6 +62,7 @@ pub extern "C" fn yaml_c_emitter_emit(
 {
     let mut boxed = emitter.take(alloc);
     let giving = give_unless_closed(alloc, &mut *boxed, texts, directives, event);
+    boxed.promised();
     emitter.put(boxed);
     match giving {
         Some(giving) => tell_giving(giving, report),
@@ -84,6 +82,7 @@ pub extern "C" fn yaml_c_emitter_flush(
 {
     let mut boxed = emitter.take(alloc);
     let status = flush(&mut *boxed, report);
+    boxed.promised();
     emitter.put(boxed);
     status
 }
@@ -101,6 +100,7 @@ pub extern "C" fn yaml_c_emitter_take_output(
 {
     let mut boxed = emitter.take(alloc);
     let status = take_output(&mut *boxed, out, report);
+    boxed.promised();
     emitter.put(boxed);
     status
 }
@@ -161,11 +161,8 @@ fn take_output<A: Allocator + Copy>(
 ) -> i32
     ensures copied { CopiesToCaller (results_done (output_left emitter.old.page) 0 out.old) result out.new report.new }
     ensures left { emitter.new ≡ (if nat_le (length (output_left emitter.old.page)) (length out.old) then with_all_taken emitter.old else emitter.old) }
-    ensures stands { (given : Settings) (all : List Event) → StandsAfter given all emitter.old → StandsAfter given all emitter.new }
-    ensures promised { (given : Settings) (all : List Event) → StandsAfter given all emitter.old → Promised given all emitter.new }
     ensures output { emitter.new.has_output ≡ emitter.old.has_output }
 {
-    standing_is_promised();
     let length = emitter.output().len();
     if length > out.len() {
         *report = CallResult::nothing();

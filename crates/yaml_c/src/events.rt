@@ -1,7 +1,5 @@
 //! Events of a C program as YAML, from memory to memory.
 ghost use Rattle.std.specs.Prelude.{◌≡◌, [], None, true};
-ghost use Rattle.yaml_base.specs.Settings as given;
-ghost use Rattle.yaml_emitter.specs.StandsAfter.{StandsAfter};
 ghost use Rattle.yaml_c.specs.Answers.{CopiesToCaller};
 ghost use Rattle.yaml_c.specs.Emission.{EmitsRecords, FlushesAfter, IsEmission, emit_results, error_number};
 ghost use Rattle.yaml_c.specs.EventRecords.{events_from};
@@ -13,7 +11,6 @@ use crate::settings::{EmitterSettings, settings_from};
 use crate::statuses::{BAD_EVENT, BAD_SETTINGS, NO_MEMORY, REFUSED};
 use std::alloc::{Allocator, Global};
 use yaml_base::yaml_error_t;
-use yaml_emitter::laws::standing_is_promised;
 use yaml_emitter::{yaml_emitter_flush, yaml_emitter_t, yaml_emitter_take_output};
 
 /// The outcome of emitting the events of an array.
@@ -42,15 +39,17 @@ fn emit_records<A: Allocator + Copy>(
     requires output { emitter.old.has_output ≡ true }
     requires no_error { emitter.old.error ≡ None }
     requires nothing { emitter.old.page.output ≡ [] }
-    ensures emits { (given : given.Settings) → StandsAfter given [] emitter.old
-        → EmitsRecords given (events_from 0 arena.now directives.now events.now) events.now result emitter.new }
+    ensures emits { emitter.old.events ≡ []
+        → EmitsRecords emitter.old.given (events_from 0 arena.now directives.now events.now) events.now result emitter.new }
     ensures taken { emitter.new.page.taken ≡ emitter.old.page.taken }
 {
-    standing_is_promised();
+    emitter.promised();
     let mut last = None;
     let mut number = 0u64;
     for record in events {
-        match give_record(alloc, emitter, arena, directives, record) {
+        let giving = give_record(alloc, emitter, arena, directives, record);
+        emitter.promised();
+        match giving {
             Giving::Emitted(Ok(())) => {}
             Giving::Emitted(Err(error)) => return Emission::Refused(number, error),
             Giving::Unreadable => return Emission::BadEvent(number),
@@ -59,19 +58,20 @@ fn emit_records<A: Allocator + Copy>(
         last = Some(number);
         number += 1;
     }
-    match last {
-        Some(number) => flush_after(emitter, number),
-        None => Emission::Done,
-    }
+    let emission = flush_last(emitter, last);
+    emitter.promised();
+    emission
 }
 
-/// Flushes after the event of this number, with which an error is reported.
-fn flush_after<A: Allocator + Copy>(emitter: &mut yaml_emitter_t<A>, number: u64) -> Emission
+/// Flushes after the last event, with whose number an error is reported. If there was no event, nothing is to flush.
+fn flush_last<A: Allocator + Copy>(emitter: &mut yaml_emitter_t<A>, last: Option<u64>) -> Emission
     requires output { emitter.old.has_output ≡ true }
-    requires no_error { emitter.old.error ≡ None }
-    ensures flushed { FlushesAfter number emitter.old result emitter.new }
+    ensures flushed { FlushesAfter last emitter.old result emitter.new }
     ensures taken { emitter.new.page.taken ≡ emitter.old.page.taken }
 {
+    let Some(number) = last else {
+        return Emission::Done;
+    };
     match yaml_emitter_flush(emitter) {
         Ok(()) => Emission::Done,
         Err(error) => Emission::Refused(number, error),

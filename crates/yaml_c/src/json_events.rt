@@ -41,6 +41,7 @@ pub extern "C" fn yaml_c_emitter_emit_json(
 {
     let mut boxed = emitter.take(alloc);
     let status = give_and_tell(alloc, &mut *boxed, text, options, report);
+    boxed.promised();
     emitter.put(boxed);
     status
 }

@@ -5,7 +5,7 @@ pub use Rattle.yaml_base.proofs.Common.{chars, Text, any_style, block, TagDirect
 pub use Rattle.yaml_base.proofs.Common.{documents_and, Stream, output_of, most_open, open_count, IsAccepted, Settings, IsDumpOf, GraphNode, Graph}
 pub use Rattle.yaml_base.proofs.Common.{string_tag, mapping_tag, document_event_list, IsWholeGraph, agrees, stream_trees}
 pub use Rattle.yaml_pen.proofs.Common.{result_of_error}
-pub use Rattle.yaml_emitter.proofs.Common.{RefusedAt, Promised, StandsAfter, State}
+pub use Rattle.yaml_emitter.proofs.Common.{RefusedAt, Promised, State}
 pub use Rattle.std.proofs.{Common.rules, lemmas.List.Elements.All-nil, lemmas.List.Elements.All-cons}
 pub use Rattle.std.specs.Prelude.{Err, Ok, Result, Decides, IsErrAnd, IfErr, IsErr, OnOk}
 pub use Rattle.yaml_base.proofs.Literals.{chars-literal}

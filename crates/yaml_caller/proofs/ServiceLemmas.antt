@@ -1,5 +1,6 @@
 -- How the events of a service's configuration are given to a writer, call by call.
-use Rattle.yaml_caller.proofs.Common.{Bool, false, true, List, [], ◌∷◌, ◌++◌, ℕ, Ok, Err, Result, OnOk, refl, ◌≡◌, subst, sym, ◌∙◌, ap, codes, Text, block, Event}
+use Rattle.yaml_caller.proofs.Common.{Bool, false, true, List, [], ◌∷◌, ◌++◌, ℕ, Ok, Err, Result, OnOk, refl, ◌≡◌, subst, sym, ◌∙◌, ap, codes, Text, block}
+use Rattle.yaml_caller.proofs.Common.{Event}
 use Rattle.yaml_base.proofs.Common.{is_none, Option, mapping_start, sequence_start}
 use Rattle.std.proofs.Common.{ap₂}
 use Rattle.yaml_base.specs.declared.errors.yaml_error_t.{yaml_error_t}
@@ -10,11 +11,12 @@ use Rattle.yaml_base.specs.values.TypedValues.{int_tag}
 use Rattle.std.specs.Fmt.{signed_decimal}
 use Rattle.yaml_writer.specs.Given.{given_for_values}
 use Rattle.yaml_writer.specs.WasGiven.{IsBare, WasGiven, start_event}
-use Rattle.yaml_writer.specs.Writing.{WriterState, EndsInnermost, Finishes, GaveEvent, Gives, IsStream, StandsTaken, awaits_node, closing, end_event, int_event}
+use Rattle.yaml_writer.specs.Writing.{WriterState, EndsInnermost, Finishes, GaveEvent, Gives, IsNewWriter, IsStream, awaits_node, closing, end_event, int_event}
 use Rattle.yaml_writer.specs.Writing.{mapping_event, opening, sequence_event, text_event, with_collection}
-use Rattle.yaml_writer.proofs.GivenAndTaken.{took_none}
+use Rattle.yaml_writer.proofs.GivenAndTaken.{stream_finished}
 use Rattle.yaml_writer.proofs.GivenLemmas.{bare_awaits_none, begun, ended, gave_then, text_is, word_is, wrote_event, wrote_same, wrote_then}
-use Rattle.yaml_caller.specs.Service.{label_entries, labels_entry, list_entry, number_entry, service_entries, service_events, service_stream, text_entry, text_items}
+use Rattle.yaml_caller.specs.Service.{label_entries, labels_entry, list_entry, number_entry, service_entries, service_events, service_stream, text_entry}
+use Rattle.yaml_caller.specs.Service.{text_items}
 use Rattle.yaml_caller.specs.Service.{text_scalar}
 use Rattle.yaml_caller.specs.declared.service.Service.{Service}
 use Rattle.yaml_base.specs.Event.{scalar}
@@ -31,12 +33,6 @@ use Rattle.yaml_base.specs.Seen.{seen_text}
 pub text_given : (before after : WriterState) (text : Text) → IsBare before → GaveEvent before (text_event before text) (Ok tt) after
     → WasGiven before (text_scalar text ∷ []) after
 text_given before after text bare = wrote_event before after (text_event before text) (text_scalar text) (text_is before text bare)
-
--- by an answer
-pub text_answered : (before after : WriterState) (text : Text) (answer : Result (Unit {0}) yaml_error_t) → IsBare before
-    → Gives before (text_event before text) answer after → OnOk answer (WasGiven before (text_scalar text ∷ []) after)
-text_answered before after text (Ok done) bare gave = text_given before after text bare gave
-text_answered before after text (Err error) bare gave = tt
 
 -- two texts
 pub texts_answered : (before between after : WriterState) (key value : Text) (answer : Result (Unit {0}) yaml_error_t) → IsBare before
@@ -154,10 +150,11 @@ fields_given {A} service before a b c d after name port replicas hosts labels na
 
 -- ---- the whole stream
 
-pub stream_finished : (start written : WriterState) (events : List Event) (bytes : List ℕ) → StandsTaken given_for_values opening [] start.emitter
+service_finished : (start written : WriterState) (events : List Event) (bytes : List ℕ) → IsNewWriter given_for_values start
     → WasGiven start events written → Finishes written.emitter bytes → IsStream given_for_values (opening ++ (events ++ closing)) bytes
-stream_finished start written events bytes stands gave finishes =
-    finishes given_for_values (opening ++ events) [] ((took_none start written events gave).adds given_for_values opening [] stands)
+service_finished start written events bytes new gave finishes =
+    stream_finished written.emitter bytes (gave.emits.set.given ∙ new.settings)
+    (gave.emits.set.events ∙ ap (λ (first : List Event). first ++ events) new.events) (gave.emits.taken ∙ new.untaken) finishes
 
 pub stream_read : (events : List Event) (bytes : List ℕ) → IsStream given_for_values events bytes → agrees false events (stream_trees false bytes) ≡ true
 stream_read events bytes stream =
@@ -165,13 +162,13 @@ stream_read events bytes stream =
 
 -- by the answer of the call that finishes it
 pub stream_answered : {A : Type 0} (service : Service A) (answer : Result (Vec ℕ A) yaml_error_t) (start written : WriterState)
-    → StandsTaken given_for_values opening [] start.emitter → start.canonical ≡ false → WasGiven start (service_events start.canonical service) written
+    → IsNewWriter given_for_values start → WasGiven start (service_events start.canonical service) written
     → IfOk answer (λ bytes. Finishes written.emitter bytes.items)
     → IfOk answer (λ bytes. IsStream given_for_values (service_stream service) bytes.items)
-stream_answered service (Ok bytes) start written stands plain gave finishes =
-    stream_finished start written (service_events false service) bytes.items stands
-    (subst (λ (canonical : Bool). WasGiven start (service_events canonical service) written) plain gave) finishes
-stream_answered service (Err error) start written stands plain gave finishes = tt
+stream_answered service (Ok bytes) start written new gave finishes =
+    service_finished start written (service_events false service) bytes.items new
+    (subst (λ (canonical : Bool). WasGiven start (service_events canonical service) written) new.canonical gave) finishes
+stream_answered service (Err error) start written new gave finishes = tt
 
 pub read_answered : {A : Type 0} (service : Service A) (answer : Result (Vec ℕ A) yaml_error_t)
     → IfOk answer (λ bytes. IsStream given_for_values (service_stream service) bytes.items)

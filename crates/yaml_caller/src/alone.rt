@@ -1,8 +1,6 @@
 //! A document that is dumped alone, as a whole stream.
 ghost use Rattle.std.specs.Prelude.{◌≡◌, ◌==◌, [], false, length};
-ghost use Rattle.yaml_base.specs.Settings.{Settings};
 ghost use Rattle.yaml_base.specs.graphs.Documents.{graph_of};
-ghost use Rattle.yaml_emitter.specs.StandsAfter.{StandsAfter};
 ghost use Rattle.yaml_caller.specs.Alone.{DumpsAlone, IsUnopened};
 
 use std::alloc::Allocator;
@@ -19,10 +17,16 @@ pub(crate) fn dump_alone<A: Allocator + Copy>(
     requires unopened { IsUnopened emitter.old }
     requires nonempty { (length (graph_of document).nodes == 0) ≡ false }
     ensures taken { emitter.new.page.taken ≡ emitter.old.page.taken }
-    ensures dumps { (given : Settings) → StandsAfter given [] emitter.old → DumpsAlone given (graph_of document) result emitter.new }
+    ensures dumps { emitter.old.events ≡ [] → DumpsAlone emitter.old.given (graph_of document) result emitter.new }
 {
     // A law: the numbers in the nodes are numbers of nodes.
     document.numbers_name_nodes();
-    yaml_emitter_dump(alloc, emitter, document)?;
-    yaml_emitter_close(emitter)
+    if let Err(error) = yaml_emitter_dump(alloc, emitter, document) {
+        // A law: the consequences of the events that were given.
+        emitter.promised();
+        return Err(error);
+    }
+    let answer = yaml_emitter_close(emitter);
+    emitter.promised();
+    answer
 }

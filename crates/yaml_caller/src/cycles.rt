@@ -4,7 +4,6 @@ ghost use Rattle.yaml_base.specs.graphs.Documents.{graph_of};
 ghost use Rattle.yaml_base.specs.graphs.Dumped.{GraphsRead};
 ghost use Rattle.yaml_dump.specs.GraphTrees.{GraphsReadBack};
 ghost use Rattle.yaml_base.specs.graphs.SeenNodes.{all_numbers, numbers_of, seen_node};
-ghost use Rattle.yaml_emitter.specs.StandsAfter.{StandsAfter};
 ghost use Rattle.yaml_caller.specs.Alone.{IsUnopened};
 ghost use Rattle.yaml_caller.specs.Cycle.{cycle_graph, cycle_settings, key_node, map_node};
 
@@ -42,7 +41,7 @@ pub fn cycle_written<A: Allocator + Copy>(alloc: A) -> Result<Vec<u8, A>, yaml_e
 
 /// Makes an emitter that writes canonical form into at most 100 bytes.
 fn canonical_emitter<A: Allocator + Copy>(alloc: A) -> Result<yaml_emitter_t<A>, yaml_error_t>
-    ensures stands { IfOk result (λ emitter. StandsAfter cycle_settings [] emitter) }
+    ensures made { IfOk result (λ emitter. (emitter.events ≡ []) × (emitter.given ≡ cycle_settings)) }
     ensures unopened { IfOk result (λ emitter. IsUnopened emitter) }
     ensures untaken { IfOk result (λ emitter. emitter.page.taken ≡ 0) }
     ensures memory { IfErr result (λ error. error ≡ yaml_error_t.Memory) }

@@ -3,7 +3,6 @@ ghost use Rattle.std.specs.Prelude.{◌≡◌, IfOk, IfErr, None, OnOk, map, tru
 ghost use Rattle.yaml_base.specs.Seen.{seen_event, seen_text};
 ghost use Rattle.yaml_base.specs.streams.StreamContent.{agrees};
 ghost use Rattle.yaml_base.specs.streams.StreamReader.{stream_trees};
-ghost use Rattle.yaml_emitter.specs.StandsAfter.{StandsAfter};
 ghost use Rattle.yaml_caller.specs.Pair.{FailsPair, pair_events, portable_settings, text_scalar};
 
 use std::alloc::{AllocError, Allocator};
@@ -40,7 +39,7 @@ pub fn write_pair<A: Allocator + Copy>(
 
 /// Makes an emitter in portable mode.
 fn portable_emitter<A: Allocator + Copy>(alloc: A) -> Result<yaml_emitter_t<A>, yaml_error_t>
-    ensures stands { IfOk result (λ emitter. StandsAfter portable_settings [] emitter) }
+    ensures made { IfOk result (λ emitter. (emitter.events ≡ []) × (emitter.given ≡ portable_settings)) }
     ensures output { IfOk result (λ emitter. emitter.has_output ≡ true) }
     ensures untaken { IfOk result (λ emitter. emitter.page.taken ≡ 0) }
     ensures no_error { IfOk result (λ emitter. emitter.error ≡ None) }
@@ -60,7 +59,7 @@ fn emit_pair<A: Allocator + Copy>(
     key: String<A>,
     value: String<A>,
 ) -> Result<(), yaml_error_t>
-    requires stands { StandsAfter portable_settings [] emitter.old }
+    requires made { (emitter.old.events ≡ []) × (emitter.old.given ≡ portable_settings) }
     requires output { emitter.old.has_output ≡ true }
     requires no_error { emitter.old.error ≡ None }
     ensures taken { emitter.new.page.taken ≡ emitter.old.page.taken }
@@ -68,7 +67,12 @@ fn emit_pair<A: Allocator + Copy>(
     ensures failed { IfErr result (λ error. FailsPair (seen_text key) (seen_text value) error) }
 {
     match events_of_pair(alloc, key, value) {
-        Ok(events) => emit_each(emitter, events),
+        Ok(events) => {
+            let answer = emit_each(emitter, events);
+            // A law: the consequences of the events.
+            emitter.promised();
+            answer
+        }
         Err(_) => Err(yaml_error_t::Memory),
     }
 }

@@ -5,7 +5,7 @@ pub use Rattle.yaml_base.proofs.Common.{refl, ◌≡◌, eq-eqb, length-append, 
 pub use Rattle.yaml_base.proofs.Common.{nat_tests, length-map, map-append, list_all, list_any, Text, Event, stream_end, document_start, Settings, IsDumpOf}
 pub use Rattle.yaml_base.proofs.Common.{GraphNode, Graph, children, is_whole, Step, enters, leaves, meets_again, is_entry_of, steps_from, numbered_name}
 pub use Rattle.yaml_base.proofs.Common.{opening_events, step_events, document_event_list, DocumentTree}
-pub use Rattle.yaml_emitter.proofs.Common.{Promised, StandsAfter, State}
+pub use Rattle.yaml_emitter.proofs.Common.{Promised, State}
 pub use Rattle.std.{proofs.lemmas.Int.to_z-of_z, proofs.lemmas.List.get_or-map, proofs.lemmas.Result.IfOk-weaker, specs.Fmt.styled_decimal}
 pub use Rattle.std.{specs.List.slice_get, specs.Vec.Iter.into_iter_items}
 pub use Rattle.std.proofs.Common.{get_or-set_other, get_or-set_same, length-set, rules, w32}

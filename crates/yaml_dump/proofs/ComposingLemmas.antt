@@ -111,16 +111,6 @@ nodes_are graph events nodes is same fits composes =
 pub whole_in_order : (graph : Graph) → IsWholeGraph graph → is_whole (in_order graph) ≡ true
 whole_in_order graph is = (in_order_document graph (walk_of graph is)).whole
 
--- a document of these parts is that of the graph
-pub made_is : {A : Type 0} (graph : Graph) (version : Option yaml_version_directive_t) (tags : List (yaml_tag_directive_t A)) (nodes : List (yaml_node_t A))
-    (implicit end : Bool)
-    → ◌≡◌ {A = DocumentStart} (record { version = option_map seen_version version; directives = map seen_directive tags; implicit = implicit }) graph.start
-    → map seen_node nodes ≡ graph.nodes → end ≡ graph.end_implicit → seen_document version tags nodes implicit end ≡ graph
-made_is graph version tags nodes implicit end start same last =
-    ap {B = Graph} (λ begins. record { start = begins; nodes = map seen_node nodes; end_implicit = end }) start
-    ∙ ap {B = Graph} (λ list. record { start = graph.start; nodes = list; end_implicit = end }) same
-    ∙ ap {B = Graph} (λ flag. record { start = graph.start; nodes = graph.nodes; end_implicit = flag }) last
-
 -- the nodes of a whole graph hold no other number
 pub none_other : {A : Type 0} (graph : Graph) (nodes : List (yaml_node_t A)) (number : ℤ) → is_whole graph ≡ true → map seen_node nodes ≡ graph.nodes
     → first_outside (length nodes) (all_numbers nodes) ≡ Some number → ⊥

@@ -1,18 +1,19 @@
 -- Events emitted one after another, and streams opened and closed.
 use Rattle.yaml_base.proofs.Common.{if◌then◌else◌, None, Some, Bool, false, true, ◌||◌, List, [], map, ◌++◌, ◌∷◌, refl, ◌≡◌, stream_start, stream_end}
-use Rattle.yaml_pen.proofs.{Composing.grows_itself, Writing.some_from_result}
+use Rattle.yaml_pen.proofs.{Composing.grows_itself, Composing.grows_then, Writing.some_from_result}
 use Rattle.yaml_base.proofs.Common.{append_assoc, inl, inr, ap, subst, sym, ◌∙◌, or-true, false≢true, Event}
-use Rattle.yaml_emitter.proofs.Common.{State, StandsAfter, Promised}
+use Rattle.yaml_base.proofs.Common.{append-nil}
+use Rattle.yaml_emitter.proofs.Common.{State, Promised}
 use Rattle.yaml_base.specs.Settings.{Settings}
+use Rattle.yaml_pen.specs.{Page.Page, Wrote.Grows}
 use Rattle.std.specs.Prelude.{is_ok}
-use Rattle.yaml_emitter.proofs.standing.Moving.{moved_promised, moves_flagged, moves_nothing, moves_then, moves_under}
-use Rattle.yaml_emitter.proofs.standing.StandingFlagged.{stands_flagged}
-use Rattle.yaml_emitter.specs.Moves.{Moves}
+use Rattle.yaml_emitter.proofs.Giving.{emits_flagged, emits_nothing, emits_then, emits_under}
+use Rattle.yaml_emitter.specs.Emits.{Emits, IsPromised}
 use Rattle.std.{proofs.Math.Bool.or-false, specs.Prelude.Err, specs.Prelude.Ok, specs.Prelude.Result, specs.Prelude.IsSome, specs.Prelude.OnOk}
 use Rattle.std.{specs.Prelude.OnErr}
 use Rattle.yaml_base.specs.{declared.errors.yaml_error_t.yaml_error_t, declared.events.yaml_event_t.yaml_event_t}
-use Rattle.yaml_dump.specs.Dumps.{EmitsAll, FailsAt, EmitsEach, OpensFrom, ClosesFrom, Closes, DumpsEvents, has_some, opening_unless, closing_unless}
-use Rattle.yaml_dump.specs.Dumps.{dump_events}
+use Rattle.yaml_dump.specs.Dumps.{EmitsAll, KeepsEarlier, FailsAt, EmitsEach, OpensFrom, ClosesFrom, Closes, DumpsEvents, has_some, opening_unless}
+use Rattle.yaml_dump.specs.Dumps.{closing_unless, dump_events}
 use Rattle.yaml_dump.specs.DumpsTell.{IsBegun, KeepsRest}
 
 -- a call that answers Ok found no error
@@ -41,35 +42,62 @@ pub emits_opening : (before middle : State) (done : Unit {0}) (opened : Bool) �
     → OpensFrom opened before (Ok done) middle → EmitsAll (record before { opened = true }) (opening_unless opened) middle
 emits_opening before middle done true is none opens =
     record {
-      moves =
-          subst (λ (s : State). Moves (record before { opened = true }) [] (Ok tt) s) (sym opens.1)
-          (moves_flagged (moves_nothing before none) true before.closed is refl);
+      emits =
+          subst (λ (s : State). Emits (record before { opened = true }) [] (Ok tt) s) (sym opens.1)
+          (emits_flagged (emits_nothing before none) true before.closed is refl);
       unchanged = λ nothing. opens.1 ∙ ap (λ (b : Bool). record before { opened = b }) is;
     }
-emits_opening before middle done false is none opens = record { moves = opens; unchanged = λ nothing. cc }
+emits_opening before middle done false is none opens = record { emits = opens; unchanged = λ nothing. cc }
+
+-- no event before the first
+keeps_none : (before : State) (after : Page) → before.error ≡ None → IsPromised before → Grows before.page after
+    → KeepsEarlier before.given (before.events ++ []) before.page after
+keeps_none before after none promised grows =
+    record {
+      between = before;
+      no_error = none;
+      promised = subst (λ (events : List Event). Promised before.given events before) (sym (append-nil before.events)) promised;
+      grown = grows_itself before.page;
+      grows = grows;
+    }
+
+-- more events before them
+keeps_then : {before middle : State} {first : List Event} {answer : Result (Unit {0}) yaml_error_t} (earlier : List Event) (after : Page)
+    → Emits before first answer middle → KeepsEarlier middle.given (middle.events ++ earlier) middle.page after
+    → KeepsEarlier before.given (before.events ++ (first ++ earlier)) before.page after
+keeps_then {before} {middle} {first} {answer} earlier after emits kept =
+    record {
+      between = kept.between;
+      no_error = kept.no_error;
+      promised =
+          subst (λ (events : List Event). Promised before.given events kept.between)
+          (ap (λ (events : List Event). events ++ earlier) emits.set.events ∙ append_assoc before.events first earlier)
+          (subst (λ (given : Settings). Promised given (middle.events ++ earlier) kept.between) emits.set.given kept.promised);
+      grown = grows_then emits.grows kept.grown;
+      grows = kept.grows;
+    }
 
 -- the end, if it isn't closed
-pub emits_closing : (before after : State) (answer : Result (Unit {0}) yaml_error_t) (closed : Bool) → before.error ≡ None
+pub emits_closing : (before after : State) (answer : Result (Unit {0}) yaml_error_t) (closed : Bool) → before.error ≡ None → IsPromised before
     → ClosesFrom closed before answer after → EmitsEach (record before { closed = after.closed }) (closing_unless closed) answer after
-emits_closing before after (Ok done) true none closes =
+emits_closing before after (Ok done) true none promised closes =
     record {
-      moves =
-          subst (λ (s : State). Moves (record before { closed = s.closed }) [] (Ok tt) s) (sym closes.1)
-          (moves_flagged (moves_nothing before none) before.opened before.closed refl refl);
+      emits =
+          subst (λ (s : State). Emits (record before { closed = s.closed }) [] (Ok tt) s) (sym closes.1)
+          (emits_flagged (emits_nothing before none) before.opened before.closed refl refl);
       unchanged = λ nothing. subst (λ (s : State). s ≡ record before { closed = s.closed }) (sym closes.1) refl;
     }
-emits_closing before after (Err error) true none closes = absurd (let wrong = closes.0 in cc)
-emits_closing before after (Ok done) false none closes =
-    record { moves = moves_flagged closes before.opened after.closed closes.set.opened refl; unchanged = λ nothing. cc }
-emits_closing before after (Err error) false none closes =
+emits_closing before after (Err error) true none promised closes = absurd (let wrong = closes.0 in cc)
+emits_closing before after (Ok done) false none promised closes =
+    record { emits = emits_flagged closes before.opened after.closed closes.set.opened refl; unchanged = λ nothing. cc }
+emits_closing before after (Err error) false none promised closes =
     record {
       earlier = [];
       event = stream_end;
       later = [];
       parts = refl;
-      between = record before { closed = after.closed };
-      moved = moves_nothing (record before { closed = after.closed }) none;
-      failed = moves_flagged closes before.opened after.closed closes.set.opened refl;
+      kept = keeps_none before after.page none promised closes.grows;
+      emits = emits_flagged closes before.opened after.closed closes.set.opened refl;
     }
 
 -- by its answer a stream is closed, or as it was
@@ -104,11 +132,11 @@ pub dumps_then : (nodeless : Bool) (document : List Event) (before middle after 
     → DumpsEvents nodeless document before answer after
 dumps_then nodeless document before middle after closed more (Ok done) first then_more is by_ok by_error =
     let whole : Bool = before.closed || nodeless in
-    let opened = then_more.moves.set.opened ∙ first.moves.set.opened in
+    let opened = then_more.emits.set.opened ∙ first.emits.set.opened in
     record {
-      moves =
-          subst (λ (events : List Event). Moves (record before { opened = true; closed = whole }) events (Ok tt) after) is
-          (moves_then (moves_under true whole first.moves) (moves_flagged then_more.moves true whole opened by_ok));
+      emits =
+          subst (λ (events : List Event). Emits (record before { opened = true; closed = whole }) events (Ok tt) after) is
+          (emits_then (emits_under true whole first.emits) (emits_flagged then_more.emits true whole opened by_ok));
       unchanged = λ nothing.
           let none = no_parts (opening_unless before.opened) more (is ∙ nothing) in
           let same = then_more.unchanged none.1 in
@@ -116,29 +144,31 @@ dumps_then nodeless document before middle after closed more (Ok done) first the
           ∙ ap (λ (b : Bool). record before { opened = true; closed = b }) (sym (ap (λ (s : State). s.closed) same) ∙ by_ok);
     }
 dumps_then nodeless document before middle after closed more (Err error) first fails is by_ok by_error =
-    let opened = fails.failed.set.opened ∙ fails.moved.set.opened ∙ first.moves.set.opened in
+    let opened = fails.emits.set.opened ∙ first.emits.set.opened in
+    let start = opening_unless before.opened in
     inr
     (record {
       fails =
           record {
-            earlier = opening_unless before.opened ++ fails.earlier;
+            earlier = start ++ fails.earlier;
             event = fails.event;
             later = fails.later;
-            parts =
-                append_assoc (opening_unless before.opened) fails.earlier (fails.event ∷ fails.later)
-                ∙ ap (λ events. opening_unless before.opened ++ events) fails.parts ∙ is;
-            between = record fails.between { opened = after.opened; closed = before.closed };
-            moved = moves_then (moves_under after.opened before.closed first.moves) (moves_under after.opened before.closed fails.moved);
-            failed = moves_flagged fails.failed after.opened before.closed refl by_error;
+            parts = append_assoc start fails.earlier (fails.event ∷ fails.later) ∙ ap (λ events. start ++ events) fails.parts ∙ is;
+            kept = keeps_then fails.earlier after.page first.emits fails.kept;
+            emits =
+                subst (λ (events : List Event). Emits (record before { opened = after.opened }) events (Err error) after)
+                (sym (append_assoc start fails.earlier (fails.event ∷ [])))
+                (emits_then (emits_under after.opened before.closed first.emits) (emits_flagged fails.emits after.opened before.closed refl by_error));
           };
       opened_before = opened_some before.opened after.opened fails.earlier opened;
     })
 
 -- the start failed
 pub dumps_unopened : (nodeless : Bool) (document : List Event) (before after : State) (opened : Bool) (error : yaml_error_t)
-    → before.opened ≡ opened → before.error ≡ None → OpensFrom opened before (Err error) after → DumpsEvents nodeless document before (Err error) after
-dumps_unopened nodeless document before after true error was none opens = absurd (let wrong = opens.0 in cc)
-dumps_unopened nodeless document before after false error was none opens =
+    → before.opened ≡ opened → before.error ≡ None → IsPromised before → OpensFrom opened before (Err error) after
+    → DumpsEvents nodeless document before (Err error) after
+dumps_unopened nodeless document before after true error was none promised opens = absurd (let wrong = opens.0 in cc)
+dumps_unopened nodeless document before after false error was none promised opens =
     let more : List Event = if nodeless then closing_unless before.closed else document in
     inr
     (record {
@@ -148,22 +178,21 @@ dumps_unopened nodeless document before after false error was none opens =
             event = stream_start None;
             later = more;
             parts = ap (λ (b : Bool). opening_unless b ++ more) (sym was);
-            between = record before { opened = after.opened };
-            moved = moves_nothing (record before { opened = after.opened }) none;
-            failed = moves_flagged opens after.opened before.closed refl opens.set.closed;
+            kept = keeps_none before after.page none promised opens.grows;
+            emits = emits_flagged opens after.opened before.closed refl opens.set.closed;
           };
       opened_before = opens.set.opened ∙ sym (ap (λ (b : Bool). b || false) was);
     })
 
 -- a document without nodes closes the stream
 pub dumps_closing : (nodeless : Bool) (document : List Event) (before middle after : State) (answer : Result (Unit {0}) yaml_error_t) → nodeless ≡ true
-    → middle.error ≡ None → EmitsAll (record before { opened = true }) (opening_unless before.opened) middle → Closes middle answer after
-    → DumpsEvents nodeless document before answer after
-dumps_closing nodeless document before middle after answer empty none first closes =
-    let closed = first.moves.set.closed in
+    → middle.error ≡ None → IsPromised middle → EmitsAll (record before { opened = true }) (opening_unless before.opened) middle
+    → Closes middle answer after → DumpsEvents nodeless document before answer after
+dumps_closing nodeless document before middle after answer empty none promised first closes =
+    let closed = first.emits.set.closed in
     let by = closed_by middle after answer middle.closed refl closes in
     dumps_then nodeless document before middle after after.closed (closing_unless middle.closed) answer first
-    (emits_closing middle after answer middle.closed none closes)
+    (emits_closing middle after answer middle.closed none promised closes)
     (ap (λ (c : Bool). opening_unless before.opened ++ closing_unless c) closed
     ∙ ap (λ (b : Bool). opening_unless before.opened ++ (if b then closing_unless before.closed else document)) (sym empty))
     (ok_then answer (λ is. is ∙ sym (ap (λ (b : Bool). before.closed || b) empty ∙ or-true before.closed)) by.0) (err_then answer (λ is. is ∙ closed) by.1)
@@ -182,15 +211,15 @@ pub dumps_document : (nodeless : Bool) (document : List Event) (before middle af
     → EmitsAll (record before { opened = true }) (opening_unless before.opened) middle → EmitsEach middle events answer after
     → DumpsEvents nodeless document before answer after
 dumps_document nodeless document before middle after events answer some same first each =
-    let closed = closed_as answer each ∙ first.moves.set.closed in
+    let closed = closed_as answer each ∙ first.emits.set.closed in
     dumps_then nodeless document before middle after middle.closed events answer first each
     (ap (λ (b : Bool). opening_unless before.opened ++ (if b then closing_unless before.closed else events)) (sym some)
     ∙ ap (λ (l : List Event). opening_unless before.opened ++ (if nodeless then closing_unless before.closed else l)) same)
     (on_ok answer (closed ∙ sym (ap (λ (b : Bool). before.closed || b) some ∙ or-false before.closed))) (on_err answer closed)
   where
     closed_as : (answer : Result (Unit {0}) yaml_error_t) → EmitsEach middle events answer after → after.closed ≡ middle.closed
-    closed_as (Ok done) all = all.moves.set.closed
-    closed_as (Err error) fails = fails.failed.set.closed ∙ fails.moved.set.closed
+    closed_as (Ok done) all = all.emits.set.closed
+    closed_as (Err error) fails = fails.emits.set.closed
 
     on_err : {P : Type 0} (answer : Result (Unit {0}) yaml_error_t) → P → OnErr answer P
     on_err (Ok done) p = tt
@@ -198,62 +227,60 @@ dumps_document nodeless document before middle after events answer some same fir
 
 -- ---- the consequences
 
--- the promises of the events up to the one that failed, and its error
-pub fails_promised : {before after : State} {events : List Event} {error : yaml_error_t} → (fails : FailsAt before events error after)
-    → (given : Settings) (all : List Event) → StandsAfter given all before → Promised given (all ++ (fails.earlier ++ fails.event ∷ [])) after
-fails_promised fails = moved_promised (moves_then fails.moved fails.failed)
+-- the promises about the events before and these
+pub emits_promised : {before after : State} {events : List Event} {answer : Result (Unit {0}) yaml_error_t} → Emits before events answer after
+    → IsPromised after → (given : Settings) (all : List Event) → before.given ≡ given → before.events ≡ all → Promised given (all ++ events) after
+emits_promised {before} {after} {events} emits promised given all settings is =
+    subst (λ (given : Settings). Promised given (all ++ events) after) (emits.set.given ∙ settings)
+    (subst (λ (l : List Event). Promised after.given l after) (emits.set.events ∙ ap (λ (l : List Event). l ++ events) is) promised)
 
+-- the error of the event that failed
 pub fails_error : {before after : State} {events : List Event} {error : yaml_error_t} → FailsAt before events error after → after.error ≡ Some error
-fails_error {before} {after} {events} {error} fails = some_from_result after.error error fails.failed.answered
+fails_error {before} {after} {events} {error} fails = some_from_result after.error error fails.emits.answered
 
 -- closing a stream that isn't closed
-pub closing_move : (before after : State) (answer : Result (Unit {0}) yaml_error_t) → before.closed ≡ false → Closes before answer after
-    → Moves (record before { closed = is_ok answer }) (stream_end ∷ []) answer after
-closing_move before after answer unclosed closes = subst (λ (b : Bool). ClosesFrom b before answer after) unclosed closes
+pub closing_emits : (before after : State) (answer : Result (Unit {0}) yaml_error_t) → before.closed ≡ false → Closes before answer after
+    → Emits (record before { closed = is_ok answer }) (stream_end ∷ []) answer after
+closing_emits before after answer unclosed closes = subst (λ (b : Bool). ClosesFrom b before answer after) unclosed closes
 
-pub closing_promised : (before after : State) (answer : Result (Unit {0}) yaml_error_t) → before.closed ≡ false → Closes before answer after
-    → (given : Settings) (all : List Event) → StandsAfter given all before → Promised given (all ++ stream_end ∷ []) after
-closing_promised before after answer unclosed closes given all stands =
-    moved_promised (closing_move before after answer unclosed closes) given all (stands_flagged given all before before.opened (is_ok answer) stands)
+-- the events that were given
+pub each_emits : (before after : State) (events : List Event) (answer : Result (Unit {0}) yaml_error_t) → EmitsEach before events answer after
+    → (given : List Event) × Emits before given answer after
+each_emits before after events (Ok done) all = (events, all.emits)
+each_emits before after events (Err error) fails = (fails.earlier ++ fails.event ∷ [], fails.emits)
 
--- all events that were given are a move
-pub each_moves : (before after : State) (events : List Event) (answer : Result (Unit {0}) yaml_error_t) → EmitsEach before events answer after
-    → (given : List Event) × Moves before given answer after
-each_moves before after events (Ok done) all = (events, all.moves)
-each_moves before after events (Err error) fails = (fails.earlier ++ fails.event ∷ [], moves_then fails.moved fails.failed)
-
--- a move by some event begins the stream
+-- some event begins the stream
 keeps_by : (before after : State) (opened closed : Bool) (events : List Event) (answer : Result (Unit {0}) yaml_error_t)
-    → Moves (record before { opened = opened; closed = closed }) events answer after → (events ≡ [] → after ≡ before) → KeepsRest before after
-keeps_by before after opened closed events answer moves unchanged =
+    → Emits (record before { opened = opened; closed = closed }) events answer after → (events ≡ [] → after ≡ before) → KeepsRest before after
+keeps_by before after opened closed events answer emits unchanged =
     record {
-      grows = moves.grows;
+      grows = emits.grows;
       set = record {
         events = refl;
-        given = moves.set.given;
+        given = emits.set.given;
         started = refl;
-        has_output = moves.set.has_output;
+        has_output = emits.set.has_output;
         opened = refl;
         closed = refl;
-        taken = moves.set.taken;
+        taken = emits.set.taken;
       };
-      begun = begun events moves unchanged;
+      begun = begun events emits unchanged;
     }
   where
-    begun : (events : List Event) → Moves (record before { opened = opened; closed = closed }) events answer after → (events ≡ [] → after ≡ before)
+    begun : (events : List Event) → Emits (record before { opened = opened; closed = closed }) events answer after → (events ≡ [] → after ≡ before)
         → IsBegun before after
-    begun [] moves unchanged = inl (unchanged refl)
-    begun (event ∷ events) moves unchanged = inr moves.set.started
+    begun [] emits unchanged = inl (unchanged refl)
+    begun (event ∷ events) emits unchanged = inr emits.set.started
 
 keeps_failing : (before after : State) (opened : Bool) (events : List Event) (error : yaml_error_t)
     → FailsAt (record before { opened = opened }) events error after → KeepsRest before after
 keeps_failing before after opened events error fails =
-    keeps_by before after opened before.closed (fails.earlier ++ fails.event ∷ []) (Err error) (moves_then fails.moved fails.failed)
+    keeps_by before after opened before.closed (fails.earlier ++ fails.event ∷ []) (Err error) fails.emits
     (λ none. let wrong = (no_parts fails.earlier (fails.event ∷ []) none).1 in cc)
 
 pub keeps_each : (before after : State) (events : List Event) (answer : Result (Unit {0}) yaml_error_t) → EmitsEach before events answer after
     → KeepsRest before after
-keeps_each before after events (Ok done) all = keeps_by before after before.opened before.closed events (Ok tt) all.moves all.unchanged
+keeps_each before after events (Ok done) all = keeps_by before after before.opened before.closed events (Ok tt) all.emits all.unchanged
 keeps_each before after events (Err error) fails = keeps_failing before after before.opened events error fails
 
 -- a dump without events opens and closes nothing
@@ -270,7 +297,7 @@ closed_none opened false true events none = let wrong = (no_parts (opening_unles
 pub keeps_dumping : (nodeless : Bool) (document : List Event) (before after : State) (answer : Result (Unit {0}) yaml_error_t)
     → DumpsEvents nodeless document before answer after → KeepsRest before after
 keeps_dumping nodeless document before after (Ok done) all =
-    keeps_by before after true (before.closed || nodeless) (dump_events before nodeless document) (Ok tt) all.moves
+    keeps_by before after true (before.closed || nodeless) (dump_events before nodeless document) (Ok tt) all.emits
     (λ none.
     all.unchanged none
     ∙ ap (λ (b : Bool). record before { opened = b; closed = before.closed || nodeless }) (sym
@@ -289,10 +316,10 @@ keeps_dumping nodeless document before after (Err error) (inr dump) =
 
 pub opened_by : (nodeless : Bool) (document : List Event) (before after : State) (answer : Result (Unit {0}) yaml_error_t)
     → DumpsEvents nodeless document before answer after → OnOk answer (after.opened ≡ true)
-opened_by nodeless document before after (Ok done) all = all.moves.set.opened
+opened_by nodeless document before after (Ok done) all = all.emits.set.opened
 opened_by nodeless document before after (Err error) fails = tt
 
 pub unclosed_failing : (nodeless : Bool) (document : List Event) (before after : State) (error : yaml_error_t)
     → DumpsEvents nodeless document before (Err error) after → after.closed ≡ before.closed
 unclosed_failing nodeless document before after error (inl failed) = ap (λ (s : State). s.closed) failed.1
-unclosed_failing nodeless document before after error (inr dump) = dump.fails.failed.set.closed ∙ dump.fails.moved.set.closed
+unclosed_failing nodeless document before after error (inr dump) = dump.fails.emits.set.closed

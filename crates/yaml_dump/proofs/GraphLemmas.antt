@@ -1,18 +1,17 @@
 -- A document's events unfold its graph, and so do their bytes as they are read.
-use Rattle.yaml_dump.proofs.Common.{ℕ, ◌==◌, if◌then◌else◌, Option, None, Some, Result, Err, Ok, Vec, drop, length, Bool, false, true, List, [], map, ◌++◌, ◌∷◌}
-use Rattle.yaml_dump.proofs.Common.{refl, ◌≡◌, ap, subst, sym, ◌∙◌, false≢true, dumped_stream, document_unfolds, Event, stream_end, seen_event, length-map}
-use Rattle.yaml_dump.proofs.Common.{is_numbered, seen_step, seen_events, Settings, IsDumpOf, Graph, graph_steps, document_event_list, DocumentTree, Promised}
-use Rattle.yaml_dump.proofs.Common.{StandsAfter, State, append_assoc, none_from_result}
-use Rattle.yaml_base.proofs.Common.{written, IsWholeGraph, agrees, stream_trees}
+use Rattle.yaml_dump.proofs.Common.{ℕ, ◌==◌, if◌then◌else◌, Option, None, Some, Result, Err, Ok, Vec, drop, length, Bool, false, true, List, [], map, ◌∷◌}
+use Rattle.yaml_dump.proofs.Common.{refl, ◌≡◌, ap, subst, sym, ◌∙◌, false≢true, dumped_stream, document_unfolds, Event, seen_event, length-map}
+use Rattle.yaml_dump.proofs.Common.{is_numbered, seen_step, seen_events, Settings, IsDumpOf, Graph, graph_steps, document_event_list, DocumentTree, State}
+use Rattle.yaml_base.proofs.Common.{written, IsWholeGraph, agrees, stream_trees, stream_start, documents_events, Stream, stream_events, IsAccepted}
 use Rattle.std.{proofs.Math.Seq.drop-length, specs.Prelude.IfOk}
 use Rattle.yaml_base.{proofs.QueueLaws.stream_written, specs.declared.events.yaml_event_t.yaml_event_t}
-use Rattle.yaml_base.{specs.graphs.Dumped.GraphsRead, specs.graphs.Unfolding.EventsUnfold}
+use Rattle.yaml_base.specs.graphs.Unfolding.{EventsUnfold}
 use Rattle.yaml_dump.proofs.GraphTreeLemmas.{dumped_trees_unfold}
 use Rattle.yaml_base.specs.{declared.nodes.yaml_node_t.yaml_node_t, graphs.SeenNodes.seen_node}
 use Rattle.yaml_dump.specs.{Outlines.IsOutline, declared.outlines.Outline.Outline}
 use Rattle.yaml_dump.specs.{Dumps.ReadsGraphs, Events.HoldsTexts, Events.walk_events, GraphTrees.GraphsReadBack, GraphTrees.ReadsTrees}
-use Rattle.yaml_emitter.{proofs.standing.Moving.moved_promised, specs.Moves.Moves, proofs.EndedStreams.ends_last, specs.Promises.HasRoomAndMemory}
-use Rattle.yaml_emitter.{specs.Promises.IsWritten}
+use Rattle.yaml_emitter.{proofs.EndedStreams.ends_last, specs.Emits.IsPromised, specs.Promises.HasRoomAndMemory, specs.Promises.IsWritten}
+use Rattle.yaml_emitter.specs.Promises.{ends_stream}
 
 -- the events of a walk over nodes that hold all parts that it needs are the document's
 pub dumped_events : {A E : Type 0} (graph : Graph) (outline : Outline A) (nodes : List (yaml_node_t A)) (answer : Result (Vec (yaml_event_t A) A) E)
@@ -37,28 +36,6 @@ pub events_unfold : {A E : Type 0} (graph : Graph) (answer : Result (Vec (yaml_e
 events_unfold graph (Ok events) is same = subst (EventsUnfold graph) (sym same) (document_unfolds graph is)
 events_unfold graph (Err error) is same = tt
 
--- documents that were dumped and closed without an error are written whole
-pub written_whole : (given : Settings) (before : List Event) (graphs : List Graph) (state : State) → Promised given (before ++ stream_end ∷ []) state
-    → state.error ≡ None → IsDumpOf graphs (before ++ stream_end ∷ []) → IsWritten given (before ++ stream_end ∷ []) state
-written_whole given before graphs state promised none dumped =
-    let all = before ++ stream_end ∷ [] in
-    let read = dumped_stream graphs all dumped in
-    let whole : written all ≡ length all = subst (λ (events : List Event). written events ≡ length events) read.is (stream_written read.stream) in
-    let held : state.held ≡ [] = (promised.held none).held ∙ ap (λ count. drop count all) whole ∙ drop-length all in
-    let accepted = (promised.ends (ends_last before) (subst HasRoomAndMemory (sym none) tt)).1 (none, held) in
-    promised.whole none accepted
-
--- graphs that were dumped whole in canonical mode are read back
-pub graphs_read : (given : Settings) (before : List Event) (graphs : List Graph) (state : State) → Promised given (before ++ stream_end ∷ []) state
-    → state.error ≡ None → given.canonical ≡ true → IsDumpOf graphs (before ++ stream_end ∷ []) → GraphsRead given.breaks12 graphs state.page.output
-graphs_read given before graphs state promised none canonical dumped =
-    let read = dumped_stream graphs (before ++ stream_end ∷ []) dumped in
-    record {
-      contents = read.contents;
-      read = (written_whole given before graphs state promised none dumped).reads canonical ∙ read.content;
-      unfolds = read.unfolds;
-    }
-
 -- the documents read of dumped graphs
 read_back : (given : Settings) (graphs : List Graph) (events : List Event) (bytes : List ℕ) (read : Option (List DocumentTree))
     → IsDumpOf graphs events → stream_trees given.breaks12 bytes ≡ read → agrees given.canonical events read ≡ true
@@ -67,23 +44,32 @@ read_back given graphs events bytes None dumped is agree = absurd (false≢true 
 read_back given graphs events bytes (Some documents) dumped is agree =
     record { documents = documents; read = is; unfolds = dumped_trees_unfold given.canonical graphs events documents dumped agree }
 
--- graphs that were dumped whole in any mode are read back
-pub trees_read : (given : Settings) (before : List Event) (state : State) → Promised given (before ++ stream_end ∷ []) state → state.error ≡ None
-    → ReadsTrees given (before ++ stream_end ∷ []) state
-trees_read given before state promised none graphs portable dumped =
-    read_back given graphs (before ++ stream_end ∷ []) state.page.output (stream_trees given.breaks12 state.page.output) dumped refl
-    ((written_whole given before graphs state promised none dumped).reads_back portable)
+-- ---- an emitter without an error
 
--- both, of output that ends with the stream's end
-pub moved_reads : (before after : State) (events : List Event) → Moves before (events ++ stream_end ∷ []) (Ok tt) after
-    → (given : Settings) (all : List Event) → StandsAfter given all before
-    → ReadsGraphs given (all ++ (events ++ stream_end ∷ [])) after × ReadsTrees given (all ++ (events ++ stream_end ∷ [])) after
-moved_reads before after events moves given all stands =
-    let same = append_assoc all events (stream_end ∷ []) in
-    let promised : Promised given ((all ++ events) ++ stream_end ∷ []) after =
-    subst (λ (l : List Event). Promised given l after) (sym same) (moved_promised moves given all stands) in
-    let none = none_from_result after.error moves.answered in
-    subst (λ (l : List Event). ReadsGraphs given l after × ReadsTrees given l after) same (
-      λ graphs canonical dumped. graphs_read given (all ++ events) graphs after promised none canonical dumped,
-      trees_read given (all ++ events) after promised none,
-    )
+module _ (state : State) (promised : IsPromised state) (none : state.error ≡ None) where
+  -- the events of a stream are accepted
+  pub stream_accepted : (stream : Stream) → stream_events stream ≡ state.events → IsAccepted state.given.canonical state.events
+  stream_accepted stream is =
+      let whole : written state.events ≡ length state.events =
+      subst (λ (events : List Event). written events ≡ length events) is (stream_written stream) in
+      let held : state.held ≡ [] =
+      (promised.held none).held ∙ ap (λ (count : ℕ). drop count state.events) whole ∙ drop-length state.events in
+      let ends : ends_stream state.events ≡ true =
+      subst (λ (events : List Event). ends_stream events ≡ true) is (ends_last (stream_start stream.encoding ∷ documents_events stream.documents)) in
+      (promised.ends ends (subst HasRoomAndMemory (sym none) tt)).1 (none, held)
+
+  -- so dumped graphs are written whole
+  pub dumped_whole : (graphs : List Graph) → IsDumpOf graphs state.events → IsWritten state.given state.events state
+  dumped_whole graphs dumped =
+      let read = dumped_stream graphs state.events dumped in promised.whole none (stream_accepted read.stream read.is)
+
+  -- and read back: in canonical mode by the canonical reader, in every mode by the reader of whole streams
+  pub graphs_read : ReadsGraphs state
+  graphs_read graphs canonical dumped =
+      let read = dumped_stream graphs state.events dumped in
+      record { contents = read.contents; read = (dumped_whole graphs dumped).reads canonical ∙ read.content; unfolds = read.unfolds }
+
+  pub trees_read : ReadsTrees state
+  trees_read graphs alike dumped =
+      read_back state.given graphs state.events state.page.output (stream_trees state.given.breaks12 state.page.output) dumped refl
+      ((dumped_whole graphs dumped).reads_back alike)

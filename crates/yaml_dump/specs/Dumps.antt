@@ -6,13 +6,24 @@ use Rattle.yaml_base.specs.graphs.Meetings.{Graph, document_event_list}
 use Rattle.yaml_base.specs.graphs.Dumped.{IsDumpOf, GraphsRead}
 use Rattle.yaml_base.specs.declared.errors.yaml_error_t.{yaml_error_t}
 use Rattle.yaml_base.specs.declared.errors.yaml_error_t.TheVariants.{Memory}
+use Rattle.yaml_pen.specs.Page.{Page}
+use Rattle.yaml_pen.specs.Wrote.{Grows}
+use Rattle.yaml_emitter.specs.Emits.{Emits}
+use Rattle.yaml_emitter.specs.Promises.{Promised}
 use Rattle.yaml_emitter.specs.State.{State}
-use Rattle.yaml_emitter.specs.Moves.{Moves}
 
 -- all events are emitted, without an error; if there are none, nothing changes
 pub record EmitsAll (before : State) (events : List Event) (after : State) : Type 0 where
-  pub moves : Moves before events (Ok tt) after
+  pub emits : Emits before events (Ok tt) after
   pub unchanged : events ≡ [] → after ≡ before
+
+-- after these events an emitter with these settings had no error; its text and output grew from those before, and into those after
+pub record KeepsEarlier (given : Settings) (events : List Event) (before after : Page) : Type 0 where
+  pub between : State
+  pub no_error : between.error ≡ None
+  pub promised : Promised given events between
+  pub grown : Grows before between.page
+  pub grows : Grows between.page after
 
 -- the events before the first whose call returns an error, and that event; none after it is given, and the bytes of those before it are kept
 pub record FailsAt (before : State) (events : List Event) (error : yaml_error_t) (after : State) : Type 0 where
@@ -20,9 +31,8 @@ pub record FailsAt (before : State) (events : List Event) (error : yaml_error_t)
   pub event : Event
   pub later : List Event
   pub parts : earlier ++ event ∷ later ≡ events
-  pub between : State
-  pub moved : Moves before earlier (Ok tt) between
-  pub failed : Moves between (event ∷ []) (Err error) after
+  pub kept : KeepsEarlier before.given (before.events ++ earlier) before.page after.page
+  pub emits : Emits before (earlier ++ event ∷ []) (Err error) after
 
 -- events are emitted in order, up to the first error
 abbrev pub EmitsEach : State → List Event → Result (Unit {0}) yaml_error_t → State → Type 0
@@ -32,12 +42,12 @@ EmitsEach before events (Err error) after = FailsAt before events error after
 -- a stream is opened by its start, unless it is opened
 abbrev pub OpensFrom : (opened : Bool) → State → Result (Unit {0}) yaml_error_t → State → Type 0
 OpensFrom true before answer after = (answer ≡ Ok tt) × (after ≡ before)
-OpensFrom false before answer after = Moves (record before { opened = is_ok answer }) (stream_start None ∷ []) answer after
+OpensFrom false before answer after = Emits (record before { opened = is_ok answer }) (stream_start None ∷ []) answer after
 
 -- a stream is closed by its end, unless it is closed
 abbrev pub ClosesFrom : (closed : Bool) → State → Result (Unit {0}) yaml_error_t → State → Type 0
 ClosesFrom true before answer after = (answer ≡ Ok tt) × (after ≡ before)
-ClosesFrom false before answer after = Moves (record before { closed = is_ok answer }) (stream_end ∷ []) answer after
+ClosesFrom false before answer after = Emits (record before { closed = is_ok answer }) (stream_end ∷ []) answer after
 
 abbrev pub Closes : State → Result (Unit {0}) yaml_error_t → State → Type 0
 Closes before answer after = ClosesFrom before.closed before answer after
@@ -79,7 +89,7 @@ DumpsEvents nodeless document before (Err error) after = ((error ≡ Memory) × 
 abbrev pub Dumps : Graph → State → Result (Unit {0}) yaml_error_t → State → Type 0
 Dumps graph before answer after = DumpsEvents (length graph.nodes == 0) (document_event_list graph) before answer after
 
--- if these events are dumps of graphs in canonical mode, the canonical reader finds contents in their output that unfold the graphs
-abbrev pub ReadsGraphs : Settings → List Event → State → Type 0
-ReadsGraphs given events after =
-    (graphs : List Graph) → given.canonical ≡ true → IsDumpOf graphs events → GraphsRead given.breaks12 graphs after.page.output
+-- if the events are dumps of graphs in canonical mode, the canonical reader finds contents in their output that unfold the graphs
+abbrev pub ReadsGraphs : State → Type 0
+ReadsGraphs after =
+    (graphs : List Graph) → after.given.canonical ≡ true → IsDumpOf graphs after.events → GraphsRead after.given.breaks12 graphs after.page.output

@@ -2,7 +2,6 @@
 -- node's kind, or in canonical mode; a node that is read without a tag has that of its kind, as libyaml's loader gives it.
 use Rattle.std.specs.Prelude.{◌≡◌, Bool, true, false, None, Some, List, [], ◌∷◌, ℕ, ⊤, unwrap_or}
 use Rattle.yaml_base.specs.Characters.{Text}
-use Rattle.yaml_base.specs.Settings.{Settings}
 use Rattle.yaml_base.specs.Event.{Event}
 use Rattle.yaml_base.specs.graphs.Meetings.{Graph, string_tag, sequence_tag, mapping_tag}
 use Rattle.yaml_base.specs.graphs.Unfolding.{scalar_kind, sequence_kind, mapping_kind, Shape, alias_shape, node_shape, Shapes, no_shapes, shapes_and, Unfolds}
@@ -56,12 +55,12 @@ pub record GraphsReadBack (breaks12 : Bool) (graphs : List Graph) (bytes : List 
   pub read : stream_trees breaks12 bytes ≡ Some documents
   pub unfolds : TreesUnfold graphs documents
 
--- if these events are dumps of graphs, the reader of whole streams finds documents in their output that unfold the graphs: in portable
+-- if the events are dumps of graphs, the reader of whole streams finds documents in their output that unfold the graphs: in portable
 -- mode for all events, in other modes for those that lose no document and have no flow indicator in a tag
-abbrev pub ReadsTrees : Settings → List Event → State → Type 0
-ReadsTrees given events after =
-    (graphs : List Graph) → reads_alike given.portable given.canonical events ≡ true → IsDumpOf graphs events
-    → GraphsReadBack given.breaks12 graphs after.page.output
+abbrev pub ReadsTrees : State → Type 0
+ReadsTrees after =
+    (graphs : List Graph) → reads_alike after.given.portable after.given.canonical after.events ≡ true → IsDumpOf graphs after.events
+    → GraphsReadBack after.given.breaks12 graphs after.page.output
 
 -- documents that agree with the events of dumped graphs unfold the graphs
 abbrev pub DumpedTreesUnfold : Type 0

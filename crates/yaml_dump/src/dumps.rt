@@ -156,10 +156,14 @@ fn dump_in_form<A: Allocator + Copy>(
     let Ok(events) = moved_events(alloc, document) else {
         return Err(yaml_error_t::Memory);
     };
+    // A law: the consequences of the events that were given before.
+    emitter.promised();
     if let Err(error) = open_if_needed(emitter) {
         return Err(error);
     }
     if is_empty {
+        // The same law, with the stream's start.
+        emitter.promised();
         return yaml_emitter_close(emitter);
     }
     emit_in_form(emitter, events, form)

@@ -77,6 +77,8 @@ pub(crate) fn emit_in_form<A: Allocator + Copy>(
     ensures output { emitter.new.has_output ≡ true }
 {
     for event in events {
+        // A law: the consequences of the events before this one.
+        emitter.promised();
         if let Err(error) = yaml_emitter_emit(emitter, form.event(event)) {
             return Err(error);
         }

@@ -9,11 +9,10 @@ pub use yaml_emitter::laws::{
     bodies_are_tidy, breaks_agree, bytes_have_one_text, canonical_bytes_read,
     canonical_documents_have_texts, canonical_output_reads, documents_unfold, encoded_alike,
     encodings_agree, escaped_text_reads, layout_has_one_piece_each, limit_cuts_the_output,
-    list_has_one_tree, meaning_is_kept, moves_tell, output_tells_content, pieces_stand,
+    list_has_one_tree, meaning_is_kept, output_tells_content, pieces_stand,
     plain_holds_no_indicator, portable_streams_read_back, portable_suffix_holds_no_flow_indicator,
-    ready_events_stay_ready, refused_exactly, standing_is_promised, streams_agree,
-    streams_read_back, texts_hold_raw, tree_is_found, whole_stream_is_ready, written_tag_reads,
-    written_tag_stays_one_word,
+    ready_events_stay_ready, refused_exactly, streams_agree, streams_read_back, texts_hold_raw,
+    tree_is_found, whole_stream_is_ready, written_tag_reads, written_tag_stays_one_word,
 };
 
 /// States the consequences of a dump, and of emitting events in order.
@@ -52,6 +51,4 @@ pub fn equal_graphs_give_bytes()
 /// `streams_read_back` of `yaml_emitter`).
 pub fn typed_dumps_read_back()
     ensures { TypedDumpsReadBack }
-{
-    standing_is_promised();
-}
+{}

@@ -1,12 +1,10 @@
 //! Opens and closes streams as a whole.
 
-ghost use Rattle.std.specs.Prelude.{◌≡◌, true, false, None, List, [], ◌∷◌, ◌++◌, IsSome, OnOk, is_ok};
-ghost use Rattle.yaml_base.specs.Event.{Event, stream_start, stream_end};
-ghost use Rattle.yaml_base.specs.Settings.{Settings};
+ghost use Rattle.std.specs.Prelude.{◌≡◌, true, false, None, [], ◌∷◌, ◌++◌, IsSome, OnOk, is_ok};
+ghost use Rattle.yaml_base.specs.Event.{stream_start, stream_end};
 ghost use Rattle.yaml_dump.specs.Dumps.{Closes, ReadsGraphs};
 ghost use Rattle.yaml_dump.specs.GraphTrees.{ReadsTrees};
-ghost use Rattle.yaml_emitter.specs.Moves.{Moves};
-ghost use Rattle.yaml_emitter.specs.StandsAfter.{StandsAfter};
+ghost use Rattle.yaml_emitter.specs.Emits.{Emits};
 
 use std::alloc::Allocator;
 use yaml_base::{YAML_ANY_ENCODING, YAML_STREAM_END_EVENT, YAML_STREAM_START_EVENT, yaml_error_t};
@@ -22,7 +20,7 @@ pub fn yaml_emitter_open<A: Allocator + Copy>(
 ) -> Result<(), yaml_error_t>
     requires output { emitter.old.has_output ≡ true }
     requires not_opened { emitter.old.opened ≡ false }
-    ensures moves { Moves (record emitter.old { opened = is_ok result }) (stream_start None ∷ []) result emitter.new }
+    ensures emits { Emits (record emitter.old { opened = is_ok result }) (stream_start None ∷ []) result emitter.new }
     ensures kept { IsSome emitter.old.error
         → emitter.new ≡ record emitter.old { events = emitter.old.events ++ stream_start None ∷ []; started = true } }
     ensures output { emitter.new.has_output ≡ true }
@@ -54,10 +52,8 @@ pub fn yaml_emitter_close<A: Allocator + Copy>(
     ensures closes { Closes emitter.old result emitter.new }
     ensures kept { emitter.old.closed ≡ false → IsSome emitter.old.error
         → emitter.new ≡ record emitter.old { events = emitter.old.events ++ stream_end ∷ []; started = true } }
-    ensures graphs { emitter.old.closed ≡ false → OnOk result
-        ((given : Settings) (all : List Event) → StandsAfter given all emitter.old → ReadsGraphs given (all ++ stream_end ∷ []) emitter.new) }
-    ensures trees { emitter.old.closed ≡ false → OnOk result
-        ((given : Settings) (all : List Event) → StandsAfter given all emitter.old → ReadsTrees given (all ++ stream_end ∷ []) emitter.new) }
+    ensures graphs { emitter.old.closed ≡ false → OnOk result (ReadsGraphs emitter.new) }
+    ensures trees { emitter.old.closed ≡ false → OnOk result (ReadsTrees emitter.new) }
 {
     if emitter.is_closed() {
         return Ok(());
@@ -68,5 +64,7 @@ pub fn yaml_emitter_close<A: Allocator + Copy>(
         return Err(error);
     }
     emitter.mark_closed();
+    // A law: the consequences of the events that were given.
+    emitter.promised();
     Ok(())
 }

@@ -15,7 +15,6 @@ pub mod Emitting
 pub mod StandingSet
 pub mod Promising
 pub mod StandingFlagged
-pub mod Moving
 pub mod KeepsSet
 pub mod Growing
 pub mod Taking

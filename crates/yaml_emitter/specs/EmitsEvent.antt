@@ -9,7 +9,6 @@ use Rattle.yaml_pen.specs.Page.{result_of_error}
 use Rattle.yaml_pen.specs.Wrote.{Grows}
 use Rattle.yaml_emitter.specs.State.{MachineState, State, KeepsGiven, KeepsSet, machine_of}
 use Rattle.yaml_emitter.specs.StandsAfter.{MachineStands, HasReached, ReachedOn, StandsAfter, failed_by}
-use Rattle.yaml_emitter.specs.Promises.{Promised}
 use Rattle.yaml_emitter.specs.Moves.{Moves}
 use Rattle.yaml_emitter.specs.Queue.{are_ready_by_one_more, is_head_ready}
 use Rattle.yaml_emitter.specs.declared.borrowed.ScalarAnswer.{ScalarAnswer}
@@ -66,7 +65,6 @@ pub record WroteAlone (before : MachineState) (event : Event) (answer : Result (
 -- an emitter was given an event: the clauses of `yaml_emitter_emit` for it
 pub record EmitsEvent (before : State) (event : Event) (answer : Result (Unit {0}) yaml_error_t) (after : State) : Type 0 where
   pub moves : Moves before (event ∷ []) answer after
-  pub promised : (given : Settings) (all : List Event) → StandsAfter given all before → Promised given (all ++ event ∷ []) after
   pub waits : (given : Settings) (all : List Event) → StandsAfter given all before → before.error ≡ None
       → written (all ++ event ∷ []) ≡ written all → IsOk answer
   pub kept : IsSome before.error → after ≡ record before { events = before.events ++ event ∷ []; started = true }

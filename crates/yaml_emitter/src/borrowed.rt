@@ -1,6 +1,6 @@
 //! Scalars with borrowed texts. A scalar that needn't wait is written without a copy.
 
-ghost use Rattle.std.specs.Prelude.{◌≡◌, None, IfOk, IfErr, false, true, chars, option_map};
+ghost use Rattle.std.specs.Prelude.{◌≡◌, None, IfOk, false, true, chars, option_map};
 ghost use Rattle.std.specs.Str.{all_scalars};
 ghost use Rattle.yaml_base.specs.Event.{scalar};
 ghost use Rattle.yaml_base.specs.Meaning.{has_scalar_texts};
@@ -59,7 +59,6 @@ pub fn yaml_emitter_emit_scalar<A: Allocator + Copy>(
 ) -> ScalarAnswer
     requires { emitter.old.has_output ≡ true }
     ensures takes { TakesScalar emitter.old (scalar (seen_scalar content.now)) result emitter.new }
-    ensures emits { EmitsScalar emitter.old (scalar (seen_scalar content.now)) result emitter.new }
     ensures output { emitter.new.has_output ≡ true }
 {
     emitter.engine.emit_scalar(content)

@@ -1,16 +1,11 @@
 //! The calls that give events to an emitter, and those that hand on its output.
 
-ghost use Rattle.std.specs.Prelude.{◌≡◌, None, List, [], ◌∷◌, ◌++◌, OnOk, IsOk, IsSome, Err, true};
-ghost use Rattle.yaml_base.specs.Event.{Event};
+ghost use Rattle.std.specs.Prelude.{◌≡◌, None, [], ◌∷◌, ◌++◌, OnOk, IsOk, IsSome, Err, true};
 ghost use Rattle.yaml_base.specs.Seen.{seen_event};
 ghost use Rattle.yaml_base.specs.Ready.{written};
-ghost use Rattle.yaml_base.specs.Settings.{Settings};
 ghost use Rattle.yaml_pen.specs.Page.{output_left};
 ghost use Rattle.yaml_emitter.specs.Emits.{Emits, IsFlushed};
-ghost use Rattle.yaml_emitter.specs.Moves.{Moves};
-ghost use Rattle.yaml_emitter.specs.Promises.{HasAllBytes, Promised};
 ghost use Rattle.yaml_emitter.specs.State.{with_all_taken};
-ghost use Rattle.yaml_emitter.specs.StandsAfter.{StandsAfter};
 
 use crate::emitter::yaml_emitter_t;
 use std::alloc::Allocator;
@@ -32,11 +27,7 @@ pub fn yaml_emitter_emit<A: Allocator + Copy>(
 ) -> Result<(), yaml_error_t>
     requires { emitter.old.has_output ≡ true }
     ensures emits { Emits emitter.old (seen_event event ∷ []) result emitter.new }
-    ensures moves { Moves emitter.old (seen_event event ∷ []) result emitter.new }
-    ensures promised { (given : Settings) (all : List Event) → StandsAfter given all emitter.old → Promised given (all ++ seen_event event ∷ []) emitter.new }
     ensures unready { emitter.old.error ≡ None → written emitter.new.events ≡ written emitter.old.events → IsOk result }
-    ensures waits { (given : Settings) (all : List Event) → StandsAfter given all emitter.old → emitter.old.error ≡ None
-        → written (all ++ seen_event event ∷ []) ≡ written all → IsOk result }
     ensures kept { IsSome emitter.old.error
         → emitter.new ≡ record emitter.old { events = emitter.old.events ++ seen_event event ∷ []; started = true } }
 {
@@ -57,13 +48,9 @@ pub fn yaml_emitter_flush<A: Allocator + Copy>(
 ) -> Result<(), yaml_error_t>
     requires output { emitter.old.has_output ≡ true }
     ensures emits { Emits emitter.old [] result emitter.new }
-    ensures moves { Moves emitter.old [] result emitter.new }
     ensures whole { OnOk result (IsFlushed emitter.new) }
     ensures idle { emitter.old.error ≡ None → IsFlushed emitter.old → emitter.new ≡ emitter.old }
-    ensures flushed { OnOk result ((given : Settings) (all : List Event) → StandsAfter given all emitter.old → HasAllBytes given all emitter.new) }
     ensures unflushed { result ≡ Err yaml_error_t.Memory → emitter.new.page.output ≡ emitter.old.page.output }
-    ensures empty { (given : Settings) (all : List Event) → StandsAfter given all emitter.old → emitter.old.error ≡ None → HasAllBytes given all emitter.old
-        → emitter.new ≡ emitter.old }
     ensures kept { IsSome emitter.old.error → emitter.new ≡ emitter.old }
 {
     emitter.engine.flush()
@@ -78,8 +65,6 @@ pub fn yaml_emitter_take_output<A: Allocator + Copy>(emitter: &mut yaml_emitter_
     ensures rest { result.items ≡ output_left emitter.old.page }
     ensures untaken { emitter.old.page.taken ≡ 0 → result.items ≡ emitter.old.page.output }
     ensures taken { emitter.new ≡ with_all_taken emitter.old }
-    ensures stands { (given : Settings) (all : List Event) → StandsAfter given all emitter.old → StandsAfter given all emitter.new }
-    ensures promised { (given : Settings) (all : List Event) → StandsAfter given all emitter.old → Promised given all emitter.new }
 {
     emitter.engine.machine.take_output()
 }
@@ -91,8 +76,6 @@ pub fn yaml_emitter_take_output<A: Allocator + Copy>(emitter: &mut yaml_emitter_
 /// It may be called at any time, also after an error, and allocates nothing.
 pub fn yaml_emitter_consume_output<A: Allocator + Copy>(emitter: &mut yaml_emitter_t<A>)
     ensures taken { emitter.new ≡ with_all_taken emitter.old }
-    ensures stands { (given : Settings) (all : List Event) → StandsAfter given all emitter.old → StandsAfter given all emitter.new }
-    ensures promised { (given : Settings) (all : List Event) → StandsAfter given all emitter.old → Promised given all emitter.new }
 {
     emitter.engine.machine.consume_output();
 }

@@ -1,17 +1,16 @@
 //! Queues events, and writes each once its form is decided.
 
-ghost use Rattle.std.specs.Prelude.{◌≡◌, None, Ok, List, [], ◌∷◌, ◌++◌, OnOk, IfOk, IfErr, IsOk, IsSome, Err, false, true};
-ghost use Rattle.yaml_base.specs.Event.{Event, Scalar, scalar};
+ghost use Rattle.std.specs.Prelude.{◌≡◌, None, Ok, List, [], ◌∷◌, ◌++◌, OnOk, IfOk, IfErr, IsSome, Err, false, true};
+ghost use Rattle.yaml_base.specs.Event.{Event};
 ghost use Rattle.yaml_base.specs.Seen.{seen_event, seen_events};
 ghost use Rattle.yaml_base.specs.Ready.{written};
 ghost use Rattle.yaml_base.specs.Settings.{Settings};
-ghost use Rattle.yaml_pen.specs.Page.{result_of_error, output_left};
 ghost use Rattle.yaml_pen.specs.Wrote.{Grows};
 ghost use Rattle.yaml_emitter.specs.Moves.{Moves};
-ghost use Rattle.yaml_emitter.specs.Promises.{HasAllBytes, Promised};
+ghost use Rattle.yaml_emitter.specs.Promises.{HasAllBytes};
 ghost use Rattle.yaml_emitter.specs.EventKinds.{kind_of};
 ghost use Rattle.yaml_emitter.specs.Queue.{is_head_ready};
-ghost use Rattle.yaml_emitter.specs.State.{KeepsGiven, KeepsSet, with_all_taken};
+ghost use Rattle.yaml_emitter.specs.State.{KeepsGiven};
 ghost use Rattle.yaml_emitter.specs.EmitsEvent.{EmitsEvent, Settles, WroteWaiting, kept_error};
 ghost use Rattle.yaml_emitter.specs.StandsAfter.{FailedReady, StandsAfter};
 

@@ -1,7 +1,6 @@
 //! The emitter: it writes the events that it is given.
 
-ghost use Rattle.std.specs.Prelude.{◌≡◌, ◌≤◌, IfOk, IfErr, [], length};
-ghost use Rattle.yaml_base.specs.Settings.{nothing_given};
+ghost use Rattle.std.specs.Prelude.{◌≡◌, ◌≤◌, IfOk, IfErr, length};
 ghost use Rattle.yaml_emitter.specs.Emits.{IsPromised};
 ghost use Rattle.yaml_emitter.specs.Given.{seen_settings};
 ghost use Rattle.yaml_emitter.specs.StandsAfter.{StandsAfter};
@@ -46,7 +45,6 @@ pub fn yaml_emitter_initialize<A: Allocator + Copy>(
     alloc: A,
 ) -> Result<yaml_emitter_t<A>, yaml_error_t>
     ensures made { IfOk result (λ emitter. emitter ≡ new_state) }
-    ensures stands { IfOk result (λ emitter. StandsAfter nothing_given [] emitter) }
     ensures memory { IfErr result (λ error. error ≡ yaml_error_t.Memory) }
 {
     let engine = Engine::new(alloc)?;
@@ -62,7 +60,6 @@ impl<A: Allocator + Copy> yaml_emitter_t<A> {
     /// `Memory` if its buffer or its queue can't be allocated.
     pub fn with_settings(alloc: A, settings: Settings) -> Result<yaml_emitter_t<A>, yaml_error_t>
         ensures made { IfOk result (λ emitter. emitter ≡ new_state_with (seen_settings settings)) }
-        ensures stands { IfOk result (λ emitter. StandsAfter (seen_settings settings) [] emitter) }
         ensures memory { IfErr result (λ error. error ≡ yaml_error_t.Memory) }
     {
         let mut engine = Engine::new(alloc)?;

@@ -1,5 +1,4 @@
 //! Laws of layouts, each the contract of a function that does nothing.
-ghost use Rattle.yaml_emitter.specs.Moves.{MovesTell};
 ghost use Rattle.std.specs.Prelude.{List};
 ghost use Rattle.yaml_base.specs.Event.{Event};
 ghost use Rattle.yaml_base.specs.Meaning.{CanonicalBytesRead, MeaningIsKept};
@@ -91,11 +90,6 @@ pub fn output_tells_content()
 {}
 
 /// States that an emitter that has been given some events (`StandsAfter`) keeps every promise about them (`Promised`).
-pub fn standing_is_promised()
+pub(crate) fn standing_is_promised()
     ensures { (given : Settings) (all : List Event) (state : State) → StandsAfter given all state → Promised given all state }
-{}
-
-/// States the consequences of `Moves`.
-pub fn moves_tell()
-    ensures { MovesTell }
 {}

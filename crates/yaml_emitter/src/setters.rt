@@ -1,13 +1,9 @@
 //! Setters of an emitter, called before the stream begins, and its getters.
 
-ghost use Rattle.std.specs.Prelude.{◌≡◌, ◌↔◌, IsTrue, Some, None, false, true, List, [], length};
-ghost use Rattle.yaml_base.specs.Event.{Event};
+ghost use Rattle.std.specs.Prelude.{◌≡◌, Some, None, false, true, [], length};
 ghost use Rattle.yaml_base.specs.Seen.{seen_break, seen_encoding};
-ghost use Rattle.yaml_base.specs.Settings.{Settings};
 ghost use Rattle.yaml_pen.specs.Page.{output_left};
 ghost use Rattle.yaml_emitter.specs.Given.{is_double};
-ghost use Rattle.yaml_emitter.specs.Promises.{Promised};
-ghost use Rattle.yaml_emitter.specs.StandsAfter.{StandsAfter};
 ghost use Rattle.yaml_emitter.specs.State.{knows_encoding};
 
 use crate::emitter::yaml_emitter_t;
@@ -29,7 +25,6 @@ pub fn yaml_emitter_set_output_string<A: Allocator>(emitter: &mut yaml_emitter_t
           given = record emitter.old.given { limit = size };
           page = record emitter.old.page { limit = size };
         } }
-    ensures stands { StandsAfter emitter.old.given [] emitter.old → StandsAfter emitter.new.given [] emitter.new }
 {
     emitter.engine.machine.set_limit(size);
     emitter.engine.has_output = true;
@@ -43,7 +38,6 @@ pub fn yaml_emitter_set_encoding<A: Allocator>(
     requires not_started { emitter.old.started ≡ false }
     requires unset { emitter.old.given.encoding ≡ None }
     ensures set { emitter.new ≡ record emitter.old { given = record emitter.old.given { encoding = seen_encoding encoding } } }
-    ensures stands { StandsAfter emitter.old.given [] emitter.old → StandsAfter emitter.new.given [] emitter.new }
 {
     emitter.engine.machine.given.encoding = encoding;
 }
@@ -56,7 +50,6 @@ pub fn yaml_emitter_set_canonical<A: Allocator>(emitter: &mut yaml_emitter_t<A>,
           given = record emitter.old.given { canonical = canonical };
           settings = record emitter.old.settings { canonical = canonical };
         } }
-    ensures stands { StandsAfter emitter.old.given [] emitter.old → StandsAfter emitter.new.given [] emitter.new }
 {
     emitter.engine.machine.given.canonical = canonical;
     emitter.engine.machine.settings.canonical = canonical;
@@ -66,7 +59,6 @@ pub fn yaml_emitter_set_canonical<A: Allocator>(emitter: &mut yaml_emitter_t<A>,
 pub fn yaml_emitter_set_indent<A: Allocator>(emitter: &mut yaml_emitter_t<A>, indent: i32)
     requires { emitter.old.started ≡ false }
     ensures set { emitter.new ≡ record emitter.old { given = record emitter.old.given { indent = Some indent } } }
-    ensures stands { StandsAfter emitter.old.given [] emitter.old → StandsAfter emitter.new.given [] emitter.new }
 {
     emitter.engine.machine.given.indent = Some(indent);
 }
@@ -75,7 +67,6 @@ pub fn yaml_emitter_set_indent<A: Allocator>(emitter: &mut yaml_emitter_t<A>, in
 pub fn yaml_emitter_set_width<A: Allocator>(emitter: &mut yaml_emitter_t<A>, width: i32)
     requires { emitter.old.started ≡ false }
     ensures set { emitter.new ≡ record emitter.old { given = record emitter.old.given { width = Some width } } }
-    ensures stands { StandsAfter emitter.old.given [] emitter.old → StandsAfter emitter.new.given [] emitter.new }
 {
     emitter.engine.machine.given.width = Some(width);
 }
@@ -84,7 +75,6 @@ pub fn yaml_emitter_set_width<A: Allocator>(emitter: &mut yaml_emitter_t<A>, wid
 pub fn yaml_emitter_set_unicode<A: Allocator>(emitter: &mut yaml_emitter_t<A>, unicode: bool)
     requires { emitter.old.started ≡ false }
     ensures set { emitter.new ≡ record emitter.old { given = record emitter.old.given { unicode = unicode } } }
-    ensures stands { StandsAfter emitter.old.given [] emitter.old → StandsAfter emitter.new.given [] emitter.new }
 {
     emitter.engine.machine.given.unicode = unicode;
 }
@@ -93,7 +83,6 @@ pub fn yaml_emitter_set_unicode<A: Allocator>(emitter: &mut yaml_emitter_t<A>, u
 pub fn yaml_emitter_set_quotes<A: Allocator>(emitter: &mut yaml_emitter_t<A>, quotes: Quotes)
     requires { emitter.old.started ≡ false }
     ensures set { emitter.new ≡ record emitter.old { given = record emitter.old.given { double_quotes = is_double quotes } } }
-    ensures stands { StandsAfter emitter.old.given [] emitter.old → StandsAfter emitter.new.given [] emitter.new }
 {
     emitter.engine.machine.given.quotes = quotes;
 }
@@ -105,7 +94,6 @@ pub fn yaml_emitter_set_break<A: Allocator>(
 )
     requires { emitter.old.started ≡ false }
     ensures set { emitter.new ≡ record emitter.old { given = record emitter.old.given { line_break = seen_break line_break } } }
-    ensures stands { StandsAfter emitter.old.given [] emitter.old → StandsAfter emitter.new.given [] emitter.new }
 {
     emitter.engine.machine.given.line_break = line_break;
 }
@@ -118,7 +106,6 @@ pub fn yaml_emitter_set_line_breaks_1_2<A: Allocator>(
 )
     requires { emitter.old.started ≡ false }
     ensures set { emitter.new ≡ record emitter.old { given = record emitter.old.given { breaks12 = breaks12 } } }
-    ensures stands { StandsAfter emitter.old.given [] emitter.old → StandsAfter emitter.new.given [] emitter.new }
 {
     emitter.engine.machine.given.line_breaks_1_2 = breaks12;
 }
@@ -129,7 +116,6 @@ pub fn yaml_emitter_set_line_breaks_1_2<A: Allocator>(
 pub fn yaml_emitter_set_portable<A: Allocator>(emitter: &mut yaml_emitter_t<A>, portable: bool)
     requires { emitter.old.started ≡ false }
     ensures set { emitter.new ≡ record emitter.old { given = record emitter.old.given { portable = portable } } }
-    ensures stands { StandsAfter emitter.old.given [] emitter.old → StandsAfter emitter.new.given [] emitter.new }
 {
     emitter.engine.machine.given.portable = portable;
 }
@@ -142,7 +128,6 @@ pub fn yaml_emitter_set_indented_sequences<A: Allocator>(
 )
     requires { emitter.old.started ≡ false }
     ensures set { emitter.new ≡ record emitter.old { given = record emitter.old.given { indented_sequences = indented } } }
-    ensures stands { StandsAfter emitter.old.given [] emitter.old → StandsAfter emitter.new.given [] emitter.new }
 {
     emitter.engine.machine.given.indented_sequences = indented;
 }
@@ -152,7 +137,6 @@ pub fn yaml_emitter_set_indented_sequences<A: Allocator>(
 pub fn yaml_emitter_set_literal_blanks<A: Allocator>(emitter: &mut yaml_emitter_t<A>, literal: bool)
     requires { emitter.old.started ≡ false }
     ensures set { emitter.new ≡ record emitter.old { given = record emitter.old.given { literal_blanks = literal } } }
-    ensures stands { StandsAfter emitter.old.given [] emitter.old → StandsAfter emitter.new.given [] emitter.new }
 {
     emitter.engine.machine.given.literal_blanks = literal;
 }
@@ -205,8 +189,6 @@ impl<A: Allocator> yaml_emitter_t<A> {
     pub fn mark_opened(&mut self)
         requires { self.old.has_output ≡ true }
         ensures set { self.new ≡ record self.old { opened = true } }
-        ensures stands { (given : Settings) (all : List Event) → StandsAfter given all self.old → StandsAfter given all self.new }
-        ensures promised { (given : Settings) (all : List Event) → StandsAfter given all self.old → Promised given all self.new }
     {
         self.engine.opened = true;
     }
@@ -214,8 +196,6 @@ impl<A: Allocator> yaml_emitter_t<A> {
     /// Notes that the stream was closed as a whole.
     pub fn mark_closed(&mut self)
         ensures set { self.new ≡ record self.old { closed = true } }
-        ensures stands { (given : Settings) (all : List Event) → StandsAfter given all self.old → StandsAfter given all self.new }
-        ensures promised { (given : Settings) (all : List Event) → StandsAfter given all self.old → Promised given all self.new }
     {
         self.engine.closed = true;
     }

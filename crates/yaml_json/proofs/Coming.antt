@@ -1,6 +1,7 @@
 -- The parts of JSON texts as they come, and the last of the texts.
 use Rattle.yaml_json.proofs.Sending.{sending_begins, sending_same, all_given}
 use Rattle.yaml_json.proofs.SendingSteps.{stops_here, stops_next_text}
+use Rattle.yaml_json.proofs.YamlOf.{HaveScalarTexts}
 use Rattle.yaml_json.proofs.Common.{ℕ, IfSome, Option, None, Some, length, Bool, true, List, [], ◌++◌, refl, ◌≡◌, append-nil, append_assoc, ap, subst, sym, ◌∙◌}
 use Rattle.yaml_json.proofs.Common.{Appends, Token, tokens, HasScanned, NamesOnce, Advances, StopsWithin, IsBare, WroteText, WriterState, Ok, Err, Result}
 use Rattle.yaml_json.specs.{Failing.Grew, declared.cuts.Cut.Cut, declared.error.StreamError.StreamError, declared.places.Place.Place}
@@ -163,12 +164,13 @@ module _ (depth : ℕ) (in_flow unique : Bool) (was : WriterState) (start : Opti
       sending_same depth in_flow unique text was start (held ++ comes.left) held now holds (no_more_held text comes) comes.sending
 
   last_given : (given : WriterState) (first : Option (List ℕ)) → (unique ≡ true → NamesOnce [] (tokens held)) → IsUtf8 held
-      → WroteText depth in_flow held now given → IfSome first (λ text. Comes depth in_flow unique text was start held place ahead now holds)
+      → WroteText depth in_flow held now given → HaveScalarTexts given.emitter.events
+      → IfSome first (λ text. Comes depth in_flow unique text was start held place ahead now holds)
       → IfSome first (λ text. SentTexts depth unique in_flow text was start given holds)
-  last_given given first named readable one =
+  last_given given first named readable one scalars =
       if_some first
       (λ text come. all_given depth in_flow unique text was start held now holds (last_left text come) held [] [] (append-nil held)
-      (whole_text held scan scanned all) given named readable one refl refl)
+      (whole_text held scan scanned all) given named readable one refl refl scalars)
 
   last_stopped : (first : Option (List ℕ)) (error : StreamError) (after : WriterState)
       → ((front : List ℕ) → IsPlaceAfter front place → StopsInPart depth unique in_flow front held now error after)
@@ -184,19 +186,19 @@ module _ (depth : ℕ) (in_flow unique : Bool) (was : WriterState) (start : Opti
 pub ends_sending : (settings : JsonSettings) (was : WriterState) (start : Option (List ℕ)) (held : List ℕ) (place : Place) (ahead : Option (List ℕ))
     (now : WriterState) (holds : Option (List ℕ)) → IsAtEnd ahead → (scan : Cut) → HasScanned held scan → scan.scanned ≡ length held
     → (result : Result (Unit {0}) StreamError) (after : WriterState) (first : Option (List ℕ)) → Grew was None now
-    → LastStep settings held place now result after
+    → LastStep settings held place now result after → HaveScalarTexts after.emitter.events
     → IfSome first (λ text. Comes settings.depth settings.flow settings.unique_names text was start held place ahead now holds)
     → SendsTexts settings first ahead was start result after holds
-ends_sending settings was start held place ahead now holds ended scan scanned all (Ok done) after first grew gave come =
+ends_sending settings was start held place ahead now holds ended scan scanned all (Ok done) after first grew gave scalars come =
     record {
       grows = grows_then {between = now.emitter.page} grew.grows gave.given.kept.grows;
       sound = gave.given.kept.sound;
       ended = ended;
       bare = gave.given.written.wrote.bare;
       sent = last_given settings.depth settings.flow settings.unique_names was start held place ahead now holds ended scan scanned all after first
-          gave.given.names gave.utf8 gave.given.written come;
+          gave.given.names gave.utf8 gave.given.written scalars come;
     }
-ends_sending settings was start held place ahead now holds ended scan scanned all (Err error) after first grew stops come =
+ends_sending settings was start held place ahead now holds ended scan scanned all (Err error) after first grew stops scalars come =
     let grown = grew_then was now after (emitter_error error) grew stops.grew in
     record {
       grows = grown.grows;

@@ -37,4 +37,4 @@ pub use Rattle.yaml_json.specs.Walk.{BeginFailed, RefusesToken, BeganFirstValue,
 pub use Rattle.yaml_json.specs.Wrote.{WroteText, AreJson, parts_events, ReadsTexts}
 pub use Rattle.yaml_writer.{specs.NumberParts.number_in, specs.NumberParts.IsNumber}
 pub use Rattle.yaml_writer.specs.Writing.{WriterState, opening, closing, float_tag, number_tag, number_event, text_style, text_event, mapping_event}
-pub use Rattle.yaml_writer.specs.Writing.{sequence_event, end_event, with_collection, StandsTaken, AddsEvents, PassedEvents, GaveEvent, EndsInnermost}
+pub use Rattle.yaml_writer.specs.Writing.{sequence_event, end_event, with_collection, IsNewWriter, PassedEvents, GaveEvent, EndsInnermost}

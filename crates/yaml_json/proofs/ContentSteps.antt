@@ -1,5 +1,6 @@
 -- The content of a string (RFC 8259, section 7), run by run and escape by escape.
-use Rattle.std.proofs.Common.{◌≡◌, ℕ, zero, suc, ◌+◌, ◌-◌, ◌*◌, ◌<◌, ◌≤◌, Bool, true, false, not, inl, inr, cond, ◌||◌, ◌&&◌, ◌==◌, nat_lt, List, [], ◌∷◌, ◌++◌, take, drop, get_or}
+use Rattle.std.proofs.Common.{◌≡◌, ℕ, zero, suc, ◌+◌, ◌-◌, ◌*◌, ◌<◌, ◌≤◌, Bool, true, false, not, inl, inr, cond, ◌||◌, ◌&&◌, ◌==◌, nat_lt, List, [], ◌∷◌}
+use Rattle.std.proofs.Common.{◌++◌, take, drop, get_or}
 use Rattle.std.proofs.Common.{length, Option, Some, None, option_and_then, refl, subst, sym, ap, ◌∙◌, arith}
 use Rattle.std.proofs.lemmas.Bool.{true≢false, ne_eqb, or_parts}
 use Rattle.std.proofs.lemmas.Bool.Decides.{nat_tests}
@@ -103,13 +104,6 @@ unfolding code_unit
 unit_of_bytes a b c d high low first second third fourth high_is low_is =
     let sum : digit_value a * 4096 + digit_value b * 256 + digit_value c * 16 + digit_value d ≡ high * 256 + low = omega (arith, high_is, low_is) in
     λ i. cond (((first i && second i) && third i) && fourth i) (Some (sum i)) None
-
-pub no_unit : (text : List ℕ) → length text < 4 → first_unit text ≡ None
-no_unit [] few = refl
-no_unit (a ∷ []) few = refl
-no_unit (a ∷ b ∷ []) few = refl
-no_unit (a ∷ b ∷ c ∷ []) few = refl
-no_unit (a ∷ b ∷ c ∷ d ∷ rest) few = absurd (omega arith)
 
 -- After `\u` the content goes on by the code unit.
 abbrev pub after_unit : (text : List ℕ) → (unit : ℕ) → Option (List ℕ)

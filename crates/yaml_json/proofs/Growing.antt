@@ -33,12 +33,12 @@ grew_said before after stop found is kept = record { grows = kept.grows; sound =
 -- a call that gives events
 pub grew_passed : (before after : WriterState) (events : List Event) → PassedEvents before events (Ok tt) after → Grew before None after
 grew_passed before after events passed =
-    record { grows = passed.moves.grows; sound = λ none. none_from_result after.emitter.error passed.moves.answered }
+    record { grows = passed.emits.grows; sound = λ none. none_from_result after.emitter.error passed.emits.answered }
 
 pub grew_failing : (before after : WriterState) (events : List Event) (error : yaml_error_t) → PassedEvents before events (Err error) after
     → Grew before (Some error) after
 grew_failing before after events error passed =
-    record { grows = passed.moves.grows; sound = inr (some_from_result after.emitter.error error passed.moves.answered) }
+    record { grows = passed.emits.grows; sound = inr (some_from_result after.emitter.error error passed.emits.answered) }
 
 -- all that was flushed is taken
 pub grew_sent : (before after : WriterState) → after ≡ record before { emitter = with_all_taken before.emitter } → Grew before None after

@@ -1,22 +1,22 @@
 -- JSON texts that come part by part, in turn.
 use Rattle.yaml_writer.proofs.OpenLevels.{usable_same}
-use Rattle.yaml_writer.specs.WasGiven.{GaveEvents, StaysUsable}
+use Rattle.yaml_writer.specs.WasGiven.{GaveEvents}
 use Rattle.yaml_json.proofs.TokenLemmas.{texts_closed}
 use Rattle.yaml_json.proofs.Common.{ℕ, flat_map, Option, Bool, true, List, [], map, ◌++◌, ◌∷◌, ◌⊎◌, refl, ◌≡◌, append-nil, append_assoc, inl, inr, ap, subst}
-use Rattle.yaml_json.proofs.Common.{sym, ◌∙◌, arith, map-append, Appends, Event, Json, tokens, FailedHaving, between, events_with_separators, json_events, IsBare}
-use Rattle.yaml_json.proofs.Common.{NamesOnce, HaveNamesOnce, texts_in, WasGiven, WroteText, AreJson, AddsEvents, parts_events, State, WriterState}
+use Rattle.yaml_json.proofs.Common.{sym, ◌∙◌, arith, map-append, Appends, Event, Json, tokens, FailedHaving, between, events_with_separators, json_events}
+use Rattle.yaml_json.proofs.Common.{IsBare}
+use Rattle.yaml_json.proofs.Common.{NamesOnce, HaveNamesOnce, texts_in, WasGiven, WroteText, AreJson, parts_events, State, Token, WriterState}
 use Rattle.std.proofs.lemmas.Str.{IsUtf8-append, IsUtf8-nil}
 use Rattle.std.specs.{Prelude.IsUtf8, declared.io.Error.Error}
 use Rattle.yaml_base.specs.declared.errors.yaml_error_t.{yaml_error_t}
-use Rattle.yaml_json.proofs.YamlOf.{sent_reads}
+use Rattle.yaml_json.proofs.YamlOf.{HaveScalarTexts, sent_reads}
 use Rattle.yaml_json.specs.{declared.error.StreamError.StreamError, Places.HasPlaceWithin}
 use Rattle.yaml_json.proofs.TextsInTurn.{ends_with, one_more, joined_more, text_names, more_names, some_text, begins_nothing}
 use Rattle.yaml_json.specs.Sent.{AreUtf8, MayBeUnsent, SentTexts, SentSoFar, SentDocuments, StopsPartAt, StopsSending}
-use Rattle.yaml_writer.specs.WasGiven.{AddsTaking, IsAllTaken, WroteTaking, BeginsNext, NextUnsent}
-use Rattle.yaml_writer.proofs.GivenLemmas.{adds_then}
+use Rattle.yaml_writer.specs.WasGiven.{EmitsTaking, IsAllTaken, WroteTaking, BeginsNext, NextUnsent}
 use Rattle.std.proofs.KnownBytes.{Appends-nil, Appends-trans}
 use Rattle.yaml_json.proofs.SentParts.{gives_all, separated}
-use Rattle.yaml_writer.proofs.GivenAndTaken.{took_nothing, adds_taking_then, adds_taking_more, taking_then, took_none, taking_same}
+use Rattle.yaml_writer.proofs.GivenAndTaken.{took_nothing, emits_taking_then, taking_then, took_none, taking_same}
 use Rattle.yaml_json.specs.declared.error.JsonError.TheVariants as errors
 use Rattle.yaml_json.specs.declared.error.StreamError.TheVariants as faults
 
@@ -71,10 +71,10 @@ placed_nowhere depth code front part = (0, ((λ less. tt), tt))
 
 -- The bytes that were sent, if no more are offered.
 module _ (in_flow : Bool) (parts : List (List ℕ × Json)) (was : WriterState) (start : Option (List ℕ)) (handed : List ℕ) (then : State)
-    (wrote : AddsTaking was.emitter (events_with_separators was.canonical in_flow parts) handed then) where
-  taken_so : AddsTaking was.emitter (events_with_separators was.canonical in_flow parts) (handed ++ []) then
+    (wrote : EmitsTaking was.emitter (events_with_separators was.canonical in_flow parts) handed then) where
+  taken_so : EmitsTaking was.emitter (events_with_separators was.canonical in_flow parts) (handed ++ []) then
   taken_so =
-      subst (λ (b : List ℕ). AddsTaking was.emitter (events_with_separators was.canonical in_flow parts) b then) (sym (append-nil handed)) wrote
+      subst (λ (b : List ℕ). EmitsTaking was.emitter (events_with_separators was.canonical in_flow parts) b then) (sym (append-nil handed)) wrote
 
   whole_so : ((parts ≡ []) × (handed ≡ [])) ⊎ IsAllTaken then → ((parts ≡ []) × (handed ++ [] ≡ [])) ⊎ IsAllTaken then
   whole_so (inl none) = inl (none.0, append-nil handed ∙ none.1)
@@ -113,6 +113,41 @@ module _ (in_flow : Bool) (parts : List (List ℕ × Json)) (was : WriterState) 
         whole = whole_so whole;
       }
 
+-- Nothing is taken of the next text.
+pub stops_between : (depth : ℕ) (in_flow unique : Bool) (text : List ℕ) (was : WriterState) (start : Option (List ℕ)) (rest : List ℕ)
+    (now : WriterState) (holds : Option (List ℕ)) (parts : List (List ℕ × Json)) (handed : List ℕ)
+    → map (λ part. part.0) parts ++ texts_in rest ≡ texts_in text → AreJson depth parts → AreUtf8 parts
+    → HaveNamesOnce unique (map (λ part. part.0) parts) → WroteTaking was (events_with_separators was.canonical in_flow parts) handed now
+    → (error : StreamError) → ((next : List ℕ) (left : List Token) → StopsPartAt depth unique next [] left error)
+    → ((front part : List ℕ) → HasPlaceWithin depth front part error) → SentDocuments in_flow parts was start error handed holds
+    → StopsSending depth unique in_flow text was start error now holds
+stops_between depth in_flow unique text was start rest now holds parts handed cut each utf8 names wrote error why place documents =
+    let found = some_text rest in
+    let events = events_with_separators was.canonical in_flow parts in
+    record {
+      parts = parts;
+      next = found.0;
+      later = found.1;
+      cut = ap (λ (texts : List (List ℕ)). map (λ part. part.0) parts ++ texts) (sym found.2) ∙ cut;
+      each = each;
+      utf8 = utf8;
+      names = names;
+      taken = [];
+      left = tokens found.0;
+      split = refl;
+      why = why found.0 (tokens found.0);
+      place = place (flat_map (λ part. part.0) parts) found.0;
+      handed = handed;
+      emits = subst (λ (all : List Event). EmitsTaking was.emitter all handed now.emitter) (sym (append-nil events)) wrote.emits;
+      usable = usable_same was now events (events ++ []) (sym (append-nil events))
+          (record {
+            canonical = wrote.canonical;
+            levels = wrote.levels ∙ sym (texts_closed was.canonical in_flow parts was.levels);
+            bare = wrote.bare;
+          });
+      documents = documents;
+    }
+
 -- the texts given so far, and one more
 module _ (depth : ℕ) (in_flow unique : Bool) (text : List ℕ) (was : WriterState) (start : Option (List ℕ)) (rest : List ℕ) (now : WriterState)
     (held : Option (List ℕ)) (sending : SentSoFar depth in_flow unique text was start rest now held) (first left : List ℕ) (later : List (List ℕ))
@@ -145,12 +180,28 @@ module _ (depth : ℕ) (in_flow unique : Bool) (text : List ℕ) (was : WriterSt
   utf8_now : AreUtf8 all_parts
   utf8_now = more_utf8 sending.parts (first, one.json) sending.utf8 readable
 
+  -- with the events that begin the next document
+  emits_next : {after : State} {bytes : List ℕ} → EmitsTaking given.emitter between bytes after
+      → EmitsTaking was.emitter (events_with_separators was.canonical in_flow all_parts) (sending.handed ++ bytes) after
+  emits_next {after} {bytes} next =
+      subst (λ (all : List Event). EmitsTaking was.emitter all (sending.handed ++ bytes) after)
+      (separated was.canonical in_flow sending.parts (first, one.json))
+      (emits_taking_then sending.wrote.emits (emits_taking_then events_given.emits next))
+
+  wrote_next : (after : WriterState) (bytes : List ℕ) → WroteTaking given between bytes after
+      → WroteTaking was (events_with_separators was.canonical in_flow all_parts) (sending.handed ++ bytes) after
+  wrote_next after bytes next =
+      record {
+        emits = emits_next next.emits;
+        canonical = next.canonical ∙ one.wrote.canonical ∙ sending.wrote.canonical;
+        levels = next.levels ∙ one.wrote.levels ∙ sending.wrote.levels;
+        bare = next.bare;
+      }
+
   -- and the next document is begun
   pub sending_goes_on : (after : WriterState) (holds : Option (List ℕ)) → later ≡ texts_in left → BeginsNext given held after holds
       → SentSoFar depth in_flow unique text was start left after holds
   sending_goes_on after holds is next =
-      let before = events_with_separators was.canonical in_flow sending.parts in
-      let events = json_events was.canonical in_flow one.json in
       record {
         parts = all_parts;
         joined = joined_now;
@@ -160,70 +211,26 @@ module _ (depth : ℕ) (in_flow unique : Bool) (text : List ℕ) (was : WriterSt
         names = names_now;
         handed = sending.handed ++ next.bytes;
         sends = Appends-trans start held holds sending.handed next.bytes sending.sends next.sends;
-        wrote = taking_same was after (before ++ (events ++ between)) (events_with_separators was.canonical in_flow all_parts)
-            (sending.handed ++ ([] ++ next.bytes)) (sending.handed ++ next.bytes) (separated was.canonical in_flow sending.parts (first, one.json)) refl
-            (taking_then was now after before (events ++ between) sending.handed ([] ++ next.bytes) sending.wrote
-            (taking_then now given after events between [] next.bytes events_given next.wrote));
+        wrote = wrote_next after next.bytes next.wrote;
         whole = inr next.whole;
       }
 
   -- or it isn't
   module _ (is : later ≡ texts_in left) (after : WriterState) (gave : GaveEvents given between after) where
-    given_next : AddsTaking was.emitter (events_with_separators was.canonical in_flow all_parts ++ []) sending.handed after.emitter
-    given_next =
-        let before = events_with_separators was.canonical in_flow sending.parts in
-        let events = json_events was.canonical in_flow one.json in
-        subst (λ (all : List Event). AddsTaking was.emitter all sending.handed after.emitter)
-        (separated was.canonical in_flow sending.parts (first, one.json)
-        ∙ sym (append-nil (events_with_separators was.canonical in_flow all_parts)))
-        (adds_taking_more was.emitter now.emitter after.emitter before (events ++ between) sending.handed sending.wrote.adds
-        (adds_then now.emitter given.emitter after.emitter events between
-        (subst (λ (canonical : Bool). AddsEvents now.emitter (json_events canonical in_flow one.json) given.emitter) sending.wrote.canonical
-        one.wrote.adds)
-        gave.adds))
-
-    usable_next : StaysUsable was (events_with_separators was.canonical in_flow all_parts ++ []) after
-    usable_next =
-        usable_same was after (events_with_separators was.canonical in_flow all_parts) (events_with_separators was.canonical in_flow all_parts ++ [])
-        (sym (append-nil (events_with_separators was.canonical in_flow all_parts)))
-        (record {
-          canonical = gave.canonical ∙ one.wrote.canonical ∙ sending.wrote.canonical;
-          levels = gave.levels ∙ one.wrote.levels ∙ sending.wrote.levels ∙ sym (texts_closed was.canonical in_flow all_parts was.levels);
-          bare = gave.bare;
-        })
-
-    stops_begun : (error : StreamError) (holds : Option (List ℕ)) → StopsPartAt depth unique (some_text left).0 [] (tokens (some_text left).0) error
-        → ((front part : List ℕ) → HasPlaceWithin depth front part error)
-        → SentDocuments in_flow all_parts was start error sending.handed holds
+    stops_begun : (error : StreamError) (holds : Option (List ℕ)) → ((next : List ℕ) (left : List Token) → StopsPartAt depth unique next [] left error)
+        → ((front part : List ℕ) → HasPlaceWithin depth front part error) → SentDocuments in_flow all_parts was start error sending.handed holds
         → StopsSending depth unique in_flow text was start error after holds
-    stops_begun error holds why place documents =
-        let found = some_text left in
-        record {
-          parts = all_parts;
-          next = found.0;
-          later = found.1;
-          cut = ap (λ (texts : List (List ℕ)). map (λ part. part.0) all_parts ++ texts) (sym (is ∙ found.2)) ∙ cut_now;
-          each = each_now;
-          utf8 = utf8_now;
-          names = names_now;
-          taken = [];
-          left = tokens found.0;
-          split = refl;
-          why = why;
-          place = place (flat_map (λ part. part.0) all_parts) found.0;
-          handed = sending.handed;
-          adds = given_next;
-          usable = usable_next;
-          documents = documents;
-        }
+    stops_begun error holds =
+        stops_between depth in_flow unique text was start left after holds all_parts sending.handed
+        (ap (λ (texts : List (List ℕ)). map (λ part. part.0) all_parts ++ texts) (sym is) ∙ cut_now) each_now utf8_now names_now
+        (subst (λ (bytes : List ℕ). WroteTaking was (events_with_separators was.canonical in_flow all_parts) bytes after) (append-nil sending.handed)
+        (wrote_next after [] (took_none given after between gave))) error
 
   -- since the sink failed
   pub sending_fails : (after : WriterState) (holds : Option (List ℕ)) (fault : Error) → later ≡ texts_in left → NextUnsent given held after holds
       → StopsSending depth unique in_flow text was start (faults.WriteFailed fault) after holds
   sending_fails after holds fault is fails =
-      let before = events_with_separators was.canonical in_flow sending.parts in
-      let events = json_events was.canonical in_flow one.json in
-      stops_begun is after fails.gave (faults.WriteFailed fault) holds refl (λ front part. tt)
+      stops_begun is after fails.gave (faults.WriteFailed fault) holds (λ next left. refl) (λ front part. tt)
       (record {
         sent = all_parts;
         unsent = [];
@@ -236,10 +243,7 @@ module _ (depth : ℕ) (in_flow unique : Bool) (text : List ℕ) (was : WriterSt
           Appends-trans start held holds sending.handed fails.sends.0 sending.sends fails.sends.2,
         );
         then = fails.then;
-        wrote = subst (λ (all : List Event). AddsTaking was.emitter all (sending.handed ++ fails.offered) fails.then)
-            (separated was.canonical in_flow sending.parts (first, one.json))
-            (adds_taking_then was.emitter now.emitter fails.then before (events ++ between) sending.handed fails.offered sending.wrote.adds
-            (adds_taking_then now.emitter given.emitter fails.then events between [] fails.offered events_given.adds fails.wrote));
+        wrote = emits_next fails.wrote;
         whole = inr fails.whole;
       })
 
@@ -248,8 +252,9 @@ module _ (depth : ℕ) (in_flow unique : Bool) (text : List ℕ) (was : WriterSt
       → FailedHaving given between code after → holds ≡ held
       → StopsSending depth unique in_flow text was start (faults.Refused (errors.Emitter code)) after holds
   sending_unbegun after holds code is failed same =
-      stops_begun is after failed.gave (faults.Refused (errors.Emitter code)) holds (begins_nothing depth, inr (refl, λ is. is)) (placed_nowhere depth code)
-      (documents_but in_flow sending.parts was start sending.handed now.emitter sending.wrote.adds (first, one.json) code holds
+      stops_begun is after failed.gave (faults.Refused (errors.Emitter code)) holds (λ next left. (begins_nothing depth, inr (refl, λ is. is)))
+      (placed_nowhere depth code)
+      (documents_but in_flow sending.parts was start sending.handed now.emitter sending.wrote.emits (first, one.json) code holds
       (subst (λ (h : Option (List ℕ)). Appends start h sending.handed) (sym same) sending.sends) sending.whole)
 
   -- or nothing follows
@@ -271,8 +276,8 @@ module _ (depth : ℕ) (in_flow unique : Bool) (text : List ℕ) (was : WriterSt
         (ends_with was.canonical in_flow sending.parts (first, one.json)) (append-nil sending.handed)
         (taking_then was now given before events sending.handed [] sending.wrote events_given)
 
-    pub all_given : SentTexts depth unique in_flow text was start given held
-    all_given =
+    pub all_given : HaveScalarTexts given.emitter.events → SentTexts depth unique in_flow text was start given held
+    all_given scalars =
         record {
           parts = all_parts;
           cut = cut_done;
@@ -283,5 +288,5 @@ module _ (depth : ℕ) (in_flow unique : Bool) (text : List ℕ) (was : WriterSt
           handed = sending.handed;
           sends = sending.sends;
           wrote = wrote_done;
-          reads = sent_reads depth in_flow text was given sending.handed sending.parts (first, one.json) joined_done each_now wrote_done.adds;
+          reads = sent_reads depth in_flow text was given sending.handed sending.parts (first, one.json) joined_done each_now wrote_done.emits scalars;
         }

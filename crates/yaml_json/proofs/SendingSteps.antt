@@ -1,20 +1,20 @@
 -- The reasons that stop the sending of texts that come part by part, and the events that one of them adds.
-use Rattle.yaml_writer.proofs.OpenLevels.{closed_then, usable_by, usable_same}
+use Rattle.yaml_writer.proofs.OpenLevels.{closed_then, usable_by}
 use Rattle.yaml_writer.specs.WasGiven.{GaveEvents}
 use Rattle.yaml_json.proofs.TokenLemmas.{texts_closed}
-use Rattle.yaml_json.proofs.Sending.{sending_same, placed_nowhere, documents_so, sending_goes_on, sending_fails, sending_unbegun}
+use Rattle.yaml_json.proofs.Sending.{sending_same, placed_nowhere, documents_so, stops_between, sending_goes_on, sending_fails, sending_unbegun}
 use Rattle.yaml_json.proofs.Common.{ℕ, ◌+◌, ◌-◌, ◌≤◌, flat_map, Option, drop, length, take, Bool, true, List, [], map, ◌++◌, ◌∷◌, refl, ◌≡◌, length-drop}
-use Rattle.yaml_json.proofs.Common.{take-append-drop, append-nil, append_assoc, inr, ap, subst, sym, ◌∙◌, arith, Event, Token, tokens, HasScanned, CutsAt}
-use Rattle.yaml_json.proofs.Common.{events_with_separators, NamesOnce, Advances, StopsWithin, texts_in, tokens_events, WroteText, AddsEvents, WriterState}
+use Rattle.yaml_json.proofs.Common.{take-append-drop, append_assoc, inr, ap, subst, sym, ◌∙◌, arith, Token, tokens, HasScanned, CutsAt}
+use Rattle.yaml_json.proofs.Common.{events_with_separators, NamesOnce, Advances, StopsWithin, texts_in, tokens_events, WroteText, WriterState}
 use Rattle.yaml_json.proofs.Common.{append_cancel_right}
 use Rattle.std.proofs.lemmas.List.{drop-drop}
 use Rattle.std.specs.Prelude.{IsUtf8}
 use Rattle.yaml_base.specs.declared.errors.yaml_error_t.TheVariants.{Memory}
 use Rattle.yaml_json.specs.{declared.cuts.Cut.Cut, declared.error.StreamError.StreamError, declared.error.JsonError.JsonError, declared.places.Place.Place}
-use Rattle.yaml_json.proofs.TextsInTurn.{some_text, begins_nothing}
+use Rattle.yaml_json.proofs.TextsInTurn.{begins_nothing}
 use Rattle.yaml_json.specs.Sent.{SentSoFar, FailsNext, IsByReader, StopsInPart, StopsPartAt, StopsSending, LeavesLast}
-use Rattle.yaml_writer.specs.WasGiven.{AddsTaking, BeginsNext}
-use Rattle.yaml_writer.proofs.GivenAndTaken.{adds_taking_more}
+use Rattle.yaml_writer.specs.WasGiven.{BeginsNext}
+use Rattle.yaml_writer.proofs.GivenAndTaken.{emits_taking_more}
 use Rattle.yaml_json.specs.Places.{HasPlaceWithin, IsPlaceAfter}
 use Rattle.yaml_json.specs.declared.error.JsonError.TheVariants as errors
 use Rattle.yaml_json.specs.declared.error.StreamError.TheVariants as faults
@@ -44,31 +44,9 @@ module _ (depth : ℕ) (in_flow unique : Bool) (text : List ℕ) (was : WriterSt
   pub stops_here : (error : StreamError) → ((next : List ℕ) (left : List Token) → StopsPartAt depth unique next [] left error)
       → ((front part : List ℕ) → HasPlaceWithin depth front part error) → StopsSending depth unique in_flow text was start error now held
   stops_here error why place =
-      let found = some_text rest in
-      let events = events_with_separators was.canonical in_flow sending.parts in
-      record {
-        parts = sending.parts;
-        next = found.0;
-        later = found.1;
-        cut = ap (λ (texts : List (List ℕ)). map (λ part. part.0) sending.parts ++ texts) (sym found.2) ∙ sending.cut;
-        each = sending.each;
-        utf8 = sending.utf8;
-        names = sending.names;
-        taken = [];
-        left = tokens found.0;
-        split = refl;
-        why = why found.0 (tokens found.0);
-        place = place (flat_map (λ part. part.0) sending.parts) found.0;
-        handed = sending.handed;
-        adds = subst (λ (all : List Event). AddsTaking was.emitter all sending.handed now.emitter) (sym (append-nil events)) sending.wrote.adds;
-        usable = usable_same was now events (events ++ []) (sym (append-nil events))
-            (record {
-              canonical = sending.wrote.canonical;
-              levels = sending.wrote.levels ∙ sym (texts_closed was.canonical in_flow sending.parts was.levels);
-              bare = sending.wrote.bare;
-            });
-        documents = documents_so in_flow sending.parts was start sending.handed now.emitter sending.wrote.adds error held sending.sends sending.whole;
-      }
+      stops_between depth in_flow unique text was start rest now held sending.parts sending.handed sending.cut sending.each sending.utf8 sending.names
+      sending.wrote error why place
+      (documents_so in_flow sending.parts was start sending.handed now.emitter sending.wrote.emits error held sending.sends sending.whole)
 
   -- the next text stops the sending
   pub stops_next_text : (first : List ℕ) (later : List (List ℕ)) → texts_in rest ≡ first ∷ later → (error : StreamError) (after : WriterState)
@@ -77,6 +55,9 @@ module _ (depth : ℕ) (in_flow unique : Bool) (text : List ℕ) (was : WriterSt
   stops_next_text first later cut error after front whole stops =
       let same : front ≡ flat_map (λ part. part.0) sending.parts =
       append_cancel_right front (flat_map (λ part. part.0) sending.parts) rest (whole ∙ sym sending.joined) in
+      let events = tokens_events was.canonical in_flow stops.taken in
+      let gave : GaveEvents now events after =
+      subst (λ (canonical : Bool). GaveEvents now (tokens_events canonical in_flow stops.taken) after) sending.wrote.canonical stops.gave in
       record {
         parts = sending.parts;
         next = first;
@@ -91,15 +72,10 @@ module _ (depth : ℕ) (in_flow unique : Bool) (text : List ℕ) (was : WriterSt
         why = stops.why;
         place = subst (λ (f : List ℕ). HasPlaceWithin depth f first error) same stops.place;
         handed = sending.handed;
-        adds = adds_taking_more was.emitter now.emitter after.emitter (events_with_separators was.canonical in_flow sending.parts)
-            (tokens_events was.canonical in_flow stops.taken) sending.handed sending.wrote.adds
-            (subst (λ (canonical : Bool). AddsEvents now.emitter (tokens_events canonical in_flow stops.taken) after.emitter) sending.wrote.canonical
-            stops.gave.adds);
-        usable = closed_then was now after (events_with_separators was.canonical in_flow sending.parts) (tokens_events was.canonical in_flow stops.taken)
-            (texts_closed was.canonical in_flow sending.parts was.levels) sending.wrote.canonical sending.wrote.levels
-            (usable_by now after (tokens_events was.canonical in_flow stops.taken)
-            (subst (λ (canonical : Bool). GaveEvents now (tokens_events canonical in_flow stops.taken) after) sending.wrote.canonical stops.gave));
-        documents = documents_so in_flow sending.parts was start sending.handed now.emitter sending.wrote.adds error held sending.sends sending.whole;
+        emits = emits_taking_more sending.wrote.emits gave.emits;
+        usable = closed_then was now after (events_with_separators was.canonical in_flow sending.parts) events
+            (texts_closed was.canonical in_flow sending.parts was.levels) sending.wrote.canonical sending.wrote.levels (usable_by now after events gave);
+        documents = documents_so in_flow sending.parts was start sending.handed now.emitter sending.wrote.emits error held sending.sends sending.whole;
       }
 
 -- ---- the rest of some bytes

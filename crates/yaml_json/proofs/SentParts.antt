@@ -2,6 +2,7 @@
 use Rattle.yaml_json.proofs.Common.{ℕ, Option, Bool, List, [], ◌++◌, ◌∷◌, refl, ◌≡◌, append-nil, ap, subst, sym, ◌∙◌, inl, flat_map-append, Appends, Json}
 use Rattle.yaml_json.proofs.Common.{Event, Token, between, events_with_separators, json_events, WriterState}
 use Rattle.std.specs.Prelude.{IsUtf8}
+use Rattle.yaml_json.proofs.TextStops.{given_by}
 use Rattle.yaml_json.specs.{Stopped.StopsInText, declared.error.JsonError.JsonError}
 use Rattle.yaml_json.specs.{Places.HasPlaceWithin, declared.error.StreamError.StreamError}
 use Rattle.yaml_json.specs.Sent.{GivesSink, StopsInPart, StopsPartAt}
@@ -38,7 +39,7 @@ part_stopped depth unique in_flow text was error now readable stops place =
       split = stops.split;
       why = (stops.why, inl readable);
       place = place;
-      gave = record { adds = stops.adds; canonical = stops.usable.canonical; levels = stops.usable.levels; bare = stops.usable.bare };
+      gave = given_by depth unique in_flow text was now stops;
     }
 
 -- and so of its place among others

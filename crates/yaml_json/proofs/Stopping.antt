@@ -1,5 +1,6 @@
 -- The events that a writer was given when it failed.
-use Rattle.yaml_json.proofs.Common.{IfSome, IfErr, OnErr, OnOk, Option, None, Some, Result, Ok, Err, List, [], ◌++◌, ◌∷◌, ◌⊎◌, ◌≡◌, inl, inr, subst, sym, ◌∙◌, Event}
+use Rattle.yaml_json.proofs.Common.{IfSome, IfErr, OnErr, OnOk, Option, None, Some, Result, Ok, Err, List, [], ◌++◌, ◌∷◌, ◌⊎◌, ◌≡◌, inl, inr, subst, sym, ◌∙◌}
+use Rattle.yaml_json.proofs.Common.{Event}
 use Rattle.yaml_json.proofs.Common.{unwrap_or, some_from_result, failure_of, emitter_error_of, RefusesText, Token, refl, ap, State, FailedHaving}
 use Rattle.yaml_json.specs.{Failing.FailedAtEnd, Failing.IsWritersAnswer, Failing.Kept, Failing.SoundAfter, Failing.TellsOf, Refused.IsByText}
 use Rattle.yaml_json.specs.Failing.{StaysLevelUnlessFailed, StaysUnlessFailed}
@@ -83,7 +84,7 @@ answered_end before after (Err error) (Err stop) is (inl none) =
 answered_end before after (Err error) (Err stop) is (inr end) = (
   tt,
   never_by_text error stop is,
-  told (λ code. FailedAtEnd before code after) after error stop is (inr (some_from_result after.emitter.error error end.moves.answered)) (inr end),
+  told (λ code. FailedAtEnd before code after) after error stop is (inr (some_from_result after.emitter.error error end.emits.answered)) (inr end),
 )
 
 -- ---- events
@@ -94,7 +95,7 @@ pub event_failed : (before after : WriterState) (event same : Event) (error : ya
 event_failed before after event same error is keeps (inl gave) = inr (record {
   gave = subst (λ (e : Event). GaveEvents before (e ∷ []) after) is
       (gave_event before before after event (Err error) refl refl (sym (ap (λ (e : Event). levels_after_event e before.levels) is ∙ keeps)) gave);
-  is_error = inr (some_from_result after.emitter.error error gave.moves.answered);
+  is_error = inr (some_from_result after.emitter.error error gave.emits.answered);
 })
 event_failed before after event same error is keeps (inr memory) = inl memory
 
@@ -106,7 +107,7 @@ end_failed outer kind before after error levels bare (inr end) =
     let same = same_last end.outer outer end.kind kind (sym end.levels ∙ levels) in
     record {
       gave = gave_end outer kind before after (Err error) levels bare end same.1 same.0;
-      is_error = inr (some_from_result after.emitter.error error end.moves.answered);
+      is_error = inr (some_from_result after.emitter.error error end.emits.answered);
     }
 
 -- the start of a collection that failed
@@ -115,7 +116,7 @@ pub start_failed : (kind : CollectionKind) (before after : WriterState) (event :
     → GaveEvent (with_collection before kind) event (Err error) after ⊎ ((error ≡ Memory) × (after ≡ before)) → FailedAt before event error after
 start_failed kind before after event error opens (inl gave) = inr (record {
   gave = gave_event before (with_collection before kind) after event (Err error) refl refl (sym opens) gave;
-  is_error = inr (some_from_result after.emitter.error error gave.moves.answered);
+  is_error = inr (some_from_result after.emitter.error error gave.emits.answered);
 })
 start_failed kind before after event error opens (inr memory) = inl memory
 
@@ -188,26 +189,26 @@ module _ (before after : WriterState) where
       → IfErr answer (λ error. GaveEvent first event (Err error) after ⊎ ((error ≡ Memory) × (after ≡ before))) → Kept before result after
   kept_event first is event (Ok done) (Ok same) answers gave failed =
       record {
-        grows = subst (λ (s : State). Grows s.page after.emitter.page) is gave.moves.grows;
-        sound = none_from_result after.emitter.error gave.moves.answered;
+        grows = subst (λ (s : State). Grows s.page after.emitter.page) is gave.emits.grows;
+        sound = none_from_result after.emitter.error gave.emits.answered;
       }
   kept_event first is event (Ok done) (Err stop) answers gave failed = absurd answers
   kept_event first is event (Err error) (Ok same) answers gave failed = absurd answers
   kept_event first is event (Err error) (Err stop) answers gave (inl given) =
-      kept_gave error stop answers (subst (λ (s : State). Grows s.page after.emitter.page) is given.moves.grows)
-      (some_from_result after.emitter.error error given.moves.answered)
+      kept_gave error stop answers (subst (λ (s : State). Grows s.page after.emitter.page) is given.emits.grows)
+      (some_from_result after.emitter.error error given.emits.answered)
   kept_event first is event (Err error) (Err stop) answers gave (inr memory) = kept_still error stop answers memory.1
 
   -- that ends a collection
   pub kept_end : (answer : Result (Unit {0}) yaml_error_t) (result : Result (Unit {0}) Stop) → IsWritersAnswer answer result → EndsInnermost before answer after
       → Kept before result after
   kept_end (Ok done) (Ok same) answers (inl none) = absurd (not_both (Ok done) done ExpectedDocumentEnd refl none.1)
-  kept_end (Ok done) (Ok same) answers (inr end) = record { grows = end.moves.grows; sound = none_from_result after.emitter.error end.moves.answered }
+  kept_end (Ok done) (Ok same) answers (inr end) = record { grows = end.emits.grows; sound = none_from_result after.emitter.error end.emits.answered }
   kept_end (Ok done) (Err stop) answers ends = absurd answers
   kept_end (Err error) (Ok same) answers ends = absurd answers
   kept_end (Err error) (Err stop) answers (inl none) = kept_still error stop answers none.2
   kept_end (Err error) (Err stop) answers (inr end) =
-      kept_gave error stop answers end.moves.grows (some_from_result after.emitter.error error end.moves.answered)
+      kept_gave error stop answers end.emits.grows (some_from_result after.emitter.error error end.emits.answered)
 
 -- ---- that nothing changed
 
@@ -224,15 +225,15 @@ module _ (before after : WriterState) where
   unmoved_event first event (Ok done) (Err stop) answers failed = absurd answers
   unmoved_event first event (Err error) (Ok same) answers failed = absurd answers
   unmoved_event first event (Err error) (Err stop) answers (inl given) =
-      λ none. absurd (has_none after.emitter.error error (some_from_result after.emitter.error error given.moves.answered) none)
+      λ none. absurd (has_none after.emitter.error error (some_from_result after.emitter.error error given.emits.answered) none)
   unmoved_event first event (Err error) (Err stop) answers (inr memory) = λ none. memory.1
 
   -- or ends a collection
-  pub level_end : (answer : Result (Unit {0}) yaml_error_t) (result : Result (Unit {0}) Stop) → IsWritersAnswer answer result → EndsInnermost before answer after
-      → OnErr result (StaysLevelUnlessFailed before after)
+  pub level_end : (answer : Result (Unit {0}) yaml_error_t) (result : Result (Unit {0}) Stop) → IsWritersAnswer answer result
+      → EndsInnermost before answer after → OnErr result (StaysLevelUnlessFailed before after)
   level_end (Ok done) (Ok same) answers ends = tt
   level_end (Ok done) (Err stop) answers ends = absurd answers
   level_end (Err error) (Ok same) answers ends = absurd answers
   level_end (Err error) (Err stop) answers (inl none) = λ sound. ap (λ (w : WriterState). w.levels) none.2
   level_end (Err error) (Err stop) answers (inr end) =
-      λ none. absurd (has_none after.emitter.error error (some_from_result after.emitter.error error end.moves.answered) none)
+      λ none. absurd (has_none after.emitter.error error (some_from_result after.emitter.error error end.emits.answered) none)

@@ -76,7 +76,7 @@ gives_scalar in_flow levels before after token event keeps is wrote was so stood
     let events = is was.canonical ∙ ap (λ c. event c ∷ []) (sym stood.gave.canonical) in
     record {
       gave = given_on in_flow was before after so token e stood.gave events
-          (record { adds = wrote.adds; canonical = wrote.canonical; levels = wrote.levels ∙ sym (keeps_levels before.levels); bare = wrote.bare });
+          (record { emits = wrote.emits; canonical = wrote.canonical; levels = wrote.levels ∙ sym (keeps_levels before.levels); bare = wrote.bare });
       opened = open_on in_flow was so token e levels levels stood.opened events (keeps_levels (was.levels ++ levels));
     }
 
@@ -116,7 +116,7 @@ gives_end in_flow outer before after kind ends was so stood =
     ap (levels_after_event (end_event kind)) inside ∙ levels_after_end kind (was.levels ++ outer) in
     record {
       gave = given_on in_flow was before after so (closer kind) (end_event kind) stood.gave (closer_events kind was.canonical in_flow)
-          (record { adds = end.adds; canonical = end.canonical; levels = end.levels ∙ sym left; bare = end.bare });
+          (record { emits = end.emits; canonical = end.canonical; levels = end.levels ∙ sym left; bare = end.bare });
       opened = open_on in_flow was so (closer kind) (end_event kind) (outer ++ kind ∷ []) outer stood.opened (closer_events kind was.canonical in_flow)
           (ap (levels_after_event (end_event kind)) (sym (append_assoc was.levels outer (kind ∷ []))) ∙ levels_after_end kind (was.levels ++ outer));
     }

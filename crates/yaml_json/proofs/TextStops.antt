@@ -44,7 +44,7 @@ module _ (depth : ℕ) (unique in_flow : Bool) (text : List ℕ) (was now : Writ
         left = stopped.1.left;
         split = stopped.1.parts;
         why = why_returned stopped.1.taken stopped.1.left stop error same is stopped.1.why;
-        adds = stopped.1.gave.adds;
+        emits = stopped.1.gave.emits;
         usable = usable_by was now (tokens_events was.canonical in_flow stopped.1.taken) stopped.1.gave;
       }
 
@@ -56,7 +56,7 @@ module _ (depth : ℕ) (unique in_flow : Bool) (text : List ℕ) (was now : Writ
         left = failed.1.0.left;
         split = failed.1.0.parts;
         why = failed.1.1;
-        adds = failed.1.0.gave.gave.adds;
+        emits = failed.1.0.gave.gave.emits;
         usable = usable_by was now (tokens_events was.canonical in_flow failed.0) failed.1.0.gave.gave;
       }
 
@@ -119,10 +119,10 @@ module _ (depth : ℕ) (unique in_flow : Bool) (text : List ℕ) (was now : Writ
   code_said code (inl memory) = inl memory.0
   code_said code (inr has) = inr has
 
-  given_by : {error : JsonError} → (stops : StopsInText depth unique in_flow text was error now)
+  pub given_by : {error : JsonError} → (stops : StopsInText depth unique in_flow text was error now)
       → GaveEvents was (tokens_events was.canonical in_flow stops.taken) now
   given_by stops =
-      record { adds = stops.adds; canonical = stops.usable.canonical; levels = stops.usable.levels; bare = stops.usable.bare }
+      record { emits = stops.emits; canonical = stops.usable.canonical; levels = stops.usable.levels; bare = stops.usable.bare }
 
   pub writer_failed : (error : JsonError) → StopsInText depth unique in_flow text was error now → HasErrorSaid was (writers_error error) now
       → IfSome (writers_error error) (λ code. FailedInText depth in_flow text was code now)

@@ -1,23 +1,23 @@
 -- JSON texts, one after another.
-use Rattle.yaml_writer.proofs.OpenLevels.{closed_then, usable_same}
-use Rattle.yaml_writer.specs.WasGiven.{StaysUsable}
+use Rattle.yaml_writer.proofs.OpenLevels.{gave_events_then, gave_passed, gave_same, usable_by}
+use Rattle.yaml_writer.specs.WasGiven.{GaveEvents, levels_after}
 use Rattle.yaml_json.proofs.TokenLemmas.{texts_closed}
 use Rattle.json.proofs.Unique.Spelling.{value-json_tokens_back}
 use Rattle.yaml_json.proofs.Common.{ℕ, ◌<◌, ◌==◌, flat_map, Some, Result, Err, length, Bool, false, true, List, [], map, ◌++◌, ◌∷◌, refl, ◌≡◌, eqb-true}
 use Rattle.yaml_json.proofs.Common.{append-nil, append_assoc, inl, inr, ap, subst, sym, ◌∙◌, false≢true, flat_map-append, map-append, Json, value, tokens}
 use Rattle.yaml_json.proofs.Common.{Option, None, json_tokens, Event, between, events_with_separators}
 use Rattle.yaml_json.proofs.Common.{json_events, NamesOnce, HaveNamesOnce, texts_in, after_byte, CutsFirstText, tokens_events, IsBare, WasGiven, WroteText}
-use Rattle.yaml_json.proofs.Common.{AreJson, BeginsWithinDepth, parts_events, ReadsTexts, WriterState, PassedEvents, AddsEvents}
+use Rattle.yaml_json.proofs.Common.{AreJson, BeginsWithinDepth, parts_events, ReadsTexts, WriterState, PassedEvents}
 use Rattle.std.proofs.lemmas.List.{nil_from_length}
 use Rattle.yaml_base.specs.declared.errors.yaml_error_t.{yaml_error_t}
 use Rattle.yaml_json.{proofs.NameLemmas.once_is_unique, proofs.Walking.awaiting_whole, proofs.Walking.closes_value}
 use Rattle.yaml_json.specs.Texts.{texts_after, onto_first, cut_text_before, scan_first_byte}
 use Rattle.yaml_json.specs.declared.cuts.{Mode.TheVariants.Before, Scan.Scan}
 use Rattle.yaml_json.specs.declared.error.JsonError.TheVariants as errors
-use Rattle.yaml_writer.proofs.GivenLemmas.{adds_then, wrote_nothing, wrote_then, wrote_same}
-use Rattle.yaml_json.{proofs.YamlOf.last_reads, specs.Refused.HasNamesOnce, specs.Stopped.StopsInText, specs.Stopped.StopsInTexts, specs.Places.HasPlaceAfter}
+use Rattle.yaml_writer.proofs.GivenLemmas.{leaves_same, wrote_nothing, wrote_then, wrote_same}
+use Rattle.yaml_json.proofs.{TextStops.given_by, YamlOf.HaveScalarTexts, YamlOf.last_reads}
+use Rattle.yaml_json.{specs.Refused.HasNamesOnce, specs.Stopped.StopsInText, specs.Stopped.StopsInTexts, specs.Places.HasPlaceAfter}
 use Rattle.yaml_json.{specs.Wrote.WroteTexts, specs.declared.error.JsonError.JsonError}
-use Rattle.yaml_writer.proofs.Taken.{moves_add}
 
 -- the events of some texts, after each of which a document begins, and then those of one more, the last
 pub ends_with : (canonical in_flow : Bool) (parts : List (List ℕ × Json)) (last : List ℕ × Json)
@@ -104,16 +104,12 @@ pub record TextsSoFar (depth : ℕ) (in_flow : Bool) (unique : Bool) (text : Lis
 pub texts_begin : (depth : ℕ) (in_flow unique : Bool) (text : List ℕ) (was : WriterState) → IsBare was → TextsSoFar depth in_flow unique text was text was
 texts_begin depth in_flow unique text was bare = record { parts = []; joined = refl; cut = refl; each = tt; names = tt; wrote = wrote_nothing was bare }
 
--- the next document is begun
-next_begun : (before after : WriterState) (answer : Result (Unit {0}) yaml_error_t) → IsBare before → PassedEvents before between answer after
-    → WasGiven before between after
-next_begun before after answer bare passed =
-    record {
-      adds = moves_add passed.moves;
-      canonical = ap (λ (w : WriterState). w.canonical) passed.rest;
-      levels = ap (λ (w : WriterState). w.levels) passed.rest;
-      bare = (ap (λ (w : WriterState). w.anchor) passed.rest ∙ bare.0, ap (λ (w : WriterState). w.tag) passed.rest ∙ bare.1);
-    }
+-- they leave open what was open
+gave_texts : (in_flow : Bool) (was now : WriterState) (parts : List (List ℕ × Json)) → WasGiven was (events_with_separators was.canonical in_flow parts) now
+    → GaveEvents was (events_with_separators was.canonical in_flow parts) now
+gave_texts in_flow was now parts =
+    let events = events_with_separators was.canonical in_flow parts in
+    leaves_same was now events was.levels (levels_after events was.levels) (sym (texts_closed was.canonical in_flow parts was.levels))
 
 module _ (depth : ℕ) (in_flow unique : Bool) (text : List ℕ) (was : WriterState) (rest first more : List ℕ) (now given : WriterState)
     (cuts : CutsFirstText rest first more) (so_far : TextsSoFar depth in_flow unique text was rest now)
@@ -151,7 +147,7 @@ module _ (depth : ℕ) (in_flow unique : Bool) (text : List ℕ) (was : WriterSt
   pub texts_go_on : (answer : Result (Unit {0}) yaml_error_t) (after : WriterState) → (more ≡ [] → ⊥) → PassedEvents given between answer after
       → TextsSoFar depth in_flow unique text was more after
   texts_go_on answer after some passed =
-      let next = next_begun given after answer one.wrote.bare passed in
+      let next = gave_passed given after answer one.wrote.bare passed in
       let events = json_events was.canonical in_flow one.json in
       record {
         parts = so_far.parts ++ (first, one.json) ∷ [];
@@ -169,34 +165,24 @@ module _ (depth : ℕ) (in_flow unique : Bool) (text : List ℕ) (was : WriterSt
   pub next_failed : (after : WriterState) (error : yaml_error_t) → (more ≡ [] → ⊥) → PassedEvents given between (Err error) after
       → StopsInTexts depth unique in_flow text was (errors.Emitter error) after
   next_failed after error some passed =
-      let begins = next_begun given after (Err error) one.wrote.bare passed in
-      let before = events_with_separators was.canonical in_flow so_far.parts in
-      let all = events_with_separators was.canonical in_flow (so_far.parts ++ (first, one.json) ∷ []) in
-      let events = json_events was.canonical in_flow one.json in
+      let begun = texts_go_on (Err error) after some passed in
+      let all = events_with_separators was.canonical in_flow begun.parts in
+      let gave = gave_same was after all (all ++ []) (sym (append-nil all)) (gave_texts in_flow was after begun.parts begun.wrote) in
       let found = some_text more in
       record {
-        parts = so_far.parts ++ (first, one.json) ∷ [];
+        parts = begun.parts;
         next = found.0;
         later = found.1;
-        cut = ap (λ (texts : List (List ℕ)). map (λ part. part.0) (so_far.parts ++ (first, one.json) ∷ []) ++ texts) (sym found.2)
-            ∙ cut_now (texts_in more) (cut_more cuts some);
-        each = each_done;
-        names = names_done;
+        cut = ap (λ (texts : List (List ℕ)). map (λ part. part.0) begun.parts ++ texts) (sym found.2) ∙ begun.cut;
+        each = begun.each;
+        names = begun.names;
         taken = [];
         left = tokens found.0;
         split = refl;
         why = begins_nothing depth;
         place = (0, (tt, tt));
-        adds = subst (λ (events : List Event). AddsEvents was.emitter events after.emitter) (started_more ∙ sym (append-nil all))
-            (adds_then was.emitter now.emitter after.emitter before (events ++ between) so_far.wrote.adds
-            (adds_then now.emitter given.emitter after.emitter events between events_given.adds (moves_add passed.moves)));
-        usable = usable_same was after all (all ++ []) (sym (append-nil all))
-            (record {
-              canonical = begins.canonical ∙ events_given.canonical ∙ so_far.wrote.canonical;
-              levels = begins.levels ∙ events_given.levels ∙ so_far.wrote.levels
-                  ∙ sym (texts_closed was.canonical in_flow (so_far.parts ++ (first, one.json) ∷ []) was.levels);
-              bare = begins.bare;
-            });
+        emits = gave.emits;
+        usable = usable_by was after (all ++ []) gave;
       }
 
   -- If nothing follows, all texts are given.
@@ -227,8 +213,8 @@ module _ (depth : ℕ) (in_flow unique : Bool) (text : List ℕ) (was : WriterSt
       (sym (append-nil (map (λ part. part.0) (so_far.parts ++ (first, one.json) ∷ []))) ∙ cut_now [] (cut_last cuts none)) names_done
 
   -- and are read
-  pub texts_read : more ≡ [] → ReadsTexts depth in_flow text was given
-  texts_read none = last_reads depth in_flow text was given so_far.parts (first, one.json) (joined_done none) each_done wrote_done
+  pub texts_read : more ≡ [] → HaveScalarTexts given.emitter.events → ReadsTexts depth in_flow text was given
+  texts_read none scalars = last_reads depth in_flow text was given so_far.parts (first, one.json) (joined_done none) each_done wrote_done scalars
 
 -- The bytes after the first text.
 
@@ -252,6 +238,11 @@ pub texts_stopped : (depth : ℕ) (in_flow unique : Bool) (text : List ℕ) (was
     → StopsInTexts depth unique in_flow text was error later
 texts_stopped depth in_flow unique text was rest first more now later cuts so_far error stops place =
     let found = cut_some cuts in
+    let before = events_with_separators was.canonical in_flow so_far.parts in
+    let events = tokens_events was.canonical in_flow stops.taken in
+    let gave = gave_events_then was now later before events (gave_texts in_flow was now so_far.parts so_far.wrote)
+    (subst (λ (canonical : Bool). GaveEvents now (tokens_events canonical in_flow stops.taken) later) so_far.wrote.canonical
+    (given_by depth unique in_flow first now later stops)) in
     record {
       parts = so_far.parts;
       next = first;
@@ -264,11 +255,6 @@ texts_stopped depth in_flow unique text was rest first more now later cuts so_fa
       split = stops.split;
       why = stops.why;
       place = place;
-      adds = adds_then was.emitter now.emitter later.emitter (events_with_separators was.canonical in_flow so_far.parts)
-          (tokens_events was.canonical in_flow stops.taken) so_far.wrote.adds
-          (subst (λ (canonical : Bool). AddsEvents now.emitter (tokens_events canonical in_flow stops.taken) later.emitter) so_far.wrote.canonical
-          stops.adds);
-      usable = closed_then was now later (events_with_separators was.canonical in_flow so_far.parts) (tokens_events was.canonical in_flow stops.taken)
-          (texts_closed was.canonical in_flow so_far.parts was.levels) so_far.wrote.canonical so_far.wrote.levels
-          (subst (λ (canonical : Bool). StaysUsable now (tokens_events canonical in_flow stops.taken) later) so_far.wrote.canonical stops.usable);
+      emits = gave.emits;
+      usable = usable_by was later (before ++ events) gave;
     }

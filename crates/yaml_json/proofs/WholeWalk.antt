@@ -3,12 +3,13 @@ use Rattle.json.proofs.Unique.Spelling.{value-json_tokens_back}
 use Rattle.yaml_json.proofs.{Taking.stood_nothing, KeepingNames.NamesSoFar}
 use Rattle.yaml_json.proofs.Common.{ℕ, Bool, List, [], ◌++◌, ◌∷◌, refl, ◌≡◌, append-nil, append_assoc, inl, inr, ap, subst, sym, ◌∙◌, arith}
 use Rattle.yaml_json.proofs.Common.{◌+◌, ◌≤◌, length, length-append}
-use Rattle.yaml_json.proofs.Common.{append_cancel_right, left_some, value, skip_value, Token, json_tokens, Event, BeginsWithinDepth, tokens_events, LeavesOpen}
-use Rattle.yaml_json.proofs.Common.{KeepsNames, BeganFirstValue, FirstFailed, Refuses, WalkProgress, IsBare, WriterState, AddsEvents}
+use Rattle.yaml_json.proofs.Common.{append_cancel_right, left_some, value, skip_value, Token, json_tokens, BeginsWithinDepth, tokens_events, LeavesOpen}
+use Rattle.yaml_json.proofs.Common.{KeepsNames, BeganFirstValue, FirstFailed, Refuses, WalkProgress, IsBare, WriterState, json_events}
 use Rattle.yaml_base.specs.{declared.errors.yaml_error_t.yaml_error_t, declared.errors.yaml_error_t.TheVariants.Memory}
 use Rattle.yaml_base.specs.{declared.kinds.CollectionKind.CollectionKind}
 use Rattle.yaml_json.proofs.Stops.{gave_no_more, all_left}
 use Rattle.yaml_json.proofs.TokenLemmas.{value_given}
+use Rattle.yaml_writer.{proofs.GivenLemmas.leaves_same, proofs.GivenLemmas.wrote_same, specs.WasGiven.levels_after}
 use Rattle.yaml_json.specs.{Failing.FailedInValue, Wrote.WroteValue, declared.names.Names.Names, declared.values.Stop.Stop}
 use Rattle.yaml_json.proofs.Walking.{closes_value, value_begins, awaiting_whole, next_stands}
 use Rattle.yaml_json.specs.Walk.{GaveTokens, TextStopsWriting, FailsGiving, WalkedOn, StepFailed}
@@ -112,14 +113,11 @@ module _ (depth : ℕ) (in_flow : Bool) (start : List Token) (was : WriterState)
         let stands = subst (LeavesOpen depth so_far.taken) none so_far.stands in
         let found = left_some (value depth start) ahead (ap (skip_value depth) (sym so_far.parts) ∙ (stands depth (omega arith)).1 ahead) in
         let same = append_cancel_right so_far.taken (json_tokens found.0) ahead (so_far.parts ∙ value-json_tokens_back depth start ahead found.0 found.1) in
+        let events = tokens_events was.canonical in_flow so_far.taken in
         record {
           json = found.0;
           read = found.1;
-          wrote = record {
-            adds = subst (λ (events : List Event). AddsEvents was.emitter events now.emitter)
-                (ap (tokens_events was.canonical in_flow) same ∙ value_given found.0 was.canonical in_flow) stood.gave.adds;
-            canonical = stood.gave.canonical;
-            levels = stood.gave.levels ∙ stood.opened ∙ append-nil was.levels;
-            bare = stood.gave.bare;
-          };
+          wrote = wrote_same was now events (json_events was.canonical in_flow found.0)
+              (ap (tokens_events was.canonical in_flow) same ∙ value_given found.0 was.canonical in_flow)
+              (leaves_same was now events (levels_after events was.levels) was.levels (stood.opened ∙ append-nil was.levels) stood.gave);
         }

@@ -1,9 +1,10 @@
 -- Why a writer failed that was given the events of a text.
+use Rattle.std.proofs.Math.Path.{subst₂}
 use Rattle.json.proofs.Unique.Spelling.{value-json_tokens_back}
 use Rattle.yaml_json.proofs.Common.{ℕ, ◌<◌, Option, None, Some, Bool, List, [], ◌++◌, ◌⊎◌, refl, ◌≡◌, append-nil, append_assoc, inl, inr, ap, subst}
 use Rattle.yaml_json.proofs.Common.{sym, ◌∙◌, arith, unwrap_or, value-depth, Json, value, depth as nesting, tokens, Token, json_tokens, Event, IsPrefix}
 use Rattle.yaml_json.proofs.Common.{most_open, Settings, RefusedAt, State, BeginsWithinDepth, FailedInText, json_events, tokens_events, WroteText}
-use Rattle.yaml_json.proofs.Common.{WriterState, opening, closing, StandsTaken}
+use Rattle.yaml_json.proofs.Common.{WriterState, opening, closing, IsNewWriter, Result}
 use Rattle.yaml_emitter.proofs.Common.{IsRefusal, StandsAfter}
 use Rattle.yaml_base.specs.declared.errors.{yaml_error_t.yaml_error_t, yaml_error_t.TheVariants.Memory, yaml_error_t.TheVariants.WriteError}
 use Rattle.yaml_base.specs.declared.errors.{yaml_error_t.TheVariants.TooDeep}
@@ -11,9 +12,11 @@ use Rattle.yaml_emitter.proofs.standing.{StandingPromises.promises_refusal}
 use Rattle.yaml_json.proofs.{Accepting.json_accepted, Accepting.never_passes, Accepting.stream_of, Accepting.stream_sound, Accepting.tree_flat}
 use Rattle.yaml_json.proofs.{Accepting.tree_of, TokenLemmas.some_then, TokenLemmas.value_given}
 use Rattle.yaml_json.specs.Failing.{JsonFailsBy, NestsPastMost, OverLimit}
+use Rattle.yaml_json.proofs.YamlOf.{opened_events}
+use Rattle.yaml_pen.specs.Page.{result_of_error}
+use Rattle.yaml_emitter.specs.Emits.{Emits}
 use Rattle.yaml_writer.proofs.WhyFailed.{fails_by, first_passes, overflowed_more, refused_deeper, refused_depth, unfinished_deeper, unfinished_depth}
-use Rattle.yaml_writer.specs.Unfinished.{IsUnfinished, PassesLimit}
-use Rattle.yaml_writer.proofs.Taken.{moves_taken}
+use Rattle.yaml_writer.specs.Unfinished.{IsNoStream, IsUnfinished, PassesLimit}
 
 -- a text is one value
 same_json : (a b : Json) → ◌≡◌ {A = Option (Json × List Token)} (Some (a, [])) (Some (b, [])) → a ≡ b
@@ -101,26 +104,31 @@ module _ (given : Settings) (in_flow : Bool) (depth : ℕ) (text : List ℕ) whe
     failed_after : BeginsWithinDepth depth taken → JsonFailsBy given in_flow depth text error
     failed_after found = fails_by depth (OverLimit given in_flow depth text) (NestsPastMost depth text) error full (too_deep found)
 
-  -- ---- the writer of a text
+  -- ---- the writer of a text, which was new
 
-  module _ (first now : WriterState) (error : yaml_error_t) (stands : StandsTaken given opening [] first.emitter)
-      (canonical : first.canonical ≡ given.canonical) where
+  module _ (first now : WriterState) (error : yaml_error_t) (new : IsNewWriter given first)
+      (stands : StandsAfter now.emitter.given now.emitter.events now.emitter) where
+    -- it was given these events
+    module _ (events : Bool → List Event) (answer : Result (Unit {0}) yaml_error_t)
+        (emits : Emits first.emitter (events first.canonical) answer now.emitter) where
+      by_given : (P : Settings → List Event → Type 0) → P now.emitter.given now.emitter.events → P given (opening ++ events given.canonical)
+      by_given P = subst₂ P (emits.set.given ∙ new.settings) (opened_events events emits.set.events new.events new.canonical)
+
     pub text_failed : FailedInText depth in_flow text first error now → JsonFailsBy given in_flow depth text error
     text_failed (taken, (failed, begins)) =
-        let stood = subst (λ (c : Bool). StandsTaken given (opening ++ tokens_events c in_flow taken) [] now.emitter) canonical
-        (moves_taken failed.gave.gave.adds given opening [] stands) in
+        let stood = by_given (λ c. tokens_events c in_flow taken) (result_of_error now.emitter.error) failed.gave.gave.emits
+        (λ g all. StandsAfter g all now.emitter) stands in
         by_error failed.gave.is_error
-        (λ is. failed_after taken failed.left failed.parts now.emitter stood.stands error is begins) where
+        (λ is. failed_after taken failed.left failed.parts now.emitter stood error is begins) where
           by_error : (error ≡ Memory) ⊎ (now.emitter.error ≡ Some error) → (now.emitter.error ≡ Some error → JsonFailsBy given in_flow depth text error)
               → JsonFailsBy given in_flow depth text error
           by_error (inl memory) follows = inl memory
           by_error (inr is) follows = follows is
 
     module _ (wrote : WroteText depth in_flow text first now) (unfinished : IsUnfinished now.emitter error) where
-      stood : StandsAfter given (opening ++ json_events given.canonical in_flow wrote.json) now.emitter
-      stood =
-          (subst (λ (c : Bool). StandsTaken given (opening ++ json_events c in_flow wrote.json) [] now.emitter) canonical
-          (moves_taken wrote.wrote.adds given opening [] stands)).stands
+      by_json : (P : Settings → List Event → Type 0) → P now.emitter.given now.emitter.events
+          → P given (opening ++ json_events given.canonical in_flow wrote.json)
+      by_json = by_given (λ c. json_events c in_flow wrote.json) (result_of_error now.emitter.error) wrote.wrote.emits
 
       whole : BeginsWithinDepth depth (tokens text)
       whole =
@@ -134,7 +142,7 @@ module _ (given : Settings) (in_flow : Bool) (depth : ℕ) (text : List ℕ) whe
       full_unfinished same =
           over_limit
           (subst (λ (events : List Event). PassesLimit given (opening ++ events ++ closing)) (sym (text_given wrote.json wrote.read))
-          (unfinished.full same given (opening ++ json_events given.canonical in_flow wrote.json) stood))
+          (by_json (λ g all. PassesLimit g (all ++ closing)) (unfinished.full same)))
 
       not_accepted : IsRefusal error → (error ≡ TooDeep) × ((most_open < depth) × NestsPastMost depth text)
       not_accepted refusal =
@@ -143,7 +151,7 @@ module _ (given : Settings) (in_flow : Bool) (depth : ℕ) (text : List ℕ) whe
           let tree = tree_of given.canonical in_flow wrote.json in
           let flat = tree_flat given.canonical in_flow wrote.json in
           let in_order = stream_sound given.canonical in_flow wrote.json in
-          let none = unfinished.refused refusal given (opening ++ json_events given.canonical in_flow wrote.json) stood in
+          let none = by_json (λ g all. IsNoStream g.canonical (all ++ closing) error) (unfinished.refused refusal) in
           let deep = unfinished_deeper given all tree flat in_order error none most (never_passes given.canonical in_flow wrote.json most (omega arith)) in
           let fits = value-depth depth (tokens text) [] wrote.json wrote.read in (
             unfinished_depth given all tree flat in_order error none,
@@ -157,7 +165,8 @@ module _ (given : Settings) (in_flow : Bool) (depth : ℕ) (text : List ℕ) whe
       by_error None none = fails_by depth (OverLimit given in_flow depth text) (NestsPastMost depth text) error full_unfinished not_accepted
       by_error (Some earlier) some =
           failed_after (tokens text) [] (append-nil (tokens text)) now.emitter
-          (subst (λ (events : List Event). StandsAfter given (opening ++ events) now.emitter) (sym (text_given wrote.json wrote.read)) stood)
+          (subst (λ (events : List Event). StandsAfter given (opening ++ events) now.emitter) (sym (text_given wrote.json wrote.read))
+          (by_json (λ g all. StandsAfter g all now.emitter) stands))
           error (some ∙ ap (λ (e : yaml_error_t). Some e) (sym (unfinished.first earlier some))) whole
 
       pub finish_failed : JsonFailsBy given in_flow depth text error

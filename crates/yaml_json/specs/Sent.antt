@@ -6,13 +6,12 @@ use Rattle.json.specs.Json.{Json}
 use Rattle.json.specs.Lex.{tokens}
 use Rattle.json.specs.Token.{Token}
 use Rattle.yaml_base.specs.Prefix.{IsPrefix}
-use Rattle.yaml_base.specs.Settings.{Settings}
 use Rattle.yaml_base.specs.declared.errors.yaml_error_t.{yaml_error_t}
 use Rattle.yaml_base.specs.declared.errors.yaml_error_t.TheVariants.{Memory}
-use Rattle.yaml_emitter.specs.State.{State}
+use Rattle.yaml_emitter.specs.State.{State, bytes_taken}
 use Rattle.yaml_writer.specs.Failing.{FailedHaving, HasErrorSaid}
-use Rattle.yaml_writer.specs.WasGiven.{AddsTaking, GaveEvents, StaysUsable, NextUnsent, IsAllTaken, WroteTaking, between}
-use Rattle.yaml_writer.specs.Writing.{Finishes, StandsTaken, WriterState, opening}
+use Rattle.yaml_writer.specs.WasGiven.{EmitsTaking, GaveEvents, StaysUsable, NextUnsent, IsAllTaken, WroteTaking, between}
+use Rattle.yaml_writer.specs.Writing.{Finishes, WriterState, opening}
 use Rattle.yaml_json.specs.Cuts.{HasScanned}
 use Rattle.yaml_json.specs.Failing.{events_with_separators, writers_error}
 use Rattle.yaml_json.specs.Places.{HasPlaceWithin, IsPlaceAfter}
@@ -46,8 +45,8 @@ pub record SentTexts (depth : ℕ) (unique in_flow : Bool) (text : List ℕ) (wa
   pub handed : List ℕ
   pub sends : Appends before after handed
   pub wrote : WroteTaking was (parts_events was.canonical in_flow parts) handed now
-  pub reads : (given : Settings) (sent bytes : List ℕ) → StandsTaken given opening sent was.emitter → was.canonical ≡ given.canonical
-      → Finishes now.emitter bytes → IsYamlOfTexts given in_flow depth text ((sent ++ handed) ++ bytes)
+  pub reads : (bytes : List ℕ) → was.emitter.events ≡ opening → was.canonical ≡ was.emitter.given.canonical → Finishes now.emitter bytes
+      → IsYamlOfTexts was.emitter.given in_flow depth text ((bytes_taken was.emitter ++ handed) ++ bytes)
 
 -- Of these bytes, these are left: the texts before them were given, a document begun after each, and the sink was given the output of the
 -- documents.
@@ -140,7 +139,7 @@ pub record SentDocuments (in_flow : Bool) (parts : List (List ℕ × Json)) (was
   pub offered : List ℕ
   pub sends : GivesSink error before after handed offered
   pub then : State
-  pub wrote : AddsTaking was.emitter (events_with_separators was.canonical in_flow sent) (handed ++ offered) then
+  pub wrote : EmitsTaking was.emitter (events_with_separators was.canonical in_flow sent) (handed ++ offered) then
   pub whole : ((sent ≡ []) × (handed ++ offered ≡ [])) ⊎ IsAllTaken then
 
 -- the first of the texts in a text are UTF-8 and allowed; the writer was given their events, with a document begun after each, and then
@@ -160,8 +159,8 @@ pub record StopsSending (depth : ℕ) (unique in_flow : Bool) (text : List ℕ) 
   pub why : StopsPartAt depth unique next taken left error
   pub place : HasPlaceWithin depth (flat_map (λ part. part.0) parts) next error
   pub handed : List ℕ
-  pub adds :
-      AddsTaking was.emitter (events_with_separators was.canonical in_flow parts ++ tokens_events was.canonical in_flow taken) handed now.emitter
+  pub emits :
+      EmitsTaking was.emitter (events_with_separators was.canonical in_flow parts ++ tokens_events was.canonical in_flow taken) handed now.emitter
   pub usable : StaysUsable was (events_with_separators was.canonical in_flow parts ++ tokens_events was.canonical in_flow taken) now
   pub documents : SentDocuments in_flow parts was before error handed after
 

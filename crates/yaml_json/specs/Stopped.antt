@@ -3,8 +3,10 @@ use Rattle.std.specs.Prelude.{◌≡◌, ℕ, Bool, List, ◌∷◌, ◌++◌, f
 use Rattle.json.specs.Token.{Token}
 use Rattle.json.specs.Lex.{tokens}
 use Rattle.json.specs.Json.{Json}
+use Rattle.yaml_pen.specs.Page.{result_of_error}
+use Rattle.yaml_emitter.specs.Emits.{Emits}
 use Rattle.yaml_writer.specs.WasGiven.{StaysUsable}
-use Rattle.yaml_writer.specs.Writing.{AddsEvents, WriterState}
+use Rattle.yaml_writer.specs.Writing.{WriterState}
 use Rattle.yaml_json.specs.Failing.{events_with_separators}
 use Rattle.yaml_json.specs.Places.{HasPlaceAfter}
 use Rattle.yaml_json.specs.Refused.{HaveNamesOnce, TokensStopAt}
@@ -19,7 +21,7 @@ pub record StopsInText (depth : ℕ) (unique in_flow : Bool) (text : List ℕ) (
   pub left : List Token
   pub split : taken ++ left ≡ tokens text
   pub why : TokensStopAt depth unique text taken left error
-  pub adds : AddsEvents was.emitter (tokens_events was.canonical in_flow taken) now.emitter
+  pub emits : Emits was.emitter (tokens_events was.canonical in_flow taken) (result_of_error now.emitter.error) now.emitter
   pub usable : StaysUsable was (tokens_events was.canonical in_flow taken) now
 
 -- the first of the texts in a text are allowed, and the writer was given their events, with a document begun after each, and then those of
@@ -36,6 +38,7 @@ pub record StopsInTexts (depth : ℕ) (unique in_flow : Bool) (text : List ℕ) 
   pub split : taken ++ left ≡ tokens next
   pub why : TokensStopAt depth unique next taken left error
   pub place : HasPlaceAfter depth text (flat_map (λ part. part.0) parts) next error
-  pub adds :
-      AddsEvents was.emitter (events_with_separators was.canonical in_flow parts ++ tokens_events was.canonical in_flow taken) now.emitter
+  pub emits :
+      Emits was.emitter (events_with_separators was.canonical in_flow parts ++ tokens_events was.canonical in_flow taken)
+      (result_of_error now.emitter.error) now.emitter
   pub usable : StaysUsable was (events_with_separators was.canonical in_flow parts ++ tokens_events was.canonical in_flow taken) now

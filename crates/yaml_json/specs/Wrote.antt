@@ -5,8 +5,9 @@ use Rattle.json.specs.Lex.{tokens}
 use Rattle.json.specs.Json.{Json, value}
 use Rattle.yaml_base.specs.Event.{Event, document_end}
 use Rattle.yaml_base.specs.Settings.{Settings}
+use Rattle.yaml_emitter.specs.State.{bytes_taken}
 use Rattle.yaml_writer.specs.WasGiven.{WasGiven}
-use Rattle.yaml_writer.specs.Writing.{Finishes, IsStream, StandsTaken, WriterState, closing, opening, plain_start}
+use Rattle.yaml_writer.specs.Writing.{Finishes, IsStream, WriterState, closing, opening, plain_start}
 use Rattle.yaml_json.specs.JsonEvents.{json_events}
 use Rattle.yaml_json.specs.Texts.{texts_in}
 use Rattle.yaml_json.specs.Means.{ReadsAsJson, ReadsAsValues}
@@ -61,8 +62,8 @@ pub record IsYamlOfTexts (given : Settings) (in_flow : Bool) (depth : ℕ) (text
 -- read as the values of the text.
 abbrev pub ReadsTexts : (depth : ℕ) → (in_flow : Bool) → (text : List ℕ) → WriterState → WriterState → Type 0
 ReadsTexts depth in_flow text was now =
-    (given : Settings) (sent bytes : List ℕ) → StandsTaken given opening sent was.emitter → was.canonical ≡ given.canonical → Finishes now.emitter bytes
-    → IsYamlOfTexts given in_flow depth text (sent ++ bytes)
+    (bytes : List ℕ) → was.emitter.events ≡ opening → was.canonical ≡ was.emitter.given.canonical → Finishes now.emitter bytes
+    → IsYamlOfTexts was.emitter.given in_flow depth text (bytes_taken was.emitter ++ bytes)
 
 -- the text is JSON nested at most `depth` deep, the bytes are the stream of its one document, and both schemas read them as its
 -- value, in portable mode with the line breaks of YAML 1.1 and with those of 1.2

@@ -44,6 +44,7 @@ pub fn write_json_texts<A: Allocator + Copy>(
             return Err(error_of(writer, text, before.saturating_add(at), first, (stop, at)));
         }
         if more.is_empty() {
+            writer.promised();
             return Ok(());
         }
         if let Err(error) = writer.next_document() {

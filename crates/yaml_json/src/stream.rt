@@ -294,7 +294,11 @@ pub fn send_json_texts<A: Allocator + Copy, R: Read, W: Write>(
         turns -= 1;
         match read_more(alloc, reader, &mut incoming) {
             Ok(true) => {}
-            Ok(false) => return write_last(writer, &mut incoming, &settings),
+            Ok(false) => {
+                let answer = write_last(writer, &mut incoming, &settings);
+                writer.promised();
+                return answer;
+            }
             Err(error) => return Err(error),
         }
         if let Err(error) = write_complete(writer, sink, &mut incoming, &settings) {

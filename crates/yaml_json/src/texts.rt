@@ -173,8 +173,10 @@ pub fn yaml_from_json<A: Allocator + Copy>(
         return Err(JsonError::Emitter(yaml_error_t::Memory));
     };
     if let Err(error) = write_json(alloc, &mut writer, text, settings) {
+        writer.promised();
         return Err(error);
     }
+    writer.promised();
     match writer.finish() {
         Ok(bytes) => Ok(bytes),
         Err(error) => Err(JsonError::Emitter(error)),

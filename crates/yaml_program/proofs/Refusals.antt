@@ -6,12 +6,13 @@ use Rattle.yaml_base.specs.Refusal.{IsAccepted}
 use Rattle.yaml_base.specs.Settings.{Settings}
 use Rattle.yaml_base.specs.declared.errors.yaml_error_t.{yaml_error_t}
 use Rattle.yaml_base.specs.declared.errors.yaml_error_t.TheVariants.{Memory, WriteError}
-use Rattle.yaml_emitter.specs.Promises.{FailsOnlyByMemory}
-use Rattle.yaml_emitter.specs.StandsAfter.{StandsAfter}
+use Rattle.std.proofs.Common.{ap₂, Bool}
+use Rattle.std.proofs.Math.Path.{subst₂}
+use Rattle.yaml_emitter.specs.Emits.{IsPromised}
+use Rattle.yaml_emitter.specs.Promises.{FailsOnlyByMemory, FitsLimit}
 use Rattle.yaml_emitter.specs.State.{State}
 use Rattle.yaml_emitter.specs.Uncut.{IsUncut}
-use Rattle.yaml_emitter.proofs.standing.PromisingRoom.{promises_fits}
-use Rattle.yaml_writer.specs.Unfinished.{IsUnfinished}
+use Rattle.yaml_writer.specs.Unfinished.{IsNoStream, IsUnfinished, PassesLimit}
 use Rattle.yaml_writer.specs.Writing.{IsStream, WriterState, closing}
 use Rattle.yaml_program.specs.Conversions.{AreBytesOf, names_read}
 use Rattle.yaml_program.specs.Faults.{emitter_status, failure_status}
@@ -114,23 +115,32 @@ module _ (sent refused : Sending) (bytes_of : List ℕ → Option (List ℕ)) wh
 
 -- An emitter that has the first events of a stream that is written has no error but of memory.
 module _ (given : Settings) (all : List Event) (bytes : List ℕ) (stream : IsStream given all bytes) where
-  pub never_fails : (first rest : List Event) (state : State) (error : yaml_error_t) → StandsAfter given first state → first ++ rest ≡ all
-      → state.error ≡ Some error → emitter_status error ≡ 1 → ⊥
-  never_fails first rest state error stands begins is status =
-      let memory : error ≡ Memory = subst FailsOnlyByMemory is
-      (promises_fits given first state stands.so (record {
+  pub never_fails : (first rest : List Event) (state : State) (error : yaml_error_t) → state.given ≡ given → state.events ≡ first → IsPromised state
+      → first ++ rest ≡ all → state.error ≡ Some error → emitter_status error ≡ 1 → ⊥
+  never_fails first rest state error set are promised begins is status =
+      let fits : FitsLimit given first = record {
         more = rest;
         accepted = subst (IsAccepted given.canonical) (sym begins) stream.accepted;
         uncut = subst (IsUncut given) (sym begins) stream.written.uncut;
-      })) in
+      } in
+      let memory : error ≡ Memory = subst FailsOnlyByMemory is (promised.fits (subst₂ FitsLimit (sym set) (sym are) fits)) in
       let three : 3 ≡ 1 = sym (ap emitter_status memory) ∙ status in
       absurd (omega (arith, three))
 
 -- And its stream is finished.
 pub never_unended : (given : Settings) (all : List Event) (bytes : List ℕ) → IsStream given (all ++ closing) bytes → (state : State)
-    → StandsAfter given all state → RefusesEnd state → ⊥
-never_unended given all bytes stream state stands refuses = by_error refuses.error refuses.status refuses.unfinished where
+    → state.given ≡ given → state.events ≡ all → RefusesEnd state → ⊥
+never_unended given all bytes stream state set are refuses = by_error refuses.error refuses.status refuses.unfinished where
   by_error : (error : yaml_error_t) → emitter_status error ≡ 1 → IsUnfinished state error → ⊥
   by_error Memory status unfinished = absurd (omega (arith, status))
-  by_error WriteError status unfinished = (unfinished.full refl given all stands).whole stream.accepted stream.written.uncut
-  by_error error status unfinished = (unfinished.refused tt given all stands).unaccepted stream.accepted
+  by_error WriteError status unfinished =
+      (subst₂ (λ (g : Settings) (events : List Event). PassesLimit g (events ++ closing)) set are (unfinished.full refl)).whole stream.accepted
+      stream.written.uncut
+  by_error error status unfinished =
+      (subst₂ (λ (g : Settings) (events : List Event). IsNoStream g.canonical (events ++ closing) error) set are (unfinished.refused tt)).unaccepted
+      stream.accepted
+
+-- The events after some were given, in the form of the writer.
+pub events_given : {before all first : List Event} {canonical given : Bool} (events : Bool → List Event) → all ≡ before ++ events canonical
+    → before ≡ first → canonical ≡ given → all ≡ first ++ events given
+events_given events is begins same = is ∙ ap₂ (λ (first later : List Event). first ++ later) begins (ap events same)

@@ -4,11 +4,12 @@ use Rattle.std.specs.Io.KnownBytes.{Appends}
 use Rattle.yaml_base.specs.Event.{document_end}
 use Rattle.yaml_base.specs.declared.errors.yaml_error_t.{yaml_error_t}
 use Rattle.yaml_pen.specs.Page.{output_left}
+use Rattle.yaml_emitter.specs.Emits.{IsPromised}
 use Rattle.yaml_emitter.specs.Given.{seen_settings}
 use Rattle.yaml_emitter.specs.State.{State, with_all_taken}
 use Rattle.yaml_emitter.specs.declared.settings.Settings.{Settings}
 use Rattle.yaml_writer.specs.Unfinished.{IsUnfinished}
-use Rattle.yaml_writer.specs.Writing.{Finishes, PassedEvents, StandsTaken, TakesBytes, WriterState, opening, plain_start}
+use Rattle.yaml_writer.specs.Writing.{Finishes, IsNewWriter, PassedEvents, WriterState, plain_start}
 use Rattle.yaml_program.specs.Faults.{emitter_status}
 
 -- A relation of a file's bytes, and of a writer and a sink before and after the file is sent.
@@ -20,7 +21,6 @@ pub record BeganDocument (was : WriterState) (before : Option (List ℕ)) (now :
   pub begun : WriterState
   pub passed : PassedEvents was (document_end true ∷ plain_start ∷ []) (Ok tt) begun
   pub sends : Appends before after (output_left begun.emitter.page)
-  pub takes : TakesBytes begun.emitter (output_left begun.emitter.page) now.emitter
   pub kept : now ≡ record begun { emitter = with_all_taken begun.emitter }
 
 module _ (sent : Sending) where
@@ -44,8 +44,7 @@ WroteLast emitter before after = (bytes : List ℕ) × Appends before after byte
 -- True if a new writer with these settings sent these files and finished the stream.
 pub record SentStream (sent : Sending) (settings : Settings) (files : List (List ℕ)) (before after : Option (List ℕ)) : Type 0 where
   pub first : WriterState
-  pub stands : StandsTaken (seen_settings settings) opening [] first.emitter
-  pub canonical : first.canonical ≡ settings.canonical
+  pub is_new : IsNewWriter (seen_settings settings) first
   pub last : WriterState
   pub held : Option (List ℕ)
   pub documents : SentFiles sent files first before last held
@@ -88,7 +87,7 @@ module _ (sent refused : Sending) where
 -- True if a new writer with these settings refused one of these files, or sent all of them and couldn't finish the stream.
 pub record RefusesStream (sent refused : Sending) (settings : Settings) (files : List (List ℕ)) (before after : Option (List ℕ)) : Type 0 where
   pub first : WriterState
-  pub stands : StandsTaken (seen_settings settings) opening [] first.emitter
-  pub canonical : first.canonical ≡ settings.canonical
+  pub is_new : IsNewWriter (seen_settings settings) first
   pub last : WriterState
+  pub promised : IsPromised last.emitter
   pub why : RefusesSome sent refused files first before last after ⊎ (SentFiles sent files first before last after × RefusesEnd last.emitter)

@@ -143,7 +143,10 @@ pub fn send_stream<'a, F: SendsFile, S: Sources + AllocGlobal, W: Write>(
         Ok(writer) => writer,
         Err(error) => return Err((None, Failure::Unwritten(error))),
     };
-    if let Err(stop) = send_documents(format, sources, names, &mut writer, sink) {
+    let sent = send_documents(format, sources, names, &mut writer, sink);
+    // A law: the consequences of the events that were given.
+    writer.promised();
+    if let Err(stop) = sent {
         return Err(stop);
     }
     match writer.finish() {

@@ -65,13 +65,6 @@ any_answers {A} mode bytes result is read complete placed =
 
 -- ---- a value that was written
 
--- it was read, so its keys differ
-pub unique_told : {A : Type 0} (value found : Value A) (bytes : List ℕ) → WritesValue (seen_value value) bytes
-    → WritesValue (seen_value found) bytes × HasUniqueKeys (seen_value found) → Decides true (HasUniqueKeys (seen_value value))
-unique_told value found bytes written read =
-    let same : seen_value found ≡ seen_value value = written.only (seen_value found) read.0.bits read.0.reads in
-    ((λ is. subst HasUniqueKeys same read.1), (λ unique. refl))
-
 -- it was not read, and memory sufficed, so they don't
 pub repeat_told : {A : Type 0} (value : Value A) (bytes : List ℕ) (error : ReadError) → WritesValue (seen_value value) bytes
     → ¬ (most_nested < nesting (seen_value value)) → bytes ≡ encode (Some utf8) (document_text (seen_value value))

@@ -76,18 +76,6 @@ mapping_ends (item_awaited empty ∷ outer) comes = absurd (false≢true comes)
 mapping_ends (key_awaited empty ∷ outer) comes = (refl, refl)
 mapping_ends (value_awaited ∷ outer) comes = absurd (false≢true comes)
 
--- in the code
-pub closing_in : (levels : List Pending) (found : Option Await) (awaited : Await) (event : Event) → found ≡ Some awaited → IsInnermostAwait levels found
-    → ((outer : List Pending) → event ≡ closing_event (seen_await awaited ∷ outer)) → event ≡ closing_event levels
-closing_in levels found awaited event is innermost closing =
-    let inner : IsInnermostAwait levels (Some awaited) = subst (IsInnermostAwait levels) is innermost in
-    closing inner.0 ∙ ap closing_event (sym inner.1)
-
-pub no_closing : (levels : List Pending) (found : Option Await) → found ≡ None → IsInnermostAwait levels found → sequence_end ≡ closing_event levels
-no_closing levels found is innermost =
-    let none : levels ≡ [] = subst (IsInnermostAwait levels) is innermost in
-    ap closing_event (sym none)
-
 -- ---- the part of an event's text that is read
 
 -- a comma or nothing ends a name, if what follows ends it

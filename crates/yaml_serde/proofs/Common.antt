@@ -12,4 +12,4 @@ pub use Rattle.yaml_writer.specs.NumberParts.{HasNumber}
 pub use Rattle.yaml_serde.specs.Documents.{IsWriterEvent, int_call, IsDocument, AppendsDocument, GivesEvents}
 pub use Rattle.yaml_emitter.specs.Given.{seen_settings}
 pub use Rattle.yaml_writer.specs.Given.{given_for_values}
-pub use Rattle.yaml_writer.specs.Writing.{WriterState, opening, closing, with_collection, awaits_node, StandsTaken, TakesBytes, IsStream, Finishes}
+pub use Rattle.yaml_writer.specs.Writing.{WriterState, opening, closing, with_collection, awaits_node, IsNewWriter, IsStream, Finishes}

@@ -1,10 +1,14 @@
 -- The state of an emitter after the events of some calls, and the documents that they make.
-use Rattle.yaml_serde.proofs.Common.{ℕ, OnOk, Option, Result, Err, Ok, List, [], ◌++◌, ◌∷◌, refl, ◌≡◌, append-nil, append_assoc, subst, sym}
-use Rattle.yaml_serde.proofs.Common.{Appends, All, ∥∥₁_map, Event, Settings, State, grows_itself, Grows, IsWriterEvent, IsDocument, AppendsDocument}
-use Rattle.yaml_serde.proofs.Common.{GivesEvents, WriterState, opening, closing, StandsTaken, TakesBytes, IsStream, Finishes}
+use Rattle.yaml_serde.proofs.Common.{ℕ, OnOk, Option, Result, Err, Ok, List, [], ◌++◌, ◌∷◌, refl, ◌≡◌, append-nil, ap, subst, sym, ◌∙◌}
+use Rattle.yaml_serde.proofs.Common.{Appends, All, ∥∥₁_map, Event, Settings, State, grows_itself, IsWriterEvent, IsDocument, AppendsDocument}
+use Rattle.yaml_serde.proofs.Common.{GivesEvents, IsNewWriter, WriterState, opening, closing, IsStream, Finishes}
 use Rattle.yaml_base.proofs.Common.{inl, inr, ◌⊎◌}
 use Rattle.yaml_base.proofs.Prefixes.{prefix_itself}
-use Rattle.yaml_writer.{proofs.Taken.moves_taken, specs.Writing.AddsEvents}
+use Rattle.yaml_base.specs.declared.errors.yaml_error_t.{yaml_error_t}
+use Rattle.yaml_emitter.{proofs.Common.with_all_taken, specs.Emits.Emits}
+use Rattle.yaml_pen.specs.Page.{output_left}
+use Rattle.yaml_writer.proofs.{GivenAndTaken.emits_taking_more, GivenAndTaken.emits_taking_then, GivenAndTaken.emits_untaken, GivenAndTaken.stream_finished}
+use Rattle.yaml_writer.{proofs.Taken.emits_none, proofs.Taken.takes_rest, specs.WasGiven.EmitsTaking}
 use Rattle.std.{proofs.lemmas.List.Elements.All-nil, proofs.lemmas.List.Elements.All-cons, proofs.lemmas.List.Elements.All-append}
 use Rattle.std.specs.Prelude.{OnErr}
 use Rattle.std.specs.Result.{result_and}
@@ -23,87 +27,79 @@ pub gave_none : (start : State) → GaveEvents start [] start
 gave_none start = record {
   events = [];
   are = All-nil IsWriterEvent;
-  stands = λ given all sent stands.
-      subst (λ (events : List Event). StandsTaken given events (sent ++ []) start) (sym (append-nil all))
-      (subst (λ (taken : List ℕ). StandsTaken given all taken start) (sym (append-nil sent)) stands);
+  emits = emits_untaken (emits_none start);
   grows = grows_itself start.page;
 }
 
 -- one call more
-pub gave_more : (start : State) (bytes : List ℕ) (before after : State) (event : Event) → IsWriterEvent event → AddsEvents before (event ∷ []) after
-    → GaveEvents start bytes before → GaveEvents start bytes after
-gave_more start bytes before after event call adds gave = record {
+pub gave_more : (start : State) (bytes : List ℕ) (before after : State) (event : Event) {answer : Result (Unit {0}) yaml_error_t} → IsWriterEvent event
+    → Emits before (event ∷ []) answer after → GaveEvents start bytes before → GaveEvents start bytes after
+gave_more start bytes before after event call emits gave = record {
   events = gave.events ++ event ∷ [];
   are = All-append IsWriterEvent gave.events (event ∷ []) gave.are (All-cons IsWriterEvent event [] call (All-nil IsWriterEvent));
-  stands = λ given all sent stands.
-      subst (λ (events : List Event). StandsTaken given events (sent ++ bytes) after) (append_assoc all gave.events (event ∷ []))
-      (moves_taken adds given (all ++ gave.events) (sent ++ bytes) (gave.stands given all sent stands));
-  grows = grows_then gave.grows adds.grows;
+  emits = emits_taking_more gave.emits emits;
+  grows = grows_then gave.grows emits.grows;
 }
 
--- more bytes are taken
-pub gave_taken : (start : State) (bytes more : List ℕ) (before after : State) → TakesBytes before more after → Grows before.page after.page
-    → GaveEvents start bytes before → GaveEvents start (bytes ++ more) after
-gave_taken start bytes more before after takes grows gave = record {
+-- all that is left is taken
+pub gave_taken : (start : State) (bytes : List ℕ) (before : State) → GaveEvents start bytes before
+    → GaveEvents start (bytes ++ output_left before.page) (with_all_taken before)
+gave_taken start bytes before gave = record {
   events = gave.events;
   are = gave.are;
-  stands = λ given all sent stands.
-      subst (λ (taken : List ℕ). StandsTaken given (all ++ gave.events) taken after) (append_assoc sent bytes more)
-      (takes given (all ++ gave.events) (sent ++ bytes) (gave.stands given all sent stands));
-  grows = grows_then gave.grows grows;
+  emits =
+      subst (λ (events : List Event). EmitsTaking start events (bytes ++ output_left before.page) (with_all_taken before)) (append-nil gave.events)
+      (emits_taking_then gave.emits (takes_rest before));
+  grows = record { text = gave.grows.text; output = gave.grows.output };
 }
 
--- the document of a writer at its start
-gave_document : (given : Settings) (start emitter : State) (bytes rest : List ℕ) → StandsTaken given opening [] start → GaveEvents start bytes emitter
-    → Finishes emitter rest → (events : List Event) × All IsWriterEvent events × IsStream given (opening ++ events ++ closing) (bytes ++ rest)
-gave_document given start emitter bytes rest stands gave finishes =
-    (gave.events, gave.are, finishes given (opening ++ gave.events) bytes (gave.stands given opening [] stands))
+-- ---- the document of a new writer
 
--- the document that was asked for
-pub finished_document : (given : Settings) (start emitter : State) (bytes : List ℕ) → StandsTaken given opening [] start → GivesEvents start emitter
-    → Finishes emitter bytes → IsDocument given bytes
-finished_document given start emitter bytes began gives finishes =
-    ∥∥₁_map gives (λ gave. gave_document given start emitter [] bytes began gave finishes)
+module _ (given : Settings) (first : WriterState) (new : IsNewWriter given first) (emitter : State) (rest : List ℕ) (finishes : Finishes emitter rest) where
+  gave_document : (bytes : List ℕ) → GaveEvents first.emitter bytes emitter
+      → (events : List Event) × All IsWriterEvent events × IsStream given (opening ++ events ++ closing) (bytes ++ rest)
+  gave_document bytes gave = (
+    gave.events,
+    gave.are,
+    stream_finished emitter rest (gave.emits.given ∙ new.settings)
+        (gave.emits.appended ∙ ap (λ (e : List Event). e ++ gave.events) new.events)
+        (gave.emits.taken ∙ ap (λ (t : List ℕ). t ++ bytes) new.untaken) finishes,
+  )
 
--- the rest was handed on, too
-sent_document : (given : Settings) (held mid now : Option (List ℕ)) (start emitter : State) (rest : List ℕ) → StandsTaken given opening [] start
-    → SendsEvents held start mid emitter → Finishes emitter rest → Appends mid now rest → AppendsDocument given held now
-sent_document given held mid now start emitter rest began sends finishes appends = ∥∥₁_map sends whole
-  where
-    whole : (bytes : List ℕ) × Appends held mid bytes × GaveEvents start bytes emitter → (bytes : List ℕ) × Appends held now bytes × IsDocument given bytes
-    whole sent = (
-      sent.0 ++ rest,
-      Appends-trans held mid now sent.0 rest sent.1 appends,
-      ∣ gave_document given start emitter sent.0 rest began sent.2 finishes ∣₁,
-    )
+  -- the document that was asked for
+  pub finished_document : GivesEvents first.emitter emitter → IsDocument given rest
+  finished_document gives = ∥∥₁_map gives (gave_document [])
 
--- or a beginning of it was
-sent_beginning : (given : Settings) (held mid now : Option (List ℕ)) (start emitter : State) (rest : List ℕ) → StandsTaken given opening [] start
-    → SendsEvents held start mid emitter → Finishes emitter rest → AppendsFirst mid now rest → AppendsBeginning given held now
-sent_beginning given held mid now start emitter rest began sends finishes first = ∥∥₁_map sends part
-  where
-    part : (bytes : List ℕ) × Appends held mid bytes × GaveEvents start bytes emitter
-        → (bytes : List ℕ) × AppendsFirst held now bytes × ((bytes ≡ []) ⊎ (IsPartial given bytes ⊎ IsDocument given bytes))
-    part sent = (
-      sent.0 ++ rest,
-      appends_first held mid now sent.0 rest sent.1 first,
-      inr (inr ∣ gave_document given start emitter sent.0 rest began sent.2 finishes ∣₁),
-    )
+  module _ (held mid now : Option (List ℕ)) (sends : SendsEvents held first.emitter mid emitter) where
+    -- the rest was handed on, too
+    sent_document : Appends mid now rest → AppendsDocument given held now
+    sent_document appends = ∥∥₁_map sends whole
+      where
+        whole : (bytes : List ℕ) × Appends held mid bytes × GaveEvents first.emitter bytes emitter
+            → (bytes : List ℕ) × Appends held now bytes × IsDocument given bytes
+        whole sent = (sent.0 ++ rest, Appends-trans held mid now sent.0 rest sent.1 appends, ∣ gave_document sent.0 sent.2 ∣₁)
 
--- the facts that an answer tells of both
-pub written_by : {E : Type 0} (answer : Result (Unit {0}) E) (given : Settings) (held mid now : Option (List ℕ)) (start emitter : State) (rest : List ℕ)
-    → StandsTaken given opening [] start → SendsEvents held start mid emitter → Finishes emitter rest → OnOk answer (Appends mid now rest)
-    → OnOk answer (AppendsDocument given held now)
-written_by (Ok done) given held mid now start emitter rest began sends finishes appends =
-    sent_document given held mid now start emitter rest began sends finishes appends
-written_by (Err error) given held mid now start emitter rest began sends finishes appends = tt
+    -- or a beginning of it was
+    sent_beginning : AppendsFirst mid now rest → AppendsBeginning given held now
+    sent_beginning begins = ∥∥₁_map sends part
+      where
+        part : (bytes : List ℕ) × Appends held mid bytes × GaveEvents first.emitter bytes emitter
+            → (bytes : List ℕ) × AppendsFirst held now bytes × ((bytes ≡ []) ⊎ (IsPartial given bytes ⊎ IsDocument given bytes))
+        part sent = (sent.0 ++ rest, appends_first held mid now sent.0 rest sent.1 begins, inr (inr ∣ gave_document sent.0 sent.2 ∣₁))
 
-pub begun_by : {E : Type 0} (answer : Result (Unit {0}) E) (given : Settings) (held mid now : Option (List ℕ)) (start emitter : State) (rest : List ℕ)
-    → StandsTaken given opening [] start → SendsEvents held start mid emitter → Finishes emitter rest → OnErr answer (AppendsFirst mid now rest)
-    → OnErr answer (AppendsBeginning given held now)
-begun_by (Ok done) given held mid now start emitter rest began sends finishes first = tt
-begun_by (Err error) given held mid now start emitter rest began sends finishes first =
-    sent_beginning given held mid now start emitter rest began sends finishes first
+    -- the facts that an answer tells of both
+    pub written_by : {E : Type 0} (answer : Result (Unit {0}) E) → OnOk answer (Appends mid now rest) → OnOk answer (AppendsDocument given held now)
+    written_by (Ok done) appends = sent_document appends
+    written_by (Err error) appends = tt
+
+    pub begun_by : {E : Type 0} (answer : Result (Unit {0}) E) → OnErr answer (AppendsFirst mid now rest) → OnErr answer (AppendsBeginning given held now)
+    begun_by (Ok done) begins = tt
+    begun_by (Err error) begins = sent_beginning begins
+
+-- or of one that isn't finished
+pub new_begins : (given : Settings) (first : WriterState) (held now : Option (List ℕ)) → IsNewWriter given first → SendsBeginning held first.emitter now
+    → AppendsBeginning given held now
+new_begins given first held now new sends = subst (λ (g : Settings). AppendsBeginning g held now) new.settings (sends new.events new.untaken)
 
 -- facts that hold after any error
 pub fails_with : {E P : Type 0} (answer : Result (Unit {0}) E) → P → OnErr answer P

@@ -1,24 +1,23 @@
 -- A document goes on with each call of its writer.
 use Rattle.yaml_serde.proofs.Common.{ℕ, ◌<◌, ◌≤◌, OnOk, Option, None, Some, Result, Err, Ok, length, take, Bool, false, true, List, [], ◌++◌, ◌∷◌, refl, ◌≡◌}
 use Rattle.yaml_serde.proofs.Common.{append-nil, ap, subst, sym, ◌∙◌, arith, Appends, ∥∥₁_map, Text, Event, State, Grows, IsWriterEvent, IsDocument, is_kept}
-use Rattle.yaml_serde.proofs.Common.{GivesEvents, HandsOn, WriterState, opening, with_collection, awaits_node, StandsTaken}
+use Rattle.yaml_serde.proofs.Common.{GivesEvents, HandsOn, Settings, WriterState, with_collection, awaits_node}
 use mathlib.Core.Logic.{∥∥₁_elim}
 use Rattle.yaml_base.proofs.Common.{inl, inr, length-append, ◌⊎◌}
 use Rattle.yaml_base.proofs.Prefixes.{prefix_then}
 use Rattle.yaml_base.specs.Prefix.{IsPrefix}
-use Rattle.yaml_writer.proofs.Common.{end_event, AddsEvents, GaveEvent}
-use Rattle.yaml_writer.proofs.Taken.{moves_add}
+use Rattle.yaml_writer.proofs.Common.{end_event, GaveEvent}
+use Rattle.yaml_emitter.specs.{Emits.Emits, Emits.IsPromised}
 use Rattle.std.{proofs.Math.Seq.drop-append_seam, proofs.Math.Seq.take-length, proofs.lemmas.List.length-take, proofs.lemmas.List.take-append-le}
 use Rattle.std.{proofs.Props.props}
 use Rattle.std.specs.{Prelude.IfErr, Prelude.drop}
 use Rattle.yaml_base.specs.declared.errors.{yaml_error_t.yaml_error_t, yaml_error_t.TheVariants.Memory}
 use Rattle.yaml_base.specs.declared.kinds.CollectionKind.{CollectionKind}
-use Rattle.yaml_emitter.proofs.standing.Promising.{promised}
 use Rattle.yaml_base.specs.Sinks.{AppendsFirst}
 use Rattle.yaml_pen.specs.Page.{output_left}
 use Rattle.std.proofs.KnownBytes.{Appends-trans}
 use Rattle.yaml_serde.proofs.Gave.{gave_more, gave_none, gave_taken}
-use Rattle.yaml_serde.proofs.Handing.{failed_is_sent, grows_taken, left_begins}
+use Rattle.yaml_serde.proofs.Handing.{failed_is_sent, left_begins}
 use Rattle.std.specs.Float.Ieee.{Float, Format, nan, inf, fin}
 use Rattle.std.specs.Prelude.{if◌then◌else◌}
 use Rattle.yaml_writer.specs.Floats.{GivesFloat, special_event}
@@ -100,15 +99,16 @@ module _ {W : Type 0} (contents : W → Option (List ℕ)) (outside : Outside) w
       }
     where
       begun : Given outlet writer.emitter
-      begun = record {
-        taken = [];
-        more = [];
-        handed = record { sends = appends; none = λ unfailed. refl; kept = λ kept. refl };
-        gave = subst (λ (w : WriterState). GaveEvents outside.start.emitter [] w.emitter) (sym is) (gave_none outside.start.emitter);
-        begins = λ given all sent stands.
-            subst (λ (w : WriterState). IsPrefix ((sent ++ []) ++ []) w.emitter.page.output) (sym is)
-            (subst (λ (l : List ℕ). IsPrefix l outside.start.emitter.page.output) (sym (append-nil (sent ++ []) ∙ append-nil sent)) stands.begins);
-      }
+      begun =
+          let gave : GaveEvents outside.start.emitter [] writer.emitter =
+          subst (λ (w : WriterState). GaveEvents outside.start.emitter [] w.emitter) (sym is) (gave_none outside.start.emitter) in
+          record {
+            taken = [];
+            more = [];
+            handed = record { sends = appends; none = λ unfailed. refl; kept = λ kept. refl };
+            gave = gave;
+            begins = left_begins [] gave.emits (record { rest = output_left writer.emitter.page; parts = refl });
+          }
 
   -- nothing changes but properties of the next node
   stands_kept : (outlet : Outlet W) (base : ℕ) (before after : WriterState) → after.emitter ≡ before.emitter → after.canonical ≡ before.canonical
@@ -128,10 +128,10 @@ module _ {W : Type 0} (contents : W → Option (List ℕ)) (outside : Outside) w
       (ap (λ (w : WriterState). w.levels) is)
 
   -- an event more
-  stands_more : (outlet : Outlet W) (base : ℕ) (before after : WriterState) (event : Event) → IsWriterEvent event
-      → AddsEvents before.emitter (event ∷ []) after.emitter → after.canonical ≡ before.canonical
+  stands_more : (outlet : Outlet W) (base : ℕ) (before after : WriterState) (event : Event) {answer : Result (Unit {0}) yaml_error_t}
+      → IsWriterEvent event → Emits before.emitter (event ∷ []) answer after.emitter → after.canonical ≡ before.canonical
       → take (length outside.start.levels) after.levels ≡ outside.start.levels → StandsIn outlet base before → StandsIn outlet base after
-  stands_more outlet base before after event call adds canonical above stands =
+  stands_more outlet base before after event call emits canonical above stands =
       record {
         given = ∥∥₁_map stands.given more;
         kept = stands.kept;
@@ -146,15 +146,15 @@ module _ {W : Type 0} (contents : W → Option (List ℕ)) (outside : Outside) w
         taken = given.taken;
         more = given.more;
         handed = given.handed;
-        gave = gave_more outside.start.emitter given.taken before.emitter after.emitter event call adds given.gave;
-        begins = λ any all sent stood. prefix_then (given.begins any all sent stood) adds.grows.output;
+        gave = gave_more outside.start.emitter given.taken before.emitter after.emitter event call emits given.gave;
+        begins = prefix_then given.begins emits.grows.output;
       }
 
   gave_one : (outlet : Outlet W) (base : ℕ) (before inside after : WriterState) (event : Event) (answer : Result (Unit {0}) yaml_error_t) → IsWriterEvent event
       → inside.emitter ≡ before.emitter → inside.canonical ≡ before.canonical → take (length outside.start.levels) inside.levels ≡ outside.start.levels
       → GaveEvent inside event answer after → StandsIn outlet base before → StandsIn outlet base after
   gave_one outlet base before inside after event answer call emitter canonical above gave =
-      stands_more outlet base before after event call (subst (λ (e : State). AddsEvents e (event ∷ []) after.emitter) emitter (moves_add gave.moves))
+      stands_more outlet base before after event call (subst (λ (e : State). Emits e (event ∷ []) answer after.emitter) emitter gave.emits)
       (gave.canonical ∙ canonical)
       (ap (take (length outside.start.levels)) gave.levels ∙ above)
 
@@ -183,7 +183,7 @@ module _ {W : Type 0} (contents : W → Option (List ℕ)) (outside : Outside) w
       → EndsInnermost before answer after → StandsIn outlet base before → StandsIn outlet base after
   stands_end answer outlet base before after inner (inl none) stands = stands_same outlet base before after none.2 stands
   stands_end answer outlet base before after inner (inr ended) stands =
-      stands_more outlet base before after (end_event ended.kind) (end_call ended.kind) (moves_add ended.moves)
+      stands_more outlet base before after (end_event ended.kind) (end_call ended.kind) ended.emits
       (ap (λ (w : WriterState). w.canonical) ended.rest)
       (ap (λ (w : WriterState). take (length outside.start.levels) w.levels) ended.rest
       ∙ open_less outside.start.levels ended.outer ended.kind (omega (arith, inner, stands.base_is, ap length ended.levels))
@@ -245,7 +245,8 @@ module _ {W : Type 0} (contents : W → Option (List ℕ)) (outside : Outside) w
       handed given =
           let sends = sends_taken old before.emitter (ap has_failed is) given in
           let gave : GaveEvents outside.start.emitter (given.taken ++ left) after.emitter =
-          gave_taken outside.start.emitter given.taken left before.emitter after.emitter hands.takes (grows_taken before after hands.writer) given.gave in
+          subst (λ (w : WriterState). GaveEvents outside.start.emitter (given.taken ++ left) w.emitter) (sym hands.writer)
+          (gave_taken outside.start.emitter given.taken before.emitter given.gave) in
           record {
             taken = given.taken ++ left;
             more = [];
@@ -256,9 +257,7 @@ module _ {W : Type 0} (contents : W → Option (List ℕ)) (outside : Outside) w
               kept = λ kept. absurd (not_kept (sym (ap is_kept is_open) ∙ kept));
             };
             gave = gave;
-            begins = λ any all sent stood.
-                subst (λ (l : List ℕ). IsPrefix l after.emitter.page.output) (sym (append-nil (sent ++ (given.taken ++ left))))
-                (gave.stands any all sent stood).begins;
+            begins = left_begins [] gave.emits (record { rest = output_left after.emitter.page; parts = refl });
           }
 
   -- a beginning of what is left was handed on
@@ -287,9 +286,7 @@ module _ {W : Type 0} (contents : W → Option (List ℕ)) (outside : Outside) w
               kept = λ kept. absurd (not_kept (sym (failed_is_sent new.handing hands.fails) ∙ kept));
             };
             gave = given.gave;
-            begins = λ any all sent stood.
-                left_begins any (all ++ given.gave.events) (sent ++ given.taken) hands.sends.0 before.emitter (given.gave.stands any all sent stood)
-                hands.sends.1;
+            begins = left_begins hands.sends.0 given.gave.emits hands.sends.1;
           }
 
   -- bytes were handed on
@@ -354,28 +351,37 @@ module _ {W : Type 0} (contents : W → Option (List ℕ)) (outside : Outside) w
       ∥∥₁_map stands.given (λ gave. (gave.taken, sends_taken outlet writer.emitter unfailed gave, gave.gave))
 
   -- nothing more was handed on
-  pub sent_part : {outlet : Outlet W} {base : ℕ} {writer : WriterState} → StandsIn outlet base writer
+  pub sent_part : {outlet : Outlet W} {base : ℕ} {writer : WriterState} → IsPromised writer.emitter → StandsIn outlet base writer
       → SendsBeginning outside.held outside.start.emitter (contents outlet.sink.now)
-  sent_part {outlet} {base} {writer} stands given began = ∥∥₁_map stands.given part
+  sent_part {outlet} {base} {writer} promised stands opened untaken = ∥∥₁_map stands.given part
     where
+      given : Settings
+      given = outside.start.emitter.given
+
+      output : List ℕ
+      output = writer.emitter.page.output
+
       part : Given outlet writer.emitter
           → (bytes : List ℕ) × AppendsFirst outside.held (contents outlet.sink.now) bytes × ((bytes ≡ []) ⊎ (IsPartial given bytes ⊎ IsDocument given bytes))
       part gave =
-          let stood : StandsTaken given (opening ++ gave.gave.events) gave.taken writer.emitter = gave.gave.stands given opening [] began in (
-            writer.emitter.page.output,
-            (gave.taken ++ gave.more, gave.begins given opening [] began, gave.handed.sends),
+          let handed_on = gave.taken ++ gave.more in
+          let begins : IsPrefix handed_on output =
+          subst (λ (taken : List ℕ). IsPrefix ((taken ++ gave.taken) ++ gave.more) output) untaken gave.begins in (
+            output,
+            (handed_on, begins, gave.handed.sends),
             inr (inl (record {
               events = gave.gave.events;
               are = gave.gave.are;
               state = writer.emitter;
-              stands = stood.stands;
-              promised = promised given (opening ++ gave.gave.events) writer.emitter stood.stands;
+              settings = gave.gave.emits.given;
+              began = gave.gave.emits.appended ∙ ap (λ (before : List Event). before ++ gave.gave.events) opened;
+              promised = promised;
               output_is = refl;
             })),
           )
 
   -- all that was taken was handed on
-  pub sent_value : {outlet : Outlet W} {base : ℕ} {writer : WriterState} → has_failed outlet.handing ≡ false → StandsIn outlet base writer
-      → SentValue outside.held outside.start.emitter (contents outlet.sink.now) writer.emitter
-  sent_value {outlet} {base} {writer} unfailed stands =
-      record { whole = sent_events outlet base writer unfailed stands; first = sent_part stands }
+  pub sent_value : {outlet : Outlet W} {base : ℕ} {writer : WriterState} → has_failed outlet.handing ≡ false → IsPromised writer.emitter
+      → StandsIn outlet base writer → SentValue outside.held outside.start.emitter (contents outlet.sink.now) writer.emitter
+  sent_value {outlet} {base} {writer} unfailed promised stands =
+      record { whole = sent_events outlet base writer unfailed stands; first = sent_part promised stands }

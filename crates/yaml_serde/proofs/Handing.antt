@@ -1,9 +1,9 @@
 -- The bytes of a document that are handed on.
 use Rattle.yaml_serde.proofs.Common.{ℕ, Option, true, false, List, ◌++◌, refl, ◌≡◌, append_assoc, ap, subst, sym, ◌∙◌}
-use Rattle.yaml_serde.proofs.Common.{Appends, Err, Ok, OnOk, Result, Event, Settings, State, Grows, is_kept, WriterState, StandsTaken}
+use Rattle.yaml_serde.proofs.Common.{Appends, Err, Ok, OnOk, Result, Event, State, is_kept, WriterState}
 use Rattle.yaml_base.specs.Prefix.{IsPrefix}
-use Rattle.yaml_base.proofs.Prefixes.{prefix_itself}
-use Rattle.yaml_emitter.proofs.Common.{with_all_taken}
+use Rattle.std.proofs.Math.Path.{subst₂}
+use Rattle.yaml_emitter.{proofs.Common.with_all_taken, specs.State.bytes_taken}
 use Rattle.yaml_pen.specs.Page.{output_left}
 use Rattle.yaml_base.specs.Sinks.{AppendsFirst}
 use Rattle.yaml_serde.specs.Outlets.{HandsOn, has_failed}
@@ -16,7 +16,7 @@ use Rattle.yaml_serde.specs.declared.outlet.Outlet.{Outlet}
 use Rattle.std.specs.declared.io.Error as io
 use Rattle.yaml_serde.specs.declared.outlet.Handing.{Handing}
 use Rattle.yaml_serde.specs.declared.outlet.Handing.TheVariants.{Kept, Open, Failed}
-use Rattle.yaml_writer.proofs.Taken.{taken_and_left}
+use Rattle.yaml_writer.{proofs.Taken.taken_and_left, specs.WasGiven.EmitsTaking}
 use Rattle.std.proofs.KnownBytes.{Appends-trans}
 
 -- ---- known bytes
@@ -37,17 +37,11 @@ appends_first a b c x y whole first =
 -- ---- the output
 
 -- the bytes that were taken, and a beginning of the rest, begin the output
-pub left_begins : (given : Settings) (all : List Event) (sent first : List ℕ) (emitter : State) → StandsTaken given all sent emitter
-    → IsPrefix first (output_left emitter.page) → IsPrefix (sent ++ first) emitter.page.output
-left_begins given all sent first emitter stands is =
-    subst (IsPrefix (sent ++ first)) (taken_and_left given all sent emitter stands) (prefix_after sent first (output_left emitter.page) is)
-
--- bytes that are taken stay written
-pub grows_taken : (before after : WriterState) → after ≡ record before { emitter = with_all_taken before.emitter }
-    → Grows before.emitter.page after.emitter.page
-grows_taken before after rest =
-    subst (λ (writer : WriterState). Grows before.emitter.page writer.emitter.page) (sym rest)
-    (record { text = prefix_itself before.emitter.page.text; output = prefix_itself before.emitter.page.output })
+pub left_begins : {start emitter : State} {events : List Event} {taken : List ℕ} (first : List ℕ) → EmitsTaking start events taken emitter
+    → IsPrefix first (output_left emitter.page) → IsPrefix ((bytes_taken start ++ taken) ++ first) emitter.page.output
+left_begins {start} {emitter} {events} {taken} first emits is =
+    subst₂ (λ (before all : List ℕ). IsPrefix (before ++ first) all) emits.taken (taken_and_left emitter)
+    (prefix_after (bytes_taken emitter) first (output_left emitter.page) is)
 
 -- ---- whether a sink failed
 

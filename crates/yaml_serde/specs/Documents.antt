@@ -9,12 +9,12 @@ use Rattle.yaml_base.specs.values.JsonNumbers.{JsonNumber, is_json_number}
 use Rattle.yaml_base.specs.Settings.{Settings}
 use Rattle.yaml_base.specs.Sinks.{AppendsFirst}
 use Rattle.yaml_pen.specs.Wrote.{Grows}
-use Rattle.yaml_emitter.specs.Promises.{Promised}
-use Rattle.yaml_emitter.specs.StandsAfter.{StandsAfter}
+use Rattle.yaml_emitter.specs.Emits.{IsPromised}
 use Rattle.yaml_emitter.specs.State.{State}
 use Rattle.yaml_writer.specs.Binary.{bytes_event}
 use Rattle.yaml_writer.specs.Floats.{special_event}
-use Rattle.yaml_writer.specs.Writing.{WriterState, Gives, IsStream, StandsTaken, bool_event, closing, end_event, int_event, mapping_event, null_event}
+use Rattle.yaml_writer.specs.WasGiven.{EmitsTaking}
+use Rattle.yaml_writer.specs.Writing.{WriterState, Gives, IsStream, bool_event, closing, end_event, int_event, mapping_event, null_event}
 use Rattle.yaml_writer.specs.Writing.{number_event}
 use Rattle.yaml_writer.specs.Writing.{opening, sequence_event, text_event}
 use Rattle.yaml_writer.specs.declared.floats.SpecialFloat.{SpecialFloat}
@@ -52,8 +52,9 @@ pub record IsPartial (given : Settings) (output : List ℕ) : Type 0 where
   pub events : List Event
   pub are : All IsWriterEvent events
   pub state : State
-  pub stands : StandsAfter given (opening ++ events) state
-  pub promised : Promised given (opening ++ events) state
+  pub settings : state.given ≡ given
+  pub began : state.events ≡ opening ++ events
+  pub promised : IsPromised state
   pub output_is : output ≡ state.page.output
 
 -- the known bytes of a sink grow by a beginning of a document, or of what is written of one before its end; or by nothing
@@ -65,9 +66,7 @@ AppendsBeginning given before after =
 pub record GaveEvents (before : State) (bytes : List ℕ) (after : State) : Type 0 where
   pub events : List Event
   pub are : All IsWriterEvent events
-  pub stands :
-      (given : Settings) (all : List Event) (sent : List ℕ)
-      → StandsTaken given all sent before → StandsTaken given (all ++ events) (sent ++ bytes) after
+  pub emits : EmitsTaking before events bytes after
   pub grows : Grows before.page after.page
 
 -- an emitter was given the events of some calls more, and nothing more was taken

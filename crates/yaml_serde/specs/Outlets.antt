@@ -3,12 +3,10 @@ use Rattle.std.specs.Io.KnownBytes.{Appends}
 use Rattle.std.specs.Prelude.{◌≡◌, ℕ, Bool, true, false, Option, None, Result, Ok, Err, List, [], ◌++◌, length, take}
 use Rattle.std.specs.Borrow.{GName}
 use Rattle.yaml_base.specs.Prefix.{IsPrefix}
-use Rattle.yaml_base.specs.Settings.{Settings}
-use Rattle.yaml_base.specs.Event.{Event}
 use Rattle.yaml_pen.specs.Page.{output_left}
 use Rattle.yaml_base.specs.Sinks.{AppendsFirst}
-use Rattle.yaml_emitter.specs.State.{State, new_state, with_all_taken}
-use Rattle.yaml_writer.specs.Writing.{StandsTaken, WriterState, TakesBytes}
+use Rattle.yaml_emitter.specs.State.{State, bytes_taken, new_state, with_all_taken}
+use Rattle.yaml_writer.specs.Writing.{WriterState}
 use Rattle.yaml_serde.specs.Documents.{GaveEvents}
 use Rattle.yaml_serde.specs.declared.error.Error.{Error}
 use Rattle.yaml_serde.specs.declared.error.Cause.{Cause}
@@ -39,7 +37,6 @@ has_failed (Failed error) = true
 pub record HandsAll {W : Type 0} (contents : W → Option (List ℕ)) (old : Outlet W) (before : WriterState) (new : Outlet W)
     (after : WriterState) : Type 0 where
   pub sends : Appends (contents old.sink.now) (contents new.sink.now) (output_left before.emitter.page)
-  pub takes : TakesBytes before.emitter (output_left before.emitter.page) after.emitter
   pub writer : after ≡ record before { emitter = with_all_taken before.emitter }
   pub stays : new.handing ≡ old.handing
 
@@ -80,9 +77,7 @@ pub record GaveAndHandedOn {W : Type 0} (contents : W → Option (List ℕ)) (he
   pub more : List ℕ
   pub handed : Handed contents held outlet taken more
   pub gave : GaveEvents start taken emitter
-  pub begins :
-      (given : Settings) (all : List Event) (sent : List ℕ)
-      → StandsTaken given all sent start → IsPrefix ((sent ++ taken) ++ more) emitter.page.output
+  pub begins : IsPrefix ((bytes_taken start ++ taken) ++ more) emitter.page.output
 
 -- and so, whatever was given
 abbrev pub HasGiven : {W : Type 0} → (W → Option (List ℕ)) → Option (List ℕ) → State → Outlet W → State → Type 0

@@ -1,9 +1,8 @@
 -- The effects of calls that give a value to a writer, by their results.
 use Rattle.std.specs.Prelude.{◌≡◌, ℕ, false, Option, None, Result, Ok, Err, List, [], length, take}
-use Rattle.yaml_base.specs.Settings.{Settings}
 use Rattle.yaml_pen.specs.Wrote.{Grows}
-use Rattle.yaml_emitter.specs.State.{State}
-use Rattle.yaml_writer.specs.Writing.{StandsTaken, WriterState, awaits_node, opening}
+use Rattle.yaml_emitter.specs.State.{State, bytes_taken}
+use Rattle.yaml_writer.specs.Writing.{WriterState, awaits_node, opening}
 use Rattle.yaml_serde.specs.Documents.{AppendsBeginning, GivesEvents, SendsEvents}
 use Rattle.yaml_serde.specs.declared.error.Error.{Error}
 
@@ -29,9 +28,9 @@ GivesValue before (Err error) after = GavePart before after
 
 -- ---- a value that is handed on to a sink
 
--- if a document began in the emitter, the known bytes of the sink grow by a beginning of one
+-- if a document began in the emitter, and nothing was taken, the known bytes of the sink grow by a beginning of one
 abbrev pub SendsBeginning : Option (List ℕ) → State → Option (List ℕ) → Type 0
-SendsBeginning held before now = (given : Settings) → StandsTaken given opening [] before → AppendsBeginning given held now
+SendsBeginning held before now = before.events ≡ opening → bytes_taken before ≡ [] → AppendsBeginning before.given held now
 
 -- the sink was handed on what is taken of the emitter's output
 pub record SentValue (held : Option (List ℕ)) (before : State) (now : Option (List ℕ)) (after : State) : Type 0 where

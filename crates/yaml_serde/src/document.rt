@@ -110,6 +110,7 @@ impl<'w, 'a, G: Given, W: Write> Document<'w, 'a, G, W> {
     {
         let Document { writer, outlet, .. } = self;
         let Outlet { sink, handing } = outlet;
+        writer.promised();
         if let Handing::Failed(error) = handing {
             return (writer, sink, Err(Error::from(Cause::Sink(error))));
         }

@@ -1,5 +1,6 @@
 -- The answers of a writer's calls to the walk.
-use Rattle.yaml_toml.proofs.Common.{◌≡◌, ◌⊎◌, ◌∷◌, ◌++◌, [], List, Bool, Option, None, Some, Result, Ok, Err, IfErr, OnOk, inl, inr, refl, subst, sym, ◌∙◌, ap, ap₂}
+use Rattle.yaml_toml.proofs.Common.{◌≡◌, ◌⊎◌, ◌∷◌, ◌++◌, [], List, Bool, Option, None, Some, Result, Ok, Err, IfErr, OnOk, inl, inr, refl, subst, sym, ◌∙◌}
+use Rattle.yaml_toml.proofs.Common.{ap, ap₂}
 use Rattle.yaml_toml.proofs.Common.{append-nil, append_assoc, Event, State, WriterState, GaveEvent, WroteEvent, IsBare, end_event, EndsInnermost}
 use Rattle.yaml_toml.proofs.Common.{Text, Scalar, scalar, plain, is_none, is_some, ◌||◌}
 use Rattle.yaml_writer.proofs.GivenLemmas.{none_more, on_ok, same_last, text_is, wrote_event}
@@ -39,14 +40,14 @@ module _ (before after first : WriterState) (same : first.emitter ≡ before.emi
       → IfErr answer (λ error. GaveEvent first event (Err error) after ⊎ ((error ≡ Memory) × (after ≡ before))) → Answers before stated answer after
   answers_event (Ok done) gave failed =
       record {
-        grows = subst (λ (s : State). Grows s.page after.emitter.page) same gave.moves.grows;
-        sound = none_from_result after.emitter.error gave.moves.answered;
+        grows = subst (λ (s : State). Grows s.page after.emitter.page) same gave.emits.grows;
+        sound = none_from_result after.emitter.error gave.emits.answered;
         failed = tt;
       }
   answers_event (Err error) gave (inl given) =
-      let error_is = some_from_result after.emitter.error error given.moves.answered in
+      let error_is = some_from_result after.emitter.error error given.emits.answered in
       record {
-        grows = subst (λ (s : State). Grows s.page after.emitter.page) same given.moves.grows;
+        grows = subst (λ (s : State). Grows s.page after.emitter.page) same given.emits.grows;
         sound = inr error_is;
         failed = inr (record { gave = gave_stated (Err error) given; is_error = inr error_is });
       }
@@ -59,12 +60,12 @@ pub answers_end : (before after : WriterState) (answer : Result (Unit {0}) yaml_
     → before.levels ≡ outer ++ kind ∷ [] → IsBare before → EndsInnermost before answer after → Answers before (end_event kind) answer after
 answers_end before after answer outer kind levels bare (inl none) = absurd (none_more outer kind (sym levels ∙ none.0))
 answers_end before after (Ok done) outer kind levels bare (inr end) =
-    record { grows = end.moves.grows; sound = none_from_result after.emitter.error end.moves.answered; failed = tt }
+    record { grows = end.emits.grows; sound = none_from_result after.emitter.error end.emits.answered; failed = tt }
 answers_end before after (Err error) outer kind levels bare (inr end) =
     let same = same_last end.outer outer end.kind kind (sym end.levels ∙ levels) in
-    let error_is = some_from_result after.emitter.error error end.moves.answered in
+    let error_is = some_from_result after.emitter.error error end.emits.answered in
     record {
-      grows = end.moves.grows;
+      grows = end.emits.grows;
       sound = inr error_is;
       failed = inr (record {
         gave = gave_end outer kind before after (Err error) levels bare end same.1 same.0;

@@ -7,12 +7,12 @@ pub use Rattle.yaml_base.proofs.Common.{is_plain, if◌then◌else◌, and_parts
 pub use Rattle.yaml_base.proofs.Common.{Document, Documents, no_documents, documents_and, Stream, directives_in_force, has_scalar_texts, Settings, Effective}
 pub use Rattle.yaml_base.proofs.Common.{scalar_tag, collection_tag, scalar_node, Nodes, Pairs, no_nodes, nodes_and, no_pairs, pairs_and, resolved_by_11}
 pub use Rattle.yaml_base.proofs.Common.{open_count, begins_collection, list_all-append}
-pub use Rattle.std.proofs.lemmas.Bool.{cases_lt}
+pub use Rattle.std.proofs.{lemmas.Bool.cases_lt, Math.Path.subst₂}
 pub use Rattle.std.specs.Prelude.{IfSome, flat_map}
 pub use Rattle.yaml_base.proofs.stream_nodes.StreamAgrees.{node_tree}
 pub use Rattle.yaml_base.specs.Prefix.{IsPrefix}
 pub use Rattle.yaml_base.specs.values.TypedValues.{bool_tag, bool_text}
-pub use Rattle.yaml_writer.proofs.Common.{AddsEvents, Err, GaveEvent, IfErr, Ok, OnOk, Result, StandsTaken, State, WriterState, ap₂, end_event}
+pub use Rattle.yaml_writer.proofs.Common.{Err, GaveEvent, IfErr, Ok, OnOk, Result, State, WriterState, ap₂, end_event}
 pub use Rattle.yaml_writer.proofs.Common.{float_tag, fraction_or_default, int_tag, is_json_integer}
 pub use Rattle.yaml_writer.specs.Contents.{bool_content, collection_in, number_content, text_content, word_content}
 pub use Rattle.yaml_writer.specs.Means.{Schema}

@@ -1,25 +1,26 @@
 -- The streams of several documents of TOML, and their reading.
 use Rattle.yaml_toml.proofs.Common.{ℕ, flat_map, None, Some, Option, Bool, true, false, not, List, [], map, ◌++◌, ◌∷◌, refl, ◌≡◌, append-nil, append_assoc, ap}
 use Rattle.yaml_toml.proofs.Common.{subst, sym, ◌∙◌, and_from, not_from_false, list_any, list_all, unwrap_or, Event, Document, Documents, no_documents, Stream}
-use Rattle.yaml_toml.proofs.Common.{documents_and, directives_in_force, opening, closing, has_scalar_texts, IsAccepted, Settings, Effective, Tree, StandsTaken}
-use Rattle.yaml_toml.proofs.Common.{node_tree}
+use Rattle.yaml_toml.proofs.Common.{documents_and, directives_in_force, opening, closing, has_scalar_texts, IsAccepted, Settings, Effective, Tree}
+use Rattle.yaml_toml.proofs.Common.{State, ap₂, list_all-append, node_tree}
 use Rattle.yaml_base.proofs.Common.{stream_start, stream_end, document_end, document_events, documents_events, stream_events, and_right, or_from, option_map}
 use Rattle.yaml_base.proofs.Common.{tree_of, is_explicit, is_written_as_nothing, loses_document, document_has_flow_indicator, all_read_alike, reads_alike}
 use Rattle.yaml_base.proofs.Common.{documents_in_order, stream_trees, root_place, settings_for, DocumentTree}
 use Rattle.yaml_base.proofs.Trees.{tree_of-stream_events}
 use Rattle.yaml_base.proofs.{stream_documents.StreamWholeReads.document_trees, stream_nodes.StreamAgrees.document_tree}
 use Rattle.yaml_emitter.proofs.layouts.StreamsReadBack.{stream_found}
+use Rattle.yaml_writer.proofs.GivenAndTaken.{stream_finished}
 use Rattle.yaml_writer.proofs.WholeStreams.{IsWhole, stream_whole, whole_by_either}
-use Rattle.yaml_writer.specs.Means.{plain_document}
+use Rattle.yaml_writer.specs.{Means.plain_document, Writing.Finishes}
+use Rattle.yaml_emitter.specs.State.{bytes_taken}
 use Rattle.yaml_writer.proofs.Common.{plain_start}
 use Rattle.toml_ordered.specs.Data as toml
 use Rattle.yaml_toml.specs.Events.{toml_events}
 use Rattle.yaml_toml.specs.Means.{SchemaReader, by_11, by_core}
-use Rattle.yaml_toml.specs.Several.{AllTablesMean, AreDocuments, DocumentsAreRead, ReadsAsTables, several_events}
+use Rattle.yaml_toml.specs.Several.{AllTablesMean, AreDocuments, DocumentsAreRead, IsYamlOfSeveral, ReadsAsTables, several_events}
 use Rattle.yaml_toml.specs.Walk.{KeysHaveNumbers}
 use Rattle.yaml_toml.proofs.TomlTrees.{node_flat, root_of, toml_document, toml_node, value_unsigned}
 use Rattle.yaml_toml.proofs.TomlMeanings.{ReadsToml, node_means, toml_by_11, toml_by_core}
-use Rattle.yaml_toml.proofs.YamlOf.{texts_closed}
 
 -- ---- the stream
 
@@ -187,17 +188,23 @@ module _ (given : Settings) (in_flow : Bool) (part : List ℕ × toml.TomlNodes)
     means_by_core = trees_mean s in_flow by_core toml_by_core roots numbers;
   }
 
--- ---- the law
+-- the texts of all events of a stream, its end included
+texts_closed : (events : List Event) → list_all has_scalar_texts events ≡ true → list_all has_scalar_texts (events ++ closing) ≡ true
+texts_closed events texts =
+    list_all-append has_scalar_texts events closing
+    ∙ and_from (list_all has_scalar_texts events) (list_all has_scalar_texts closing) texts refl
 
-pub documents_read : DocumentsAreRead
-documents_read in_flow part rest was now taken each adds given sent bytes stands canonical finishes =
+-- an emitter that was given these documents was finished
+pub several_read : (given : Settings) (in_flow : Bool) (part : List ℕ × toml.TomlNodes) (rest : Parts) (emitter : State) (taken bytes : List ℕ)
+    → AreDocuments (part ∷ rest) → emitter.given ≡ given → emitter.events ≡ opening ++ several_events given.canonical in_flow (part ∷ rest)
+    → bytes_taken emitter ≡ taken → list_all has_scalar_texts emitter.events ≡ true → Finishes emitter bytes
+    → IsYamlOfSeveral given in_flow (part ∷ rest) (taken ++ bytes)
+several_read given in_flow part rest emitter taken bytes each set are were scalars finishes =
     let events = opening ++ several_events given.canonical in_flow (part ∷ rest) in
-    let stood = subst (λ (c : Bool). StandsTaken given (opening ++ several_events c in_flow (part ∷ rest)) (sent ++ taken) now.emitter) canonical
-    (adds given opening sent stands) in
-    let stream = finishes given events (sent ++ taken) stood in
-    let all = (sent ++ taken) ++ bytes in
+    let all = taken ++ bytes in
+    let stream = stream_finished emitter bytes set are were finishes in
     let numbers = have_numbers (part ∷ rest) each in
-    let texts = texts_closed events stood.stands.texts in
+    let texts = texts_closed events (subst (λ (e : List Event). list_all has_scalar_texts e ≡ true) are scalars) in
     let whole = stream_whole given (events ++ closing) all stream in
     record {
       stream = stream;
@@ -205,3 +212,11 @@ documents_read in_flow part rest was now taken each adds given sent bytes stands
       reads_with_either_breaks = λ portable breaks12. reads_as_tables (record given { breaks12 = breaks12 }) in_flow part rest all numbers texts stream.accepted
           (whole_by_either given breaks12 (events ++ closing) all portable whole);
     }
+
+-- ---- the law
+
+pub documents_read : DocumentsAreRead
+documents_read in_flow part rest was now taken bytes each emits opened canonical scalars finishes =
+    several_read was.emitter.given in_flow part rest now.emitter (bytes_taken was.emitter ++ taken) bytes each emits.given
+    (emits.appended ∙ ap₂ (λ (before : List Event) (c : Bool). before ++ several_events c in_flow (part ∷ rest)) opened canonical)
+    emits.taken scalars finishes

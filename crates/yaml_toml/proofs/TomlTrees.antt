@@ -1,13 +1,11 @@
 -- The tree of the events of a TOML document, which is written alike in every mode.
-use Rattle.yaml_toml.proofs.Common.{None, Some, Option, Bool, true, false, not, List, [], ◌++◌, ◌∷◌, ◌||◌, refl, ◌≡◌, append-nil, append_assoc, ap, sym, ◌∙◌}
-use Rattle.yaml_toml.proofs.Common.{chars, if◌then◌else◌, and_from, not_from_false, list_any, unwrap_or, Event, scalar, sequence_start, sequence_end, Nodes}
+use Rattle.yaml_toml.proofs.Common.{None, Some, Option, Bool, true, false, List, [], ◌++◌, ◌∷◌, ◌||◌, refl, ◌≡◌, append-nil, append_assoc, ap, sym, ◌∙◌}
+use Rattle.yaml_toml.proofs.Common.{chars, if◌then◌else◌, Event, scalar, sequence_start, sequence_end, Nodes}
 use Rattle.yaml_toml.proofs.Common.{mapping_start, mapping_end, scalar_node, Pairs, no_nodes, nodes_and, no_pairs, pairs_and, Document, no_documents, Stream}
 use Rattle.yaml_toml.proofs.Common.{documents_and, collection_tag, directives_in_force, text_content, bool_content, collection_in, opening, closing, Text}
 use Rattle.yaml_toml.proofs.Common.{bool_tag, bool_text, int_tag, float_tag, number_tag, number_in, yaml_number, is_json_integer, word_content}
 use Rattle.yaml_base.proofs.Common.{stream_start, stream_end, document_end, Node, sequence_node, mapping_node, node_events, nodes_events, pairs_events}
-use Rattle.yaml_base.proofs.Common.{stream_events, and_right, or_from, option_map, tree_of, is_explicit, is_written_as_nothing, loses_document}
-use Rattle.yaml_base.proofs.Common.{document_has_flow_indicator, all_read_alike, reads_alike, documents_in_order}
-use Rattle.yaml_base.proofs.Trees.{tree_of-stream_events}
+use Rattle.yaml_base.proofs.Common.{stream_events, or_from}
 use Rattle.yaml_base.specs.StreamLaw.{tag_has_flow_indicator, node_has_flow_indicator, nodes_have_flow_indicator, pairs_have_flow_indicator}
 use Rattle.yaml_writer.proofs.Common.{plain_start}
 use Rattle.yaml_writer.specs.Floats.{special_text}
@@ -207,27 +205,3 @@ mutual
       (node_has_flow_indicator canonical (directives_in_force []) (toml_node x canonical in_flow)) (value_unsigned x canonical in_flow)
       ∙ no_more (pairs_have_flow_indicator canonical (directives_in_force []) before) (node_has_flow_indicator canonical (directives_in_force []) named)
       (text_unsigned (chars key) canonical)
-
--- in portable mode or not
-pub portable_events : (portable canonical in_flow : Bool) (keys : toml.TomlNodes) → reads_alike portable canonical (all_events keys canonical in_flow) ≡ true
-portable_events true canonical in_flow keys = refl
-portable_events false canonical in_flow keys =
-    ap (λ (tree : Option Stream). unwrap_or (option_map (λ stream. all_read_alike canonical (documents_in_order stream.documents)) tree) false) found
-    ∙ and_from (not (loses_document canonical documents)) (not (list_any (document_has_flow_indicator canonical) documents))
-    (not_from_false (loses_document canonical documents) kept)
-    (not_from_false (list_any (document_has_flow_indicator canonical) documents) unsigned)
-  where
-    document : Document
-    document = toml_document keys canonical in_flow
-
-    documents : List Document
-    documents = documents_in_order (documents_and no_documents document)
-
-    found : tree_of (all_events keys canonical in_flow) ≡ Some (toml_stream keys canonical in_flow)
-    found = ap tree_of (sym (stream_flat keys canonical in_flow)) ∙ tree_of-stream_events (toml_stream keys canonical in_flow)
-
-    kept : loses_document canonical (document ∷ []) ≡ false
-    kept = and_right (not (is_explicit canonical true document.start)) (is_written_as_nothing canonical document.root) refl
-
-    unsigned : list_any (document_has_flow_indicator canonical) (document ∷ []) ≡ false
-    unsigned = or_from (document_has_flow_indicator canonical document) false (value_unsigned (root_of keys) canonical in_flow) refl

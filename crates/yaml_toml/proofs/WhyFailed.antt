@@ -1,7 +1,7 @@
 -- The reasons why a writer failed that was given the events of a document.
 use Rattle.yaml_toml.proofs.Common.{ℕ, ◌+◌, ◌≤◌, ◌<◌, Option, None, Some, Bool, true, List, [], ◌++◌, ◌∷◌, refl, ◌≡◌, append-nil, append_assoc, inl, inr, ap}
 use Rattle.yaml_toml.proofs.Common.{subst, sym, ◌∙◌, arith, cond, unwrap_or, IfSome, Event, IsPrefix, Settings, State, WriterState, most_open, list_all, Stream}
-use Rattle.yaml_toml.proofs.Common.{is_sound, open_count, begins_collection, opening, closing, StandsTaken}
+use Rattle.yaml_toml.proofs.Common.{is_sound, open_count, begins_collection, opening, closing, subst₂}
 use Rattle.yaml_base.proofs.Common.{stream_start, stream_events, sum_by-append, count_by, ends_collection}
 use Rattle.yaml_base.specs.declared.errors.{yaml_error_t.yaml_error_t, yaml_error_t.TheVariants.Memory, yaml_error_t.TheVariants.WriteError}
 use Rattle.yaml_base.specs.declared.errors.{yaml_error_t.TheVariants.TooDeep}
@@ -11,7 +11,8 @@ use Rattle.yaml_writer.specs.Failing.{HasErrorSaid}
 use Rattle.yaml_writer.proofs.Common.{plain_start}
 use Rattle.yaml_writer.proofs.WhyFailed.{NeverPasses, fails_by, first_passes, overflowed_more, refused_deeper, refused_depth, unfinished_deeper}
 use Rattle.yaml_writer.proofs.WhyFailed.{unfinished_depth}
-use Rattle.yaml_writer.specs.Unfinished.{IsUnfinished, PassesLimit}
+use Rattle.yaml_writer.specs.Unfinished.{IsNoStream, IsUnfinished, PassesLimit}
+use Rattle.yaml_writer.specs.Writing.{IsNewWriter}
 use Rattle.toml_ordered.specs.Data as toml
 use Rattle.toml_ordered.specs.Grammar.{ordered_document}
 use Rattle.yaml_toml.specs.Depth.{NestsDeeper, NestsWithin, document_nesting}
@@ -24,8 +25,8 @@ use Rattle.yaml_toml.specs.declared.error.TomlError.{TomlError}
 use Rattle.yaml_toml.specs.declared.error.TomlError.TheVariants as errors
 use Rattle.yaml_toml.proofs.Accepting.{document_shallow, stream_shallow, stream_sound, toml_accepted}
 use Rattle.yaml_toml.proofs.TomlTrees.{all_events, root_of, stream_flat, toml_stream}
+use Rattle.yaml_toml.proofs.YamlOf.{new_events}
 use Rattle.yaml_writer.proofs.OpenLevels.{gave_none}
-use Rattle.yaml_writer.proofs.Taken.{moves_taken}
 use Rattle.yaml_writer.specs.WasGiven.{IsBare}
 
 -- the beginning of a stream opens nothing
@@ -73,8 +74,11 @@ module _ (given : Settings) (in_flow : Bool) (depth : ℕ) (text : List ℕ) (ro
 
   -- ---- an emitter that failed after the first of its events
 
-  module _ (first : List Event) (begins : IsPrefix first events) (few : NeverPasses depth first)
-      (state : State) (stands : StandsAfter given (opening ++ first) state) (error : yaml_error_t) (is : state.error ≡ Some error) where
+  module _ (first : List Event) (begins : IsPrefix first events) (few : NeverPasses depth first) (state : State) (set : state.given ≡ given)
+      (are : state.events ≡ opening ++ first) (own : StandsAfter state.given state.events state) (error : yaml_error_t) (is : state.error ≡ Some error) where
+    stands : StandsAfter given (opening ++ first) state
+    stands = subst₂ (λ (g : Settings) (e : List Event). StandsAfter g e state) set are own
+
     abbrev later : List Event
     later = begins.rest ++ closing
 
@@ -106,14 +110,15 @@ module _ (given : Settings) (in_flow : Bool) (depth : ℕ) (text : List ℕ) (ro
 
   -- ---- a stream that couldn't be finished
 
-  module _ (fits : document_nesting root ≤ depth) (state : State) (stands : StandsAfter given (opening ++ events) state) (error : yaml_error_t)
-      (unfinished : IsUnfinished state error) where
+  module _ (fits : document_nesting root ≤ depth) (state : State) (set : state.given ≡ given) (are : state.events ≡ opening ++ events)
+      (own : StandsAfter state.given state.events state) (error : yaml_error_t) (unfinished : IsUnfinished state error) where
     full_unfinished : error ≡ WriteError → DocumentOverLimit given in_flow text
-    full_unfinished same = over_limit (unfinished.full same given (opening ++ events) stands)
+    full_unfinished same = over_limit (subst₂ (λ (g : Settings) (e : List Event). PassesLimit g (e ++ closing)) set are (unfinished.full same))
 
     not_accepted : IsRefusal error → (error ≡ TooDeep) × ((most_open < depth) × NestsDeeper most_open text)
     not_accepted refusal =
-        let none = unfinished.refused refusal given (opening ++ events) stands in
+        let none : IsNoStream given.canonical all error =
+        subst₂ (λ (g : Settings) (e : List Event). IsNoStream g.canonical (e ++ closing) error) set are (unfinished.refused refusal) in
         let deeper = unfinished_deeper given all tree flat in_order error none (document_nesting root) shallow in (
           unfinished_depth given all tree flat in_order error none,
           (omega (arith, deeper, fits), record { root = root; read = read; deeper = deeper }),
@@ -122,7 +127,7 @@ module _ (given : Settings) (in_flow : Bool) (depth : ℕ) (text : List ℕ) (ro
     by_error : (found : Option yaml_error_t) → state.error ≡ found → TomlFailsBy given in_flow depth text error
     by_error None none = fails_by depth (DocumentOverLimit given in_flow text) (NestsDeeper most_open text) error full_unfinished not_accepted
     by_error (Some earlier) some =
-        failed_after events (record { rest = []; parts = append-nil events }) (document_shallow given.canonical in_flow depth root fits) state stands error
+        failed_after events (record { rest = []; parts = append-nil events }) (document_shallow given.canonical in_flow depth root fits) state set are own error
         (some ∙ ap (λ (e : yaml_error_t). Some e) (sym (unfinished.first earlier some)))
 
     pub unfinished_by : TomlFailsBy given in_flow depth text error
@@ -174,14 +179,15 @@ module _ (depth : ℕ) (in_flow : Bool) (text : List ℕ) (was : WriterState) (e
 
 -- ---- the writer of a text
 
-module _ (given : Settings) (in_flow : Bool) (depth : ℕ) (text : List ℕ) (first now : WriterState) (stands : StandsTaken given opening [] first.emitter)
-    (canonical : first.canonical ≡ given.canonical) where
+module _ (given : Settings) (in_flow : Bool) (depth : ℕ) (text : List ℕ) (first now : WriterState) (new : IsNewWriter given first)
+    (own : StandsAfter now.emitter.given now.emitter.events now.emitter) where
   by_code : (code : yaml_error_t) → StopsInDocument depth in_flow text first (errors.Emitter code) now → (found : Option toml.TomlNodes)
       → ordered_document text ≡ found → now.emitter.error ≡ Some code → TomlFailsBy given in_flow depth text code
   by_code code stops None none is = inl (stops.none none).1
   by_code code stops (Some root) read is =
-      let gave = subst (λ (c : Bool). GaveFirst depth (toml_events c in_flow (root_of root)) first now) canonical (stops.first root read) in
-      failed_after given in_flow depth text root read gave.given gave.begins gave.few now.emitter (moves_taken gave.gave.adds given opening [] stands).stands code is
+      let gave = subst (λ (c : Bool). GaveFirst depth (toml_events c in_flow (root_of root)) first now) new.canonical (stops.first root read) in
+      failed_after given in_flow depth text root read gave.given gave.begins gave.few now.emitter (gave.gave.emits.set.given ∙ new.settings)
+      (gave.gave.emits.set.events ∙ ap (λ (before : List Event). before ++ gave.given) new.events) own code is
 
   said : (code : yaml_error_t) → StopsInDocument depth in_flow text first (errors.Emitter code) now → HasErrorSaid first (Some code) now
       → TomlFailsBy given in_flow depth text code
@@ -199,8 +205,8 @@ module _ (given : Settings) (in_flow : Bool) (depth : ℕ) (text : List ℕ) (fi
   pub finish_failed : WroteToml in_flow text first now → NestsWithin depth text → (error : yaml_error_t) → IsUnfinished now.emitter error
       → TomlFailsBy given in_flow depth text error
   finish_failed wrote nests error unfinished =
-      let stood = subst (λ (c : Bool). StandsTaken given (opening ++ toml_events c in_flow (root_of wrote.root)) [] now.emitter) canonical
-      (moves_taken wrote.wrote.adds given opening [] stands) in
+      let emits = wrote.wrote.emits in
       let fits = subst (λ (root : toml.TomlNodes). document_nesting root ≤ depth)
       (same_root nests.root wrote.root (sym nests.read ∙ wrote.read)) nests.within in
-      unfinished_by given in_flow depth text wrote.root wrote.read fits now.emitter stood.stands error unfinished
+      unfinished_by given in_flow depth text wrote.root wrote.read fits now.emitter (emits.set.given ∙ new.settings)
+      (new_events given in_flow wrote.root first now new emits) own error unfinished

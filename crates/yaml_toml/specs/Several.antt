@@ -1,15 +1,18 @@
 -- Several documents of TOML in one stream, and their reading.
 use Rattle.std.specs.Prelude.{◌≡◌, ℕ, Bool, true, Some, List, [], ◌∷◌, ◌++◌, map}
+use Rattle.std.specs.List.{list_all}
 use Rattle.toml_ordered.specs.Data.{TomlNodes, table}
 use Rattle.toml_ordered.specs.Grammar.{ordered_document}
 use Rattle.toml_ordered.specs.declared.tree.Origin.TheVariants.{Header}
 use Rattle.yaml_base.specs.Event.{Event}
+use Rattle.yaml_base.specs.Meaning.{has_scalar_texts}
 use Rattle.yaml_base.specs.Settings.{Settings}
 use Rattle.yaml_base.specs.streams.StreamContent.{Tree}
 use Rattle.yaml_base.specs.streams.StreamReader.{stream_trees}
-use Rattle.yaml_writer.specs.WasGiven.{between, AddsTaking}
+use Rattle.yaml_emitter.specs.State.{bytes_taken}
+use Rattle.yaml_writer.specs.WasGiven.{between, EmitsTaking}
 use Rattle.yaml_writer.specs.Means.{plain_document}
-use Rattle.yaml_writer.specs.Writing.{Finishes, IsStream, StandsTaken, WriterState, closing, opening}
+use Rattle.yaml_writer.specs.Writing.{Finishes, IsStream, WriterState, closing, opening}
 use Rattle.yaml_toml.specs.Events.{toml_events}
 use Rattle.yaml_toml.specs.Walk.{KeysHaveNumbers}
 use Rattle.yaml_toml.specs.Means.{MeansToml, SchemaReader, by_11, by_core}
@@ -48,10 +51,11 @@ pub record IsYamlOfSeveral (given : Settings) (in_flow : Bool) (parts : List (Li
   pub reads_with_either_breaks : given.portable ≡ true → (breaks12 : Bool) → ReadsAsTables breaks12 bytes (map (λ part. part.1) parts)
 
 -- If a writer was at the start of its first document, was given the documents of some texts, one at least, and these bytes were taken
--- meanwhile, then the stream that it finishes, the taken bytes first, is read as their tables, in order.
+-- meanwhile, then the stream that it finishes, all taken bytes first, is read as their tables, in order. `Writer::promised` states that
+-- the texts of its events are those of strings.
 abbrev pub DocumentsAreRead : Type 0
 DocumentsAreRead =
-    (in_flow : Bool) (part : List ℕ × TomlNodes) (rest : List (List ℕ × TomlNodes)) (was now : WriterState) (taken : List ℕ)
-    → AreDocuments (part ∷ rest) → AddsTaking was.emitter (several_events was.canonical in_flow (part ∷ rest)) taken now.emitter
-    → (given : Settings) (sent bytes : List ℕ) → StandsTaken given opening sent was.emitter → was.canonical ≡ given.canonical → Finishes now.emitter bytes
-    → IsYamlOfSeveral given in_flow (part ∷ rest) ((sent ++ taken) ++ bytes)
+    (in_flow : Bool) (part : List ℕ × TomlNodes) (rest : List (List ℕ × TomlNodes)) (was now : WriterState) (taken bytes : List ℕ)
+    → AreDocuments (part ∷ rest) → EmitsTaking was.emitter (several_events was.canonical in_flow (part ∷ rest)) taken now.emitter
+    → was.emitter.events ≡ opening → was.canonical ≡ was.emitter.given.canonical → list_all has_scalar_texts now.emitter.events ≡ true
+    → Finishes now.emitter bytes → IsYamlOfSeveral was.emitter.given in_flow (part ∷ rest) ((bytes_taken was.emitter ++ taken) ++ bytes)

@@ -105,8 +105,10 @@ pub fn yaml_from_toml(
         return Err(TomlError::Emitter(yaml_error_t::Memory));
     };
     if let Err(error) = write_toml(alloc, &mut writer, text, settings) {
+        writer.promised();
         return Err(error);
     }
+    writer.promised();
     match writer.finish() {
         Ok(bytes) => Ok(bytes),
         Err(error) => Err(TomlError::Emitter(error)),

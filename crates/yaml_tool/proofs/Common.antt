@@ -3,7 +3,7 @@ pub use Rattle.yaml_base.proofs.Common.{suc, ℕ, ◌*◌, ◌+◌, ◌-◌, ◌
 pub use Rattle.yaml_base.proofs.Common.{take, Bool, false, true, ◌||◌, List, [], map, ◌++◌, ◌∷◌, refl, ◌≡◌, length-append, append-nil, append_assoc, ap}
 pub use Rattle.yaml_base.proofs.Common.{subst, sym, ◌∙◌, arith, nat_tests, map-append, list_any-append, digit_value, list_any, onto_first, chars}
 pub use Rattle.yaml_base.proofs.Common.{encode_utf8_all, Text, line_feed, Event, Settings}
-pub use Rattle.yaml_emitter.proofs.Common.{StandsAfter, State}
+pub use Rattle.yaml_emitter.proofs.Common.{State}
 pub use Rattle.std.{proofs.Common.add-one, proofs.Common.take-append-drop, proofs.lemmas.Option.MatchOption-at_some, specs.Char.encode_utf8}
 pub use Rattle.std.{specs.Io.KnownBytes.Appends, specs.Prelude.Err, specs.Prelude.Result, specs.Prelude.IfSome, specs.Result.IfErr, specs.Str.IsUtf8}
 pub use Rattle.std.{specs.Str.bytes_eq, specs.String.string_bytes, specs.Vec.Iter.into_iter_items}

@@ -1,17 +1,15 @@
 -- The events of a script given to an emitter, one after another.
 use Rattle.yaml_tool.proofs.Common.{ℕ, IfSome, Option, None, Some, List, [], map, ◌++◌, ◌∷◌, refl, ◌≡◌, append_assoc, ap, subst, sym, ◌∙◌, map-append, Appends}
-use Rattle.yaml_tool.proofs.Common.{seen_event, Settings, Numbered, Script, understood, script_of, IsFault, StandsAfter, State}
-use Rattle.yaml_tool.proofs.Common.{events_in, RefusesAt, LastLine, seen_numbered}
+use Rattle.yaml_tool.proofs.Common.{seen_event, Event, Settings, Numbered, Script, understood, script_of, IsFault, State}
+use Rattle.yaml_tool.proofs.Common.{events_in, RefusesAt, LastLine, Result, Err, append-nil, seen_numbered}
 use Rattle.yaml_base.proofs.Common.{inr}
-use Rattle.std.specs.Prelude.{Err}
-use Rattle.yaml_emitter.proofs.Common.{Promised}
 use Rattle.std.specs.Io.KnownBytes.{Keeps}
 use Rattle.yaml_base.specs.scripts.Script.{bad_line}
 use Rattle.yaml_base.specs.declared.errors.yaml_error_t.{yaml_error_t}
 use Rattle.yaml_emitter.{proofs.standing.KeptDocuments.documents_without_error, proofs.standing.KeptDocuments.documents_stay, specs.Promises.HasAllBytes}
-use Rattle.yaml_emitter.{proofs.standing.Moving.moved_nowhere, specs.Moves.Moves}
+use Rattle.yaml_emitter.specs.{Emits.Emits, Emits.IsPromised, State.new_state_with, StaysFlushed.KeepsDocuments}
 use Rattle.yaml_pen.proofs.Writing.{none_from_result}
-use Rattle.yaml_tool.specs.Runs.{EmitsScript, Emits, AnswersEvents, AnswersScript, WritesNothing, EndsOnLine, FlushesLast}
+use Rattle.yaml_tool.specs.Runs.{EmitsScript, FailsAfter, IsAfter, RunsTo, AnswersEvents, AnswersScript, WritesNothing, EndsOnLine, FlushesLast}
 use Rattle.yaml_tool.specs.declared.{answers.run_answer_t.run_answer_t, scripts.NumberedEvent.NumberedEvent}
 use Rattle.yaml_tool.specs.declared.answers.run_answer_t.TheVariants.{BadLine, Done, NoMemory, ReadFailed, Refused, WriteFailed}
 
@@ -70,98 +68,92 @@ pub ends_more : {A : Type 0} (given : List (NumberedEvent A)) (next : NumberedEv
 ends_more given next =
     record { before = map seen_numbered given; event = seen_event next.event; parts = sym (map-append seen_numbered given (next ∷ [])) }
 
--- the call that was given an event failed
-pub refused_at : {A : Type 0} (set : Settings) (given : List (NumberedEvent A)) (next : NumberedEvent A) (rest left all : List (NumberedEvent A))
-    (error : yaml_error_t) (earlier state : State)
-    → given ++ left ≡ all → left ≡ next ∷ rest → earlier.error ≡ None → StandsAfter set (events_in (map seen_numbered given)) earlier
-    → Promised set (events_in (map seen_numbered given)) earlier → Moves earlier (seen_event next.event ∷ []) (Err error) state
-    → Promised set (events_in (map seen_numbered given) ++ seen_event next.event ∷ []) state
-    → RefusesAt set (map seen_numbered all) next.line error state
-refused_at set given next rest left all error earlier state parts is none stood promised moved kept =
+-- an emitter that had no event before these
+pub is_after : {first now : State} {all : List Numbered} {answer : Result (Unit {0}) yaml_error_t} → first.events ≡ []
+    → Emits first (events_in all) answer now → IsPromised now → IsAfter first.given all now
+is_after {first} {now} {all} none emits promised =
+    record { set = emits.set.given; events = emits.set.events ∙ ap (λ (l : List Event). l ++ events_in all) none; promised = promised }
+
+-- the first call that failed
+pub fails_after : {set : Settings} {all : List Numbered} {events : List Event} {error : yaml_error_t} {earlier state : State} → IsAfter set all earlier
+    → earlier.error ≡ None → Emits earlier events (Err error) state → IsPromised state → FailsAfter set all events error state
+fails_after {set} {all} {events} {error} {earlier} {state} after none emits promised =
+    record {
+      earlier = earlier;
+      after = after;
+      no_error = none;
+      emits = emits;
+      promised = promised;
+      documents =
+          subst (λ (given : Settings). KeepsDocuments given (events_in all) state.page.output) after.set
+          (subst (λ (given : List Event). KeepsDocuments earlier.given given state.page.output) after.events
+          (documents_stay earlier.given earlier.events earlier.page.output state.page.output
+          (documents_without_error earlier.given earlier.events earlier after.promised none) emits.grows.output));
+    }
+
+pub refused_at : {A : Type 0} {set : Settings} {error : yaml_error_t} {state : State} (given : List (NumberedEvent A)) (next : NumberedEvent A)
+    (rest left all : List (NumberedEvent A)) → given ++ left ≡ all → left ≡ next ∷ rest
+    → FailsAfter set (map seen_numbered given) (seen_event next.event ∷ []) error state → RefusesAt set (map seen_numbered all) next.line error state
+refused_at given next rest left all parts is fails =
     record {
       before = map seen_numbered given;
       event = seen_event next.event;
       later = map seen_numbered rest;
       parts = sym (map-append seen_numbered given (next ∷ rest)) ∙ ap (λ left. map seen_numbered (given ++ left)) (sym is) ∙ ap (map seen_numbered) parts;
-      earlier = earlier;
-      stood = stood;
-      no_error = none;
-      moved = moved;
-      promised = kept;
-      documents =
-          documents_stay set (events_in (map seen_numbered given)) earlier.page.output state.page.output
-          (documents_without_error set (events_in (map seen_numbered given)) earlier promised none) moved.grows.output;
+      fails = fails;
     }
-
--- the last flush
-pub flushed_last : (set : Settings) (all : List Numbered) (line : ℕ) (answer : run_answer_t) (before after : State) → StandsAfter set (events_in all) before
-    → Promised set (events_in all) before → before.error ≡ None → EndsOnLine all line
-    → FlushesLast line before answer after → Emits set all answer after
-flushed_last set all line Done before after stood promised none ends h =
-    let stands = moved_nowhere h.0 set (events_in all) stood in
-    record {
-      stands = stands.0;
-      promised = stands.1;
-      no_error = none_from_result after.error h.0.answered;
-      flushed_whole = h.1 set (events_in all) stood;
-    }
-flushed_last set all line (Refused reported error) before after stood promised none ends h =
-    inr
-    (record {
-      before = ends.before;
-      event = ends.event;
-      parts =
-          ap (λ line. let last : Numbered = record { line = line; event = ends.event } in ends.before ++ last ∷ []) h.0 ∙ ends.parts;
-      earlier = before;
-      stood = stood;
-      no_error = none;
-      moved = h.1;
-      promised = (moved_nowhere h.1 set (events_in all) stood).1;
-      documents =
-          documents_stay set (events_in all) before.page.output after.page.output (documents_without_error set (events_in all) before promised none)
-          h.1.grows.output;
-      unflushed = h.2;
-    })
-flushed_last set all line (BadLine number) before after stood promised none ends h = h
-flushed_last set all line ReadFailed before after stood promised none ends h = h
-flushed_last set all line WriteFailed before after stood promised none ends h = h
-flushed_last set all line NoMemory before after stood promised none ends h = h
 
 -- the end of all events
-pub ended_with : (set : Settings) (all : List Numbered) (line : ℕ) (last : Option ℕ) (answer : run_answer_t) (before after : State) → last ≡ Some line
-    → StandsAfter set (events_in all) before → Promised set (events_in all) before → before.error ≡ None
-    → LastLine all last before → FlushesLast line before answer after → Emits set all answer after
-ended_with set all line None answer before after is stood promised none ends h = cc
-ended_with set all line (Some other) answer before after is stood promised none ends h =
-    let same : other ≡ line = cc in
-    flushed_last set all line answer before after stood promised none (subst (EndsOnLine all) same ends) h
-
-pub ended_without : (set : Settings) (all : List Numbered) (last : Option ℕ) (state : State) → last ≡ None → StandsAfter set (events_in all) state
-    → Promised set (events_in all) state → state.error ≡ None → LastLine all last state → EmitsScript set all state
-ended_without set all None state is stands kept none ends =
+pub ended : (set : Settings) (all : List Numbered) (last : Option ℕ) (answer : run_answer_t) (before after : State) → IsAfter set all before
+    → before.error ≡ None → LastLine all last before → IsPromised after → FlushesLast last before answer after → RunsTo set all answer after
+unfolding fails_after
+ended set all None answer before after was none ends promised h =
+    let done : EmitsScript set all before =
     record {
-      stands = stands;
-      promised = kept;
+      after = was;
       no_error = none;
-      flushed_whole = subst (λ all. HasAllBytes set (events_in all) state) (sym ends.0) ends.1;
+      flushed_whole = subst (λ (events : List Event). HasAllBytes before.given events before) (sym (was.events ∙ ap events_in ends.0)) ends.1;
     }
-ended_without set all (Some line) state is stands kept none ends = cc
+    in
+    subst (λ (a : run_answer_t). RunsTo set all a after) (sym h.0) (subst (EmitsScript set all) (sym h.1) done)
+ended set all (Some line) Done before after was none ends promised h =
+    record {
+      after = record {
+        set = h.0.set.given ∙ was.set;
+        events = h.0.set.events ∙ append-nil before.events ∙ was.events;
+        promised = promised;
+      };
+      no_error = none_from_result after.error h.0.answered;
+      flushed_whole = h.1;
+    }
+ended set all (Some line) (Refused reported error) before after was none ends promised h =
+    inr (record { ends = subst (EndsOnLine all) (sym h.0) ends; fails = fails_after was none h.1 promised; unflushed = h.2 })
+ended set all (Some line) (BadLine number) before after was none ends promised h = h
+ended set all (Some line) ReadFailed before after was none ends promised h = h
+ended set all (Some line) WriteFailed before after was none ends promised h = h
+ended set all (Some line) NoMemory before after was none ends promised h = h
+
+-- a run of a new emitter
+pub runs_new : (set : Settings) (all : List Numbered) (answer : run_answer_t) (first after : State) → first ≡ new_state_with set
+    → (first.events ≡ [] → RunsTo first.given all answer after) → RunsTo set all answer after
+runs_new set all answer first after new runs =
+    subst (λ (given : Settings). RunsTo given all answer after) (ap (λ (s : State). s.given) new) (runs (ap (λ (s : State). s.events) new))
 
 -- the answer if the output was written, or couldn't be
-pub returned_answer : (set : Settings) (all : List Numbered) (answer : run_answer_t) (state : State) (old new : Option (List ℕ)) → Emits set all answer state
+pub returned_answer : (set : Settings) (all : List Numbered) (answer : run_answer_t) (state : State) (old new : Option (List ℕ)) → RunsTo set all answer state
     → Appends old new state.page.output → AnswersEvents set all answer old new
-returned_answer set all Done state old new emits appends = (state, emits, appends)
-returned_answer set all (Refused line error) state old new emits appends = (state, emits, appends)
-returned_answer set all (BadLine line) state old new emits appends = emits
-returned_answer set all ReadFailed state old new emits appends = tt
-returned_answer set all WriteFailed state old new emits appends = absurd emits
-returned_answer set all NoMemory state old new emits appends = tt
+returned_answer set all Done state old new runs appends = (state, runs, appends)
+returned_answer set all (Refused line error) state old new runs appends = (state, runs, appends)
+returned_answer set all (BadLine line) state old new runs appends = runs
+returned_answer set all ReadFailed state old new runs appends = tt
+returned_answer set all WriteFailed state old new runs appends = absurd runs
+returned_answer set all NoMemory state old new runs appends = tt
 
-pub silent_only : (set : Settings) (all : List Numbered) (answer : run_answer_t) (state : State) (old new : Option (List ℕ)) → Emits set all answer state
+pub silent_only : (set : Settings) (all : List Numbered) (answer : run_answer_t) (state : State) (old new : Option (List ℕ)) → RunsTo set all answer state
     → WritesNothing answer old new
-silent_only set all Done state old new emits = tt
-silent_only set all (Refused line error) state old new emits = tt
-silent_only set all (BadLine line) state old new emits = absurd emits
-silent_only set all ReadFailed state old new emits = absurd emits
-silent_only set all WriteFailed state old new emits = tt
-silent_only set all NoMemory state old new emits = absurd emits
+silent_only set all Done state old new runs = tt
+silent_only set all (Refused line error) state old new runs = tt
+silent_only set all (BadLine line) state old new runs = absurd runs
+silent_only set all ReadFailed state old new runs = absurd runs
+silent_only set all WriteFailed state old new runs = tt
+silent_only set all NoMemory state old new runs = absurd runs

@@ -1,9 +1,7 @@
 //! A whole run: reads a script, emits its events, and writes the output.
 ghost use Rattle.std.specs.Prelude.{◌≡◌, None, true, [], map, IfSome};
 ghost use Rattle.yaml_base.specs.scripts.Script as notation;
-ghost use Rattle.yaml_base.specs.Settings as given;
-ghost use Rattle.yaml_emitter.specs.StandsAfter.{StandsAfter};
-ghost use Rattle.yaml_tool.specs.Runs.{Emits, AnswersScript, WritesNothing, ReadsAll};
+ghost use Rattle.yaml_tool.specs.Runs.{RunsTo, FlushesLast, AnswersScript, WritesNothing, ReadsAll};
 ghost use Rattle.yaml_tool.specs.Scripts.{seen_numbered};
 
 use crate::answers::run_answer_t;
@@ -12,7 +10,6 @@ use crate::scripts::NumberedEvent;
 use std::alloc::Allocator;
 use std::io::{Read, Write};
 use yaml_base::write_to_sink;
-use yaml_emitter::laws::standing_is_promised;
 use yaml_emitter::{yaml_emitter_emit, yaml_emitter_flush, yaml_emitter_t};
 
 /// Reads a script to its end, emits its events, and writes the output, even if an event was refused.
@@ -52,18 +49,34 @@ fn emit_all<A: Allocator + Copy>(
     requires output { emitter.old.has_output ≡ true }
     requires no_error { emitter.old.error ≡ None }
     requires nothing { emitter.old.page.output ≡ [] }
-    ensures emits { (given : given.Settings) → StandsAfter given [] emitter.old → Emits given (map seen_numbered events.items) result emitter.new }
+    ensures runs { emitter.old.events ≡ [] → RunsTo emitter.old.given (map seen_numbered events.items) result emitter.new }
     ensures taken { emitter.new.page.taken ≡ emitter.old.page.taken }
 {
-    standing_is_promised();
+    emitter.promised();
     let mut last = None;
     for numbered in events {
         let line = numbered.line;
-        if let Err(error) = yaml_emitter_emit(emitter, numbered.event) {
+        let answer = yaml_emitter_emit(emitter, numbered.event);
+        emitter.promised();
+        if let Err(error) = answer {
             return run_answer_t::Refused(line, error);
         }
         last = Some(line);
     }
+    let answer = flush_last(emitter, last);
+    emitter.promised();
+    answer
+}
+
+/// Flushes after the last event, which is of this line. If there was no event, nothing is to flush.
+fn flush_last<A: Allocator + Copy>(
+    emitter: &mut yaml_emitter_t<A>,
+    last: Option<u64>,
+) -> run_answer_t
+    requires output { emitter.old.has_output ≡ true }
+    ensures flushed { FlushesLast last emitter.old result emitter.new }
+    ensures taken { emitter.new.page.taken ≡ emitter.old.page.taken }
+{
     let Some(line) = last else {
         return run_answer_t::Done;
     };

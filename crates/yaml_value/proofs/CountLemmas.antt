@@ -65,10 +65,3 @@ counts_none levels outer after left (Some next) whole count is so none by = absu
 pub is_some-map : {A B : Type 0} (f : A → B) (option : Option A) → is_some (option_map f option) ≡ is_some option
 is_some-map f None = refl
 is_some-map f (Some x) = refl
-
--- nothing is left
-pub counts_all : (levels : List Left) (value : TypedValue) (count : ℕ) → levels ≡ [] → CountsBy count levels value
-    → count ≡ min (value_count value) most_counted
-counts_all levels value count none by =
-    let nothing = ap count_left none in
-    sym (min-eq_left {n = count} {m = most_counted} by.1) ∙ ap (λ n. min n most_counted) (omega (arith, nothing)) ∙ by.0

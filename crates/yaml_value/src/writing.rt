@@ -49,6 +49,8 @@ fn written<A: Allocator + Copy>(alloc: A, value: &Value<A>) -> Result<Vec<u8, A>
         return Err(yaml_error_t::Memory);
     };
     let answer = emit_each(&mut emitter, events);
+    // A law: the consequences of the events.
+    emitter.promised();
     // Taken after an error, too: a vector is shorter than the limit, so the error isn't that the output was full.
     let output = yaml_emitter_take_output(&mut emitter);
     match answer {

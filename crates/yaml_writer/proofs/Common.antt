@@ -23,5 +23,5 @@ pub use Rattle.yaml_pen.{specs.Wrote.Grows}
 pub use Rattle.yaml_writer.specs.{Inside.writer_state_of, SeenNumbers.seen_parts, Spellings.is_spelled, Unfinished.RefusesOne, Unfinished.PassesLimit}
 pub use Rattle.yaml_writer.specs.{Unfinished.IsUnfinishedBy, Words.is_reserved_word}
 pub use Rattle.yaml_writer.specs.NumberParts.{IsNumber, IsNoNumber, is_fraction, is_exponent}
-pub use Rattle.yaml_writer.specs.Writing.{WriterState, plain_start, is_implicit, closing_by, word_event, float_tag, end_event, StandsTaken, AddsEvents}
-pub use Rattle.yaml_writer.specs.Writing.{TakesBytes, PassedEvents, GaveEvent, FinishesBy}
+pub use Rattle.yaml_writer.specs.Writing.{WriterState, plain_start, is_implicit, closing_by, word_event, float_tag, end_event}
+pub use Rattle.yaml_writer.specs.Writing.{PassedEvents, GaveEvent, FinishesBy}

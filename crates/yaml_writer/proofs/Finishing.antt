@@ -2,7 +2,8 @@
 use Rattle.yaml_writer.proofs.Common.{ℕ, ◌<◌, ◌≤◌, is_some, Option, None, Some, length, Bool, false, true, ◌||◌, List, [], ◌++◌, ◌∷◌, refl, ◌≡◌, append_assoc}
 use Rattle.yaml_writer.proofs.Common.{ap, ap₂, subst, sym, ◌∙◌, arith, nil_from_length, Text, Event, stream_end, document_end, IsAccepted, Settings, ends_last}
 use Rattle.yaml_writer.proofs.Common.{IsRefusal, HasRoomAndMemory, Promised, StandsAfter, State, output_left, RefusesOne, IsUnfinishedBy, WriterState}
-use Rattle.yaml_writer.proofs.Common.{closing_by, StandsTaken}
+use Rattle.yaml_writer.proofs.Common.{closing_by, Result}
+use Rattle.yaml_emitter.specs.{Emits.Emits, State.bytes_taken}
 use Rattle.yaml_emitter.proofs.Common.{RefusedAt, ends_stream}
 use Rattle.std.specs.Prelude.{unwrap_or, IsSome}
 use Rattle.yaml_base.specs.declared.errors.yaml_error_t.{yaml_error_t}
@@ -41,6 +42,13 @@ some_waits count held some is none = let empty = ap length none in omega (arith,
 pub none_waits : (count : ℕ) (held : List Event) → count ≤ 0 → count ≡ length held → held ≡ []
 none_waits count held none is = nil_from_length held (omega (arith, none, is))
 
+-- What holds of the emitter's events after some were given holds of those before and these.
+pub of_given : {before after : State} {events : List Event} {answer : Result (Unit {0}) yaml_error_t} (holds : Settings → List Event → Type 0)
+    → Emits before events answer after → holds after.given after.events → holds before.given (before.events ++ events)
+of_given {before} {after} {events} holds emits so =
+    subst (λ (given : Settings). holds given (before.events ++ events)) emits.set.given
+    (subst (λ (all : List Event). holds after.given all) emits.set.events so)
+
 module _ (implicit : Bool) where
   -- The events that end the stream.
   abbrev closing : List Event
@@ -50,16 +58,6 @@ module _ (implicit : Bool) where
   closing_ends : (events : List Event) → ends_stream (events ++ closing) ≡ true
   closing_ends events =
       ap ends_stream (sym (append_assoc events (document_end implicit ∷ []) (stream_end ∷ []))) ∙ ends_last (events ++ document_end implicit ∷ [])
-
-  -- both events were given, one after the other
-  pub closed : (given : Settings) (all : List Event) (state : State) → Promised given ((all ++ document_end implicit ∷ []) ++ stream_end ∷ []) state
-      → Promised given (all ++ closing) state
-  closed given all state = subst (λ (events : List Event). Promised given events state) (append_assoc all (document_end implicit ∷ []) (stream_end ∷ []))
-
-  pub closed_stands : (given : Settings) (all : List Event) (state : State) → StandsAfter given ((all ++ document_end implicit ∷ []) ++ stream_end ∷ []) state
-      → StandsAfter given (all ++ closing) state
-  closed_stands given all state =
-      subst (λ (events : List Event). StandsAfter given events state) (append_assoc all (document_end implicit ∷ []) (stream_end ∷ []))
 
   -- without an error and an event that waits, the output is that of a stream
   stream_finished : (given : Settings) (all : List Event) (state : State) → Promised given (all ++ closing) state → state.error ≡ None → state.held ≡ []
@@ -86,32 +84,27 @@ module _ (implicit : Bool) where
 
   -- The meaning of an error of the emitter once document and stream were ended.
   pub failed_unfinished : (before after : State) (error : yaml_error_t) → ((earlier : yaml_error_t) → before.error ≡ Some earlier → after.error ≡ Some earlier)
-      → ((given : Settings) (all : List Event) → StandsAfter given all before
-      → StandsAfter given (all ++ closing) after × Promised given (all ++ closing) after)
+      → StandsAfter before.given (before.events ++ closing) after → Promised before.given (before.events ++ closing) after
       → after.error ≡ Some error → IsUnfinishedBy implicit before error
-  failed_unfinished before after error stays ends is = record {
+  failed_unfinished before after error stays stands promised is = record {
     first = λ earlier was. same_error error earlier (sym is ∙ stays earlier was);
-    full = λ full given all stands.
-        let ended = ends given all stands in
-        overflowed given (all ++ closing) after ended.0.so (is ∙ ap (λ (e : yaml_error_t). Some e) full);
-    refused = λ refusal given all stands.
-        let ended = ends given all stands in
+    full = λ full. overflowed before.given (before.events ++ closing) after stands.so (is ∙ ap (λ (e : yaml_error_t). Some e) full);
+    refused = λ refusal.
+        let one = refuses_one before.given (before.events ++ closing) error after (promised.refused error is refusal) in
         record {
-          unaccepted = refused_unaccepted given all error after ended.1 is refusal;
-          named = refused_one given all ended.1 refusal;
+          unaccepted = refused_unaccepted before.given before.events error after promised is refusal;
+          named = one;
           missing = λ node.
-              misses given.canonical (all ++ closing)
-              (subst (RefusesOne given.canonical (all ++ closing)) node (refused_one given all ended.1 refusal));
+              misses before.given.canonical (before.events ++ closing)
+              (subst (RefusesOne before.given.canonical (before.events ++ closing)) node one);
         };
   }
-    where
-      refused_one : (given : Settings) (all : List Event) → Promised given (all ++ closing) after → IsRefusal error
-          → RefusesOne given.canonical (all ++ closing) error
-      refused_one given all promised refusal = refuses_one given (all ++ closing) error after (promised.refused error is refusal)
 
   -- The bytes that were taken and those that are left then are the stream.
-  pub rest_finished : (given : Settings) (all more : List Event) (sent : List ℕ) (state : State) → StandsTaken given more sent state
-      → Promised given (all ++ closing) state → state.error ≡ None → state.held ≡ []
-      → IsStream given (all ++ closing) (sent ++ output_left state.page)
-  rest_finished given all more sent state stands promised none held =
-      subst (IsStream given (all ++ closing)) (sym (taken_and_left given more sent state stands)) (stream_finished given all state promised none held)
+  pub rest_finished : (before after : State) → bytes_taken after ≡ bytes_taken before
+      → Promised before.given (before.events ++ closing) after → after.error ≡ None → after.held ≡ []
+      → IsStream before.given (before.events ++ closing) (bytes_taken before ++ output_left after.page)
+  rest_finished before after taken promised none held =
+      subst (IsStream before.given (before.events ++ closing))
+      (sym (ap (λ (bytes : List ℕ). bytes ++ output_left after.page) (sym taken) ∙ taken_and_left after))
+      (stream_finished before.given before.events after promised none held)

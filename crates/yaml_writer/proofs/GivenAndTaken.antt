@@ -1,61 +1,66 @@
 -- The events that several calls gave to a writer, and the bytes that they took from it.
-use Rattle.yaml_writer.proofs.Common.{ℕ, Option, Err, Ok, length, List, [], ◌++◌, refl, ◌≡◌, append-nil, append_assoc, inr, ap, subst, sym, ◌∙◌, Event, State}
-use Rattle.yaml_writer.proofs.Common.{output_left, none_from_result, some_from_result, AddsEvents, PassedEvents, StandsTaken, TakesBytes, WriterState}
+use Rattle.yaml_writer.proofs.Common.{ℕ, Option, Result, Err, Ok, length, List, [], ◌++◌, refl, ◌≡◌, append-nil, append_assoc, inr, ap, subst, sym, ◌∙◌}
+use Rattle.yaml_writer.proofs.Common.{Event, State}
+use Rattle.yaml_writer.proofs.Common.{output_left, none_from_result, some_from_result, PassedEvents, WriterState}
+use Rattle.std.proofs.Math.Path.{subst₃}
 use Rattle.std.specs.Io.KnownBytes.{Appends}
 use Rattle.yaml_base.specs.{Sinks.AppendsFirst, declared.errors.yaml_error_t.yaml_error_t}
-use Rattle.yaml_emitter.{proofs.Common.with_all_taken, proofs.standing.Taking.stands_taken}
+use Rattle.yaml_emitter.{proofs.Common.with_all_taken, specs.Emits.Emits, specs.State.bytes_taken}
 use Rattle.yaml_writer.proofs.OpenLevels.{gave_passed}
-use Rattle.yaml_writer.proofs.Taken.{left_taken, moves_taken}
-use Rattle.yaml_writer.specs.Failing.{FailedHaving}
-use Rattle.yaml_writer.specs.WasGiven.{AddsTaking, BeginsNext, NextUnsent, IsBare, WasGiven, WroteTaking, between}
+use Rattle.yaml_writer.proofs.Taken.{takes_rest}
+use Rattle.yaml_base.specs.Settings.{Settings}
+use Rattle.yaml_writer.specs.{Failing.FailedHaving, Writing.Finishes, Writing.IsStream, Writing.closing}
+use Rattle.yaml_writer.specs.WasGiven.{EmitsTaking, BeginsNext, NextUnsent, IsBare, WasGiven, WroteTaking, between}
 
 -- nothing was given, and nothing taken
 pub took_nothing : (writer : WriterState) → IsBare writer → WroteTaking writer [] [] writer
 took_nothing writer bare =
     record {
-      adds = λ given all sent stands.
-          subst (λ (events : List Event). StandsTaken given events (sent ++ []) writer.emitter) (sym (append-nil all))
-          (subst (λ (s : List ℕ). StandsTaken given all s writer.emitter) (sym (append-nil sent)) stands);
+      emits = record { given = refl; appended = sym (append-nil writer.emitter.events); taken = sym (append-nil (bytes_taken writer.emitter)) };
       canonical = refl;
       levels = refl;
       bare = bare;
     }
 
 -- without a call that takes
-pub adds_none_taken : (before after : State) (events : List Event) → AddsEvents before events after → AddsTaking before events [] after
-adds_none_taken before after events adds = λ given all sent stands.
-    subst (λ (s : List ℕ). StandsTaken given (all ++ events) s after) (sym (append-nil sent)) (moves_taken adds given all sent stands)
+pub emits_untaken : {before after : State} {events : List Event} {answer : Result (Unit {0}) yaml_error_t} → Emits before events answer after
+    → EmitsTaking before events [] after
+emits_untaken {before} emits =
+    record { given = emits.set.given; appended = emits.set.events; taken = emits.taken ∙ sym (append-nil (bytes_taken before)) }
 
-pub adds_taking_then : (before middle after : State) (first second : List Event) (one_bytes other_bytes : List ℕ)
-    → AddsTaking before first one_bytes middle → AddsTaking middle second other_bytes after
-    → AddsTaking before (first ++ second) (one_bytes ++ other_bytes) after
-adds_taking_then before middle after first second one_bytes other_bytes one other = λ given all sent stands.
-    subst (λ (events : List Event). StandsTaken given events (sent ++ (one_bytes ++ other_bytes)) after) (append_assoc all first second)
-    (subst (λ (s : List ℕ). StandsTaken given ((all ++ first) ++ second) s after) (append_assoc sent one_bytes other_bytes)
-    (other given (all ++ first) (sent ++ one_bytes) (one given all sent stands)))
+pub emits_taking_then : {before middle after : State} {first second : List Event} {one_bytes other_bytes : List ℕ}
+    → EmitsTaking before first one_bytes middle → EmitsTaking middle second other_bytes after
+    → EmitsTaking before (first ++ second) (one_bytes ++ other_bytes) after
+emits_taking_then {before} {middle} {after} {first} {second} {one_bytes} {other_bytes} one other =
+    record {
+      given = other.given ∙ one.given;
+      appended = other.appended ∙ ap (λ (events : List Event). events ++ second) one.appended ∙ append_assoc before.events first second;
+      taken =
+          other.taken ∙ ap (λ (bytes : List ℕ). bytes ++ other_bytes) one.taken
+          ∙ append_assoc (bytes_taken before) one_bytes other_bytes;
+    }
 
 pub taking_then : (before middle after : WriterState) (first second : List Event) (one_bytes other_bytes : List ℕ)
     → WroteTaking before first one_bytes middle → WroteTaking middle second other_bytes after
     → WroteTaking before (first ++ second) (one_bytes ++ other_bytes) after
 taking_then before middle after first second one_bytes other_bytes one other =
     record {
-      adds = adds_taking_then before.emitter middle.emitter after.emitter first second one_bytes other_bytes one.adds other.adds;
+      emits = emits_taking_then one.emits other.emits;
       canonical = other.canonical ∙ one.canonical;
       levels = other.levels ∙ one.levels;
       bare = other.bare;
     }
 
 -- and then one that doesn't take
-pub adds_taking_more : (before middle after : State) (first second : List Event) (bytes : List ℕ) → AddsTaking before first bytes middle
-    → AddsEvents middle second after → AddsTaking before (first ++ second) bytes after
-adds_taking_more before middle after first second bytes one other =
-    subst (λ (b : List ℕ). AddsTaking before (first ++ second) b after) (append-nil bytes)
-    (adds_taking_then before middle after first second bytes [] one (adds_none_taken middle after second other))
+pub emits_taking_more : {before middle after : State} {first second : List Event} {bytes : List ℕ} {answer : Result (Unit {0}) yaml_error_t}
+    → EmitsTaking before first bytes middle → Emits middle second answer after → EmitsTaking before (first ++ second) bytes after
+emits_taking_more {before} {middle} {after} {first} {second} {bytes} one other =
+    subst (λ (b : List ℕ). EmitsTaking before (first ++ second) b after) (append-nil bytes) (emits_taking_then one (emits_untaken other))
 
 pub took_none : (before after : WriterState) (events : List Event) → WasGiven before events after → WroteTaking before events [] after
 took_none before after events wrote =
     record {
-      adds = adds_none_taken before.emitter after.emitter events wrote.adds;
+      emits = emits_untaken wrote.emits;
       canonical = wrote.canonical;
       levels = wrote.levels;
       bare = wrote.bare;
@@ -68,14 +73,17 @@ taking_same before after events same bytes alike is are wrote =
 
 -- the next document is begun, and all output is taken
 pub begun_taken : (before middle after : WriterState) (bytes : List ℕ) (held holds : Option (List ℕ))
-    → IsBare before → PassedEvents before between (Ok tt) middle → TakesBytes middle.emitter bytes after.emitter
+    → IsBare before → PassedEvents before between (Ok tt) middle → bytes ≡ output_left middle.emitter.page
     → after ≡ record middle { emitter = with_all_taken middle.emitter } → Appends held holds bytes → BeginsNext before held after holds
-begun_taken before middle after bytes held holds bare passed takes kept sends =
+begun_taken before middle after bytes held holds bare passed left kept sends =
     record {
       bytes = bytes;
       sends = sends;
       wrote = record {
-        adds = λ given all sent stands. takes given (all ++ between) sent (moves_taken passed.moves given all sent stands);
+        emits =
+            subst (λ (b : List ℕ). EmitsTaking before.emitter between b after.emitter) (sym left)
+            (subst (λ (w : WriterState). EmitsTaking before.emitter between (output_left middle.emitter.page) w.emitter) (sym kept)
+            (emits_taking_then (emits_untaken passed.emits) (takes_rest middle.emitter)));
         canonical = ap (λ (w : WriterState). w.canonical) kept ∙ ap (λ (w : WriterState). w.canonical) passed.rest;
         levels = ap (λ (w : WriterState). w.levels) kept ∙ ap (λ (w : WriterState). w.levels) passed.rest;
         bare = (
@@ -84,7 +92,7 @@ begun_taken before middle after bytes held holds bare passed takes kept sends =
         );
       };
       whole = (
-        ap (λ (w : WriterState). w.emitter.error) kept ∙ none_from_result middle.emitter.error passed.moves.answered,
+        ap (λ (w : WriterState). w.emitter.error) kept ∙ none_from_result middle.emitter.error passed.emits.answered,
         ap (λ (w : WriterState). w.emitter.page.taken) kept ∙ ap (λ (w : WriterState). length w.emitter.page.output) (sym kept),
       );
     }
@@ -98,15 +106,18 @@ begun_unsent before middle held holds bare passed sends =
       sends = sends;
       gave = gave_passed before middle (Ok tt) bare passed;
       then = with_all_taken middle.emitter;
-      wrote = λ given all sent stands.
-          let stood = moves_taken passed.moves given all sent stands in
-          left_taken given (all ++ between) sent (output_left middle.emitter.page) middle.emitter (with_all_taken middle.emitter) stood refl refl
-          (stands_taken given (all ++ between) middle.emitter stood.stands);
-      whole = (none_from_result middle.emitter.error passed.moves.answered, refl);
+      wrote = emits_taking_then (emits_untaken passed.emits) (takes_rest middle.emitter);
+      whole = (none_from_result middle.emitter.error passed.emits.answered, refl);
     }
 
 -- the writer fails
 pub begun_not : (before after : WriterState) (error : yaml_error_t) → IsBare before → PassedEvents before between (Err error) after
     → FailedHaving before between error after
 begun_not before after error bare passed =
-    record { gave = gave_passed before after (Err error) bare passed; is_error = inr (some_from_result after.emitter.error error passed.moves.answered) }
+    record { gave = gave_passed before after (Err error) bare passed; is_error = inr (some_from_result after.emitter.error error passed.emits.answered) }
+
+-- the stream that an emitter finishes, by its settings, its events and the bytes that were taken
+pub stream_finished : (emitter : State) (bytes : List ℕ) {given : Settings} {events : List Event} {sent : List ℕ} → emitter.given ≡ given
+    → emitter.events ≡ events → bytes_taken emitter ≡ sent → Finishes emitter bytes → IsStream given (events ++ closing) (sent ++ bytes)
+stream_finished emitter bytes is are taken finishes =
+    subst₃ (λ (given : Settings) (all : List Event) (sent : List ℕ). IsStream given (all ++ closing) (sent ++ bytes)) is are taken finishes

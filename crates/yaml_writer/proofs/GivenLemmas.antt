@@ -1,7 +1,7 @@
 -- The events that a writer was given, call by call.
 use Rattle.yaml_writer.proofs.Common.{ℕ, is_none, IfErr, OnOk, Option, Result, Err, Ok, Bool, false, List, [], ◌++◌, ◌∷◌, refl, ◌≡◌, inr, ap, ap₂}
-use Rattle.yaml_writer.proofs.Common.{subst, sym, ◌∙◌, Text, plain, Event, scalar, JsonNumber, yaml_number, State}
-use Rattle.yaml_writer.proofs.Common.{IsNumber, WriterState, end_event, AddsEvents, GaveEvent}
+use Rattle.yaml_writer.proofs.Common.{subst, sym, ◌∙◌, Text, plain, Event, scalar, JsonNumber, yaml_number}
+use Rattle.yaml_writer.proofs.Common.{IsNumber, WriterState, end_event, result_of_error, GaveEvent}
 use Rattle.yaml_base.proofs.Common.{inl, ScalarStyle}
 use Rattle.yaml_writer.specs.WasGiven.{GivenLeaving, IsBare, WasGiven, WroteEvent, start_event}
 use Rattle.yaml_writer.proofs.{PartLemmas.number_found, Finishing.nothing_awaited}
@@ -10,8 +10,8 @@ use Rattle.yaml_writer.specs.Writing.{number_tag, number_event, text_style, text
 use Rattle.yaml_base.specs.{declared.kinds.CollectionKind.CollectionKind}
 use Rattle.yaml_writer.specs.Contents.{word_content, number_content, text_content}
 use Rattle.yaml_writer.specs.Writing.{tag_or_default, word_event, awaits_node}
-use Rattle.yaml_emitter.proofs.standing.Moving.{moves_then}
-use Rattle.yaml_writer.proofs.Taken.{adds_nothing, moves_add}
+use Rattle.yaml_emitter.{proofs.Giving.emits_then, specs.Emits.Emits}
+use Rattle.yaml_writer.proofs.Taken.{emits_by, emits_none}
 
 -- no node is awaited
 pub bare_awaits_none : (writer : WriterState) → IsBare writer → awaits_node writer ≡ false
@@ -37,22 +37,18 @@ on_err (Err error) follows held = follows error held
 pub wrote_nothing : (writer : WriterState) → IsBare writer → WasGiven writer [] writer
 wrote_nothing writer bare =
     record {
-      adds = adds_nothing writer.emitter;
+      emits = emits_none writer.emitter;
       canonical = refl;
       levels = refl;
       bare = bare;
     }
 
 -- some events, and then others
-pub adds_then : (before between after : State) (first second : List Event) → AddsEvents before first between → AddsEvents between second after
-    → AddsEvents before (first ++ second) after
-adds_then before between after first second one other = moves_then one other
-
 pub gave_then : (before between after : WriterState) (first second : List Event) (middle opened : List CollectionKind)
     → GivenLeaving before first middle between → GivenLeaving between second opened after → GivenLeaving before (first ++ second) opened after
 gave_then before between after first second middle opened one other =
     record {
-      adds = adds_then before.emitter between.emitter after.emitter first second one.adds other.adds;
+      emits = emits_then one.emits other.emits;
       canonical = other.canonical ∙ one.canonical;
       levels = other.levels;
       bare = other.bare;
@@ -77,7 +73,8 @@ wrote_same before after events same is = subst (λ (e : List Event). WasGiven be
 pub wrote_event : (before after : WriterState) (event same : Event) → event ≡ same → GaveEvent before event (Ok tt) after → WroteEvent before same after
 wrote_event before after event same is gave =
     record {
-      adds = subst (λ (e : Event). AddsEvents before.emitter (e ∷ []) after.emitter) is (moves_add gave.moves);
+      emits =
+          subst (λ (e : Event). Emits before.emitter (e ∷ []) (result_of_error after.emitter.error) after.emitter) is (emits_by gave.emits);
       canonical = gave.canonical;
       levels = gave.levels;
       bare = (gave.no_anchor, gave.no_tag);
@@ -134,7 +131,9 @@ ended outer kind before after levels bare (inl none) = absurd (none_more outer k
 ended outer kind before after levels bare (inr end) =
     let same = same_last end.outer outer end.kind kind (sym end.levels ∙ levels) in
     record {
-      adds = subst (λ (k : CollectionKind). AddsEvents before.emitter (end_event k ∷ []) after.emitter) same.1 (moves_add end.moves);
+      emits =
+          subst (λ (k : CollectionKind). Emits before.emitter (end_event k ∷ []) (result_of_error after.emitter.error) after.emitter) same.1
+          (emits_by end.emits);
       canonical = ap (λ (w : WriterState). w.canonical) end.rest;
       levels = ap (λ (w : WriterState). w.levels) end.rest ∙ same.0;
       bare = (ap (λ (w : WriterState). w.anchor) end.rest ∙ bare.0, ap (λ (w : WriterState). w.tag) end.rest ∙ bare.1);
@@ -144,7 +143,7 @@ ended outer kind before after levels bare (inr end) =
 pub begun : (before after : WriterState) (event : Event) (kind : CollectionKind) → GaveEvent (with_collection before kind) event (Ok tt) after
     → GivenLeaving before (event ∷ []) (before.levels ++ kind ∷ []) after
 begun before after event kind gave =
-    record { adds = moves_add gave.moves; canonical = gave.canonical; levels = gave.levels; bare = (gave.no_anchor, gave.no_tag) }
+    record { emits = emits_by gave.emits; canonical = gave.canonical; levels = gave.levels; bare = (gave.no_anchor, gave.no_tag) }
 
 -- whose start is this
 pub starts_with : (in_flow : Bool) (kind : CollectionKind) (before after : WriterState) (event : Event) → event ≡ start_event in_flow kind

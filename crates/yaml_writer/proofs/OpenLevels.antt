@@ -1,6 +1,7 @@
 -- The collections that are open after some events, and writers that were given these events.
 use Rattle.yaml_writer.proofs.Common.{ℕ, Bool, Result, List, [], ◌++◌, ◌∷◌, refl, ◌≡◌, ap, subst, sym, ◌∙◌, arith, length, take}
-use Rattle.yaml_writer.proofs.Common.{Event, WriterState, State, AddsEvents, GaveEvent, PassedEvents, end_event}
+use Rattle.yaml_writer.proofs.Common.{Event, WriterState, State, GaveEvent, PassedEvents, end_event, result_of_error}
+use Rattle.yaml_emitter.specs.Emits.{Emits}
 use Rattle.std.specs.Prelude.{◌-◌}
 use Rattle.std.proofs.Common.{length-append}
 use Rattle.std.proofs.Math.Seq.{take-append_seam}
@@ -10,7 +11,7 @@ use Rattle.yaml_base.specs.declared.kinds.CollectionKind.TheVariants.{Mapping, S
 use Rattle.yaml_writer.specs.WasGiven.{GaveEvents, IsBare, StaysUsable, between, levels_after, levels_after_event, start_event}
 use Rattle.yaml_writer.specs.Writing.{EndedCollection}
 use Rattle.yaml_writer.proofs.GivenLemmas.{gave_then, wrote_nothing}
-use Rattle.yaml_writer.proofs.Taken.{moves_add}
+use Rattle.yaml_writer.proofs.Taken.{emits_by}
 
 -- ---- open collections
 
@@ -43,7 +44,7 @@ pub gave_events_then : (before middle after : WriterState) (first second : List 
 gave_events_then before middle after first second one other =
     let whole = gave_then before middle after first second (levels_after first before.levels) (levels_after second middle.levels) one other in
     record {
-      adds = whole.adds;
+      emits = whole.emits;
       canonical = whole.canonical;
       levels = whole.levels ∙ ap (levels_after second) one.levels ∙ sym (levels_after-append first second before.levels);
       bare = whole.bare;
@@ -54,7 +55,7 @@ pub gave_passed : (before after : WriterState) (answer : Result (Unit {0}) yaml_
     → GaveEvents before between after
 gave_passed before after answer bare passed =
     record {
-      adds = moves_add passed.moves;
+      emits = emits_by passed.emits;
       canonical = ap (λ (w : WriterState). w.canonical) passed.rest;
       levels = ap (λ (w : WriterState). w.levels) passed.rest;
       bare = (ap (λ (w : WriterState). w.anchor) passed.rest ∙ bare.0, ap (λ (w : WriterState). w.tag) passed.rest ∙ bare.1);
@@ -66,7 +67,8 @@ pub gave_event : (before first after : WriterState) (event : Event) (answer : Re
     → GaveEvents before (event ∷ []) after
 gave_event before first after event answer emitter canonical levels gave =
     record {
-      adds = subst (λ (s : State). AddsEvents s (event ∷ []) after.emitter) emitter (moves_add gave.moves);
+      emits =
+          subst (λ (s : State). Emits s (event ∷ []) (result_of_error after.emitter.error) after.emitter) emitter (emits_by gave.emits);
       canonical = gave.canonical ∙ canonical;
       levels = gave.levels ∙ levels;
       bare = (gave.no_anchor, gave.no_tag);
@@ -78,7 +80,9 @@ pub gave_end : (outer : List CollectionKind) (kind : CollectionKind) (before aft
     → GaveEvents before (end_event kind ∷ []) after
 gave_end outer kind before after answer levels bare end same_kind same_outer =
     record {
-      adds = subst (λ (k : CollectionKind). AddsEvents before.emitter (end_event k ∷ []) after.emitter) same_kind (moves_add end.moves);
+      emits =
+          subst (λ (k : CollectionKind). Emits before.emitter (end_event k ∷ []) (result_of_error after.emitter.error) after.emitter) same_kind
+          (emits_by end.emits);
       canonical = ap (λ (w : WriterState). w.canonical) end.rest;
       levels = ap (λ (w : WriterState). w.levels) end.rest ∙ same_outer ∙ sym (levels_after_end kind outer)
           ∙ ap (levels_after_event (end_event kind)) (sym levels);

@@ -1,93 +1,61 @@
 -- The bytes that the caller of a writer has taken, and those that are left, after its calls.
-use Rattle.yaml_writer.proofs.Common.{ℕ, IfErr, OnOk, Option, None, Some, Result, Err, Ok, drop, length, Bool, true, List, [], ◌++◌, ◌∷◌, refl, ◌≡◌, ap, subst}
-use Rattle.yaml_writer.proofs.Common.{sym, inr, ◌∙◌, prefix_then, Text, Event, Settings, StandsAfter, State, output_left, Grows, WriterState, StandsTaken}
-use Rattle.yaml_writer.proofs.Common.{AddsEvents, PassedEvents, GaveEvent, option_or}
+use Rattle.yaml_writer.proofs.Common.{IfErr, OnOk, Option, None, Some, Result, Err, Ok, Bool, true, List, [], ◌++◌, ◌∷◌, refl, ◌≡◌, ap, subst}
+use Rattle.yaml_writer.proofs.Common.{sym, inr, ◌∙◌, Text, Event, State, output_left, result_of_error, WriterState, PassedEvents, GaveEvent, option_or}
 use Rattle.yaml_base.proofs.Common.{inl, ◌⊎◌, append-nil}
-use Rattle.yaml_emitter.{proofs.Common.with_all_taken, specs.EmitsEvent.EmitsEvent, specs.EmitsEvent.EmitsScalar}
-use Rattle.yaml_emitter.specs.EmitsEvent.{CopyFailed, result_of_answer}
-use Rattle.yaml_emitter.specs.{Moves.Moves, declared.borrowed.ScalarAnswer.ScalarAnswer}
+use Rattle.std.{proofs.Common.take-append-drop, proofs.Math.Seq.take-length}
+use Rattle.yaml_emitter.specs.{Emits.Emits, Emits.TakesEvent, Emits.TakesScalar, EmitsEvent.CopyFailed, EmitsEvent.result_of_answer}
+use Rattle.yaml_emitter.{proofs.Common.with_all_taken, specs.State.bytes_taken, specs.declared.borrowed.ScalarAnswer.ScalarAnswer}
 use Rattle.yaml_pen.proofs.Composing.{grows_itself}
 use Rattle.yaml_emitter.specs.declared.borrowed.ScalarAnswer.TheVariants.{Taken, NotTaken}
-use Rattle.yaml_base.{proofs.Prefixes.prefix_same, specs.declared.errors.yaml_error_t.yaml_error_t}
-use Rattle.yaml_writer.specs.Writing.{Begins, Failed, Gives, tag_or_default, with_collection}
+use Rattle.yaml_base.specs.declared.errors.yaml_error_t.{yaml_error_t}
+use Rattle.yaml_writer.specs.{WasGiven.EmitsTaking, Writing.Begins, Writing.Failed, Writing.Gives, Writing.tag_or_default, Writing.with_collection}
 use Rattle.yaml_base.specs.{declared.kinds.CollectionKind.CollectionKind, declared.errors.yaml_error_t.TheVariants.Memory}
 
--- A call of the emitter keeps the number of bytes taken.
-pub still_taken : (given : Settings) (all more : List Event) (sent : List ℕ) (before after : State) → StandsTaken given all sent before
-    → after.page.taken ≡ before.page.taken → Grows before.page after.page → StandsAfter given more after
-    → StandsTaken given more sent after
-still_taken given all more sent before after was taken grows stands =
-    record { stands = stands; taken = taken ∙ was.taken; begins = prefix_then was.begins grows.output }
-
--- Past a list's own elements is the list after it.
-drop_past : {A : Type 0} (first rest : List A) → drop (length first) (first ++ rest) ≡ rest
-drop_past [] rest = refl
-drop_past (x ∷ first) rest = drop_past first rest
-
 -- The bytes that were taken and those that are left are the output.
-pub taken_and_left : (given : Settings) (all : List Event) (sent : List ℕ) (state : State) → StandsTaken given all sent state
-    → sent ++ output_left state.page ≡ state.page.output
-taken_and_left given all sent state was =
-    ap (λ (left : List ℕ). sent ++ left)
-    (ap (λ count. drop count state.page.output) was.taken ∙ ap (λ (output : List ℕ). drop (length sent) output) (sym was.begins.parts)
-    ∙ drop_past sent was.begins.rest)
-    ∙ was.begins.parts
+pub taken_and_left : (state : State) → bytes_taken state ++ output_left state.page ≡ state.page.output
+taken_and_left state = take-append-drop state.page.taken state.page.output
 
 -- and then all is taken
-pub left_taken : (given : Settings) (all : List Event) (sent bytes : List ℕ) (before after : State) → StandsTaken given all sent before
-    → bytes ≡ output_left before.page → after ≡ with_all_taken before → StandsAfter given all after
-    → StandsTaken given all (sent ++ bytes) after
-left_taken given all sent bytes before after was left now stands =
-    let whole : sent ++ bytes ≡ before.page.output =
-    ap (λ (rest : List ℕ). sent ++ rest) left ∙ taken_and_left given all sent before was in
+pub takes_rest : (before : State) → EmitsTaking before [] (output_left before.page) (with_all_taken before)
+takes_rest before =
     record {
-      stands = stands;
-      taken = ap (λ (s : State). s.page.taken) now ∙ ap length (sym whole);
-      begins = prefix_same (sent ++ bytes) after.page.output (whole ∙ sym (ap (λ (s : State). s.page.output) now));
+      given = refl;
+      appended = sym (append-nil before.events);
+      taken = take-length before.page.output ∙ sym (taken_and_left before);
     }
 
 -- an answer is the emitter's error
-pub moves_add : {before after : State} {events : List Event} {answer : Result (Unit {0}) yaml_error_t} → Moves before events answer after
-    → AddsEvents before events after
-moves_add {before} {after} {events} moves = subst (λ answer. Moves before events answer after) moves.answered moves
+pub emits_by : {before after : State} {events : List Event} {answer : Result (Unit {0}) yaml_error_t} → Emits before events answer after
+    → Emits before events (result_of_error after.error) after
+emits_by {before} {after} {events} emits = subst (λ answer. Emits before events answer after) emits.answered emits
 
 -- no event is given
-pub adds_nothing : (state : State) → AddsEvents state [] state
-adds_nothing state =
+pub emits_none : (state : State) → Emits state [] (result_of_error state.error) state
+emits_none state =
     record {
-      stands = λ given all stands. subst (λ (events : List Event). StandsAfter given events state) (sym (append-nil all)) stands;
-      grows = grows_itself state.page;
       set = record { events = sym (append-nil state.events); given = refl; started = refl; has_output = refl; opened = refl; closed = refl; taken = refl };
+      grows = grows_itself state.page;
+      taken = refl;
       answered = refl;
-    }
-
--- Bytes that were taken stay taken as events are given.
-pub moves_taken : {before after : State} {events : List Event} {answer : Result (Unit {0}) yaml_error_t} → Moves before events answer after
-    → (given : Settings) (all : List Event) (sent : List ℕ) → StandsTaken given all sent before → StandsTaken given (all ++ events) sent after
-moves_taken moves given all sent stands =
-    record {
-      stands = moves.stands given all stands.stands;
-      taken = moves.set.taken ∙ stands.taken;
-      begins = prefix_then stands.begins moves.grows.output;
     }
 
 -- Calls that pass events on
 
 pub passed : (inside before : WriterState) (events : List Event) (answer : Result (Unit {0}) yaml_error_t) (emitter : State) → inside ≡ before
-    → Moves inside.emitter events answer emitter → PassedEvents before events answer (record inside { emitter = emitter })
-passed inside before events answer emitter is moves =
-    subst (λ (writer : WriterState). PassedEvents writer events answer (record inside { emitter = emitter })) is (record { moves = moves; rest = refl })
+    → Emits inside.emitter events answer emitter → PassedEvents before events answer (record inside { emitter = emitter })
+passed inside before events answer emitter is emits =
+    subst (λ (writer : WriterState). PassedEvents writer events answer (record inside { emitter = emitter })) is (record { emits = emits; rest = refl })
 
 -- Calls that give an event with the properties of the next node
 
 pub gave_event : (inside before : WriterState) (emitter : State) (anchor tag : Option Text) (given event : Event)
-    (answer : Result (Unit {0}) yaml_error_t) → inside ≡ before → given ≡ event → Moves inside.emitter (given ∷ []) answer emitter → anchor ≡ None
+    (answer : Result (Unit {0}) yaml_error_t) → inside ≡ before → given ≡ event → Emits inside.emitter (given ∷ []) answer emitter → anchor ≡ None
     → tag ≡ None → GaveEvent before event answer (record inside { emitter = emitter; anchor = anchor; tag = tag })
-gave_event inside before emitter anchor tag given event answer view is moves no_anchor no_tag =
+gave_event inside before emitter anchor tag given event answer view is emits no_anchor no_tag =
     record {
-      moves =
-          subst (λ (w : WriterState). Moves w.emitter (event ∷ []) answer emitter) view
-          (subst (λ (e : Event). Moves inside.emitter (e ∷ []) answer emitter) is moves);
+      emits =
+          subst (λ (w : WriterState). Emits w.emitter (event ∷ []) answer emitter) view
+          (subst (λ (e : Event). Emits inside.emitter (e ∷ []) answer emitter) is emits);
       canonical = ap (λ (w : WriterState). w.canonical) view;
       levels = ap (λ (w : WriterState). w.levels) view;
       no_anchor = no_anchor;
@@ -108,11 +76,11 @@ begins_gave kind before after event (Err error) gave = inl gave
 
 -- the emitter took it, and the properties are used up
 pub gave_taken : (inside before : WriterState) (emitter : State) (anchor tag : Option Text) (event : Event) (answer : Result (Unit {0}) yaml_error_t)
-    → inside ≡ before → EmitsEvent inside.emitter event answer emitter → anchor ≡ None → tag ≡ None
+    → inside ≡ before → TakesEvent inside.emitter event answer emitter → anchor ≡ None → tag ≡ None
     → Gives before event answer (record inside { emitter = emitter; anchor = anchor; tag = tag })
 gave_taken inside before emitter anchor tag event answer view emits no_anchor no_tag =
     gives_gave before (record inside { emitter = emitter; anchor = anchor; tag = tag }) event answer
-    (gave_event inside before emitter anchor tag event event answer view refl emits.moves no_anchor no_tag)
+    (gave_event inside before emitter anchor tag event event answer view refl emits.emits no_anchor no_tag)
 
 -- it didn't, since there was no memory to copy it
 pub gave_untaken : (inside before : WriterState) (emitter : State) (event : Event) → inside ≡ before → CopyFailed inside.emitter emitter
@@ -122,7 +90,7 @@ gave_untaken inside before emitter event view failed =
 
 -- If the next node has no properties, it has none after a scalar either.
 pub gave_bare : (inside before : WriterState) (emitter : State) (event : Event) (answer : ScalarAnswer) → inside ≡ before
-    → EmitsScalar inside.emitter event answer emitter → inside.anchor ≡ None → inside.tag ≡ None
+    → TakesScalar inside.emitter event answer emitter → inside.anchor ≡ None → inside.tag ≡ None
     → Gives before event (result_of_answer answer) (record inside { emitter = emitter })
 gave_bare inside before emitter event (Taken answer) view emits no_anchor no_tag =
     gave_taken inside before emitter inside.anchor inside.tag event answer view emits no_anchor no_tag

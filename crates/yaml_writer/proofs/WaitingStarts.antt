@@ -170,28 +170,27 @@ module _ (implicit : Bool) where
 
   -- The meaning of its error.
   pub third_unfinished : (before after : State) (error : yaml_error_t) → ((earlier : yaml_error_t) → before.error ≡ Some earlier → ⊥)
-      → ((given : Settings) (all : List Event) → StandsAfter given all before → (IsAccepted given.canonical (all ++ closing) → ⊥)
-      × StandsAfter given ((all ++ closing) ++ stream_end ∷ []) after × Promised given ((all ++ closing) ++ stream_end ∷ []) after)
+      → (IsAccepted before.given.canonical (before.events ++ closing) → ⊥)
+      → StandsAfter before.given ((before.events ++ closing) ++ stream_end ∷ []) after
+      → Promised before.given ((before.events ++ closing) ++ stream_end ∷ []) after
       → after.error ≡ Some error → IsUnfinishedBy implicit before error
-  third_unfinished before after error none ends is = record {
+  third_unfinished before after error none unaccepted stands promised is = record {
     first = λ earlier was. absurd (none earlier was);
-    full = λ full given all stands.
-        let ended = ends given all stands in
-        passes_shorter given all ended.0
-        (overflowed given ((all ++ closing) ++ stream_end ∷ []) after ended.1.so (is ∙ ap (λ (e : yaml_error_t). Some e) full));
-    refused = λ refusal given all stands.
-        let ended = ends given all stands in
-        let one = refuses_shorter given.canonical all ended.0 error (one_of given all ended.2 refusal) in
+    full = λ full.
+        passes_shorter before.given before.events unaccepted
+        (overflowed before.given ((before.events ++ closing) ++ stream_end ∷ []) after stands.so (is ∙ ap (λ (e : yaml_error_t). Some e) full));
+    refused = λ refusal.
+        let given = before.given in
+        let all = before.events ++ closing in
+        let one =
+        refuses_shorter given.canonical before.events unaccepted error
+        (refuses_one given (all ++ stream_end ∷ []) error after (promised.refused error is refusal)) in
         record {
-          unaccepted = ended.0;
+          unaccepted = unaccepted;
           named = one;
-          missing = λ node. misses given.canonical (all ++ closing) (subst (RefusesOne given.canonical (all ++ closing)) node one);
+          missing = λ node. misses given.canonical all (subst (RefusesOne given.canonical all) node one);
         };
   }
-    where
-      one_of : (given : Settings) (all : List Event) → Promised given ((all ++ closing) ++ stream_end ∷ []) after → IsRefusal error
-          → RefusesOne given.canonical ((all ++ closing) ++ stream_end ∷ []) error
-      one_of given all promised refusal = refuses_one given ((all ++ closing) ++ stream_end ∷ []) error after (promised.refused error is refusal)
 
   -- by the answer of the third call
   pub third_err : (before after : State) (answer : Result (Unit {0}) yaml_error_t) → answer ≡ result_of_error after.error

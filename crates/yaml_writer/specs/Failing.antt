@@ -3,12 +3,14 @@ use Rattle.std.specs.Prelude.{◌≡◌, ◌⊎◌, Option, None, Some, List, []
 use Rattle.yaml_base.specs.Event.{Event}
 use Rattle.yaml_base.specs.declared.errors.yaml_error_t.{yaml_error_t}
 use Rattle.yaml_base.specs.declared.errors.yaml_error_t.TheVariants.{Memory}
+use Rattle.yaml_pen.specs.Page.{result_of_error}
+use Rattle.yaml_emitter.specs.Emits.{Emits}
 use Rattle.yaml_writer.specs.WasGiven.{GaveEvents}
-use Rattle.yaml_writer.specs.Writing.{AddsEvents, WriterState}
+use Rattle.yaml_writer.specs.Writing.{WriterState}
 
 -- these events were given to the emitter, which has this error now; or an allocation failed after them
 pub record FailedWith (was : WriterState) (events : List Event) (error : yaml_error_t) (now : WriterState) : Type 0 where
-  pub adds : AddsEvents was.emitter events now.emitter
+  pub emits : Emits was.emitter events (result_of_error now.emitter.error) now.emitter
   pub is_error : (error ≡ Memory) ⊎ (now.emitter.error ≡ Some error)
 
 -- The writer failed with this error: its emitter has it now, or an allocation failed. These events were given, and the writer can be

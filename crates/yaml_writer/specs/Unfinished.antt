@@ -9,7 +9,6 @@ use Rattle.yaml_base.specs.Settings.{Settings}
 use Rattle.yaml_base.specs.declared.errors.yaml_error_t.{yaml_error_t}
 use Rattle.yaml_base.specs.declared.errors.yaml_error_t.TheVariants.{ExpectedNode, Memory, TooDeep, WriteError}
 use Rattle.yaml_emitter.specs.Promises.{IsRefusal}
-use Rattle.yaml_emitter.specs.StandsAfter.{StandsAfter}
 use Rattle.yaml_emitter.specs.State.{State}
 use Rattle.yaml_emitter.specs.Uncut.{IsUncut}
 use Rattle.yaml_writer.specs.Writing.{closing_by}
@@ -60,9 +59,8 @@ pub record PassesLimit (given : Settings) (all : List Event) : Type 0 where
 -- limit is exceeded only if the bytes pass it; an error of events comes only if they are no stream.
 pub record IsUnfinishedBy (implicit : Bool) (emitter : State) (error : yaml_error_t) : Type 0 where
   pub first : (earlier : yaml_error_t) → emitter.error ≡ Some earlier → error ≡ earlier
-  pub full : error ≡ WriteError → (given : Settings) (all : List Event) → StandsAfter given all emitter → PassesLimit given (all ++ closing_by implicit)
-  pub refused : IsRefusal error → (given : Settings) (all : List Event) → StandsAfter given all emitter
-      → IsNoStream given.canonical (all ++ closing_by implicit) error
+  pub full : error ≡ WriteError → PassesLimit emitter.given (emitter.events ++ closing_by implicit)
+  pub refused : IsRefusal error → IsNoStream emitter.given.canonical (emitter.events ++ closing_by implicit) error
 
 -- The same with an end of the document that isn't written.
 abbrev pub IsUnfinished : State → yaml_error_t → Type 0

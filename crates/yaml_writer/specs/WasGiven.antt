@@ -2,13 +2,14 @@
 use Rattle.std.specs.Prelude.{◌≡◌, ℕ, ◌-◌, Bool, true, Option, None, List, [], ◌∷◌, ◌++◌, length, take}
 use Rattle.std.specs.Io.KnownBytes.{Appends}
 use Rattle.yaml_base.specs.Event.{Event, document_end, mapping_end, mapping_start, sequence_end, sequence_start}
-use Rattle.yaml_base.specs.Settings.{Settings}
 use Rattle.yaml_base.specs.Sinks.{AppendsFirst}
 use Rattle.yaml_base.specs.declared.kinds.CollectionKind.{CollectionKind}
 use Rattle.yaml_base.specs.declared.kinds.CollectionKind.TheVariants.{Mapping, Sequence}
-use Rattle.yaml_emitter.specs.State.{State}
+use Rattle.yaml_pen.specs.Page.{result_of_error}
+use Rattle.yaml_emitter.specs.Emits.{Emits}
+use Rattle.yaml_emitter.specs.State.{State, bytes_taken}
 use Rattle.yaml_writer.specs.Contents.{collection_in}
-use Rattle.yaml_writer.specs.Writing.{AddsEvents, StandsTaken, WriterState, plain_start}
+use Rattle.yaml_writer.specs.Writing.{WriterState, plain_start}
 
 -- the next node has no anchor and no tag
 abbrev pub IsBare : WriterState → Type 0
@@ -17,7 +18,7 @@ IsBare writer = (writer.anchor ≡ None) × (writer.tag ≡ None)
 -- These events were given to the writer's emitter after those before. Then these collections are open, the writer's form is unchanged, and
 -- the next node has no anchor and no tag.
 pub record GivenLeaving (before : WriterState) (events : List Event) (opened : List CollectionKind) (after : WriterState) : Type 0 where
-  pub adds : AddsEvents before.emitter events after.emitter
+  pub emits : Emits before.emitter events (result_of_error after.emitter.error) after.emitter
   pub canonical : after.canonical ≡ before.canonical
   pub levels : after.levels ≡ opened
   pub bare : IsBare after
@@ -70,14 +71,15 @@ between = document_end true ∷ plain_start ∷ []
 
 -- ---- events given, and bytes taken
 
--- After the events that were given before, the emitter was given these, and after the bytes that were taken before, these were taken.
-abbrev pub AddsTaking : State → List Event → List ℕ → State → Type 0
-AddsTaking before events bytes after =
-    (given : Settings) (all : List Event) (sent : List ℕ) → StandsTaken given all sent before → StandsTaken given (all ++ events) (sent ++ bytes) after
+-- The emitter was given these events after those before, and these bytes of its output were taken after those before.
+pub record EmitsTaking (before : State) (events : List Event) (bytes : List ℕ) (after : State) : Type 0 where
+  pub given : after.given ≡ before.given
+  pub appended : after.events ≡ before.events ++ events
+  pub taken : bytes_taken after ≡ bytes_taken before ++ bytes
 
 -- these events were given, and these bytes were taken; the next node has no anchor and no tag
 pub record WroteTaking (before : WriterState) (events : List Event) (bytes : List ℕ) (after : WriterState) : Type 0 where
-  pub adds : AddsTaking before.emitter events bytes after.emitter
+  pub emits : EmitsTaking before.emitter events bytes after.emitter
   pub canonical : after.canonical ≡ before.canonical
   pub levels : after.levels ≡ before.levels
   pub bare : IsBare after
@@ -99,5 +101,5 @@ pub record NextUnsent (before : WriterState) (held : Option (List ℕ)) (after :
   pub sends : AppendsFirst held holds offered
   pub gave : GaveEvents before between after
   pub then : State
-  pub wrote : AddsTaking before.emitter between offered then
+  pub wrote : EmitsTaking before.emitter between offered then
   pub whole : IsAllTaken then

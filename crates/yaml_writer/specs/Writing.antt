@@ -1,6 +1,6 @@
 -- The events that the calls of a writer give to its emitter.
 use Rattle.std.specs.Prelude.{◌≡◌, ◌⊎◌, ℕ, ℤ, Bool, true, false, Option, None, Some, Result}
-use Rattle.std.specs.Prelude.{Ok, Err, List, [], ◌∷◌, ◌++◌, ◌||◌, codes, is_none, is_some, length}
+use Rattle.std.specs.Prelude.{Ok, Err, List, [], ◌∷◌, ◌++◌, ◌||◌, codes, is_none, is_some}
 use Rattle.std.specs.Prelude.{if◌then◌else◌}
 use Rattle.std.specs.Fmt.{signed_decimal}
 use Rattle.std.specs.List.{list_any}
@@ -8,7 +8,6 @@ use Rattle.yaml_base.specs.Characters.{Text, is_break}
 use Rattle.yaml_base.specs.Event.{Collection, CollectionStyle, Event, ScalarStyle, any_style, plain, single_quoted, literal, stream_start, stream_end}
 use Rattle.yaml_base.specs.Event.{document_start, document_end, scalar, sequence_start, sequence_end, mapping_start, mapping_end}
 use Rattle.yaml_base.specs.values.JsonNumbers.{JsonNumber, is_json_integer, yaml_number}
-use Rattle.yaml_base.specs.Prefix.{IsPrefix}
 use Rattle.yaml_base.specs.Refusal.{IsAccepted}
 use Rattle.yaml_base.specs.Seen.{seen_mapping_style, seen_sequence_style}
 use Rattle.yaml_base.specs.Settings.{Settings}
@@ -16,10 +15,8 @@ use Rattle.yaml_base.specs.values.SurelyText.{is_surely_text}
 use Rattle.yaml_base.specs.values.TypedValues.{null_tag, bool_tag, int_tag, bool_text}
 use Rattle.yaml_base.specs.declared.errors.yaml_error_t.{yaml_error_t}
 use Rattle.yaml_base.specs.declared.errors.yaml_error_t.TheVariants.{ExpectedDocumentEnd, ExpectedNode, Memory}
-use Rattle.yaml_pen.specs.Page.{result_of_error}
-use Rattle.yaml_emitter.specs.Moves.{Moves}
-use Rattle.yaml_emitter.specs.State.{State}
-use Rattle.yaml_emitter.specs.StandsAfter.{StandsAfter}
+use Rattle.yaml_emitter.specs.Emits.{Emits}
+use Rattle.yaml_emitter.specs.State.{State, bytes_taken}
 use Rattle.yaml_emitter.specs.Promises.{IsWritten}
 use Rattle.yaml_writer.specs.Times.{Moment, timestamp_text}
 use Rattle.yaml_base.specs.declared.kinds.CollectionKind.{CollectionKind}
@@ -171,29 +168,24 @@ awaits_node writer = is_some writer.anchor || is_some writer.tag
 abbrev pub NodeExpected : WriterState → Result (Unit {0}) yaml_error_t → WriterState → Type 0
 NodeExpected before answer after = (answer ≡ Err ExpectedNode) × (after ≡ before)
 
--- The emitter was given these events, and its caller has taken these bytes, with which the output begins.
-pub record StandsTaken (given : Settings) (all : List Event) (sent : List ℕ) (emitter : State) : Type 0 where
-  pub stands : StandsAfter given all emitter
-  pub taken : emitter.page.taken ≡ length sent
-  pub begins : IsPrefix sent emitter.page.output
-
--- these events were given to the emitter, whatever its error is
-abbrev pub AddsEvents : State → List Event → State → Type 0
-AddsEvents before events after = Moves before events (result_of_error after.error) after
-
--- The emitter is where it was, and after the bytes that were taken before, these were taken.
-abbrev pub TakesBytes : State → List ℕ → State → Type 0
-TakesBytes before bytes after =
-    (given : Settings) (all : List Event) (sent : List ℕ) → StandsTaken given all sent before → StandsTaken given all (sent ++ bytes) after
+-- a new writer: its emitter was given the events that open a stream and a document, nothing is taken, and no collection is open
+pub record IsNewWriter (given : Settings) (writer : WriterState) : Type 0 where
+  pub settings : writer.emitter.given ≡ given
+  pub events : writer.emitter.events ≡ opening
+  pub untaken : bytes_taken writer.emitter ≡ []
+  pub canonical : writer.canonical ≡ given.canonical
+  pub levels : writer.levels ≡ []
+  pub anchor : writer.anchor ≡ None
+  pub tag : writer.tag ≡ None
 
 -- these events were given to the emitter, and nothing else changes
 pub record PassedEvents (before : WriterState) (events : List Event) (answer : Result (Unit {0}) yaml_error_t) (after : WriterState) : Type 0 where
-  pub moves : Moves before.emitter events answer after.emitter
+  pub emits : Emits before.emitter events answer after.emitter
   pub rest : after ≡ record before { emitter = after.emitter }
 
 -- the event was given to the emitter; the next node has no properties yet
 pub record GaveEvent (before : WriterState) (event : Event) (answer : Result (Unit {0}) yaml_error_t) (after : WriterState) : Type 0 where
-  pub moves : Moves before.emitter (event ∷ []) answer after.emitter
+  pub emits : Emits before.emitter (event ∷ []) answer after.emitter
   pub canonical : after.canonical ≡ before.canonical
   pub levels : after.levels ≡ before.levels
   pub no_anchor : after.anchor ≡ None
@@ -219,7 +211,7 @@ pub record EndedCollection (before : WriterState) (answer : Result (Unit {0}) ya
   pub outer : List CollectionKind
   pub kind : CollectionKind
   pub levels : before.levels ≡ outer ++ kind ∷ []
-  pub moves : Moves before.emitter (end_event kind ∷ []) answer after.emitter
+  pub emits : Emits before.emitter (end_event kind ∷ []) answer after.emitter
   pub rest : after ≡ record before { emitter = after.emitter; levels = outer }
 
 -- the innermost collection was ended, or none was open, and nothing changed
@@ -237,7 +229,7 @@ pub record IsStream (given : Settings) (all : List Event) (bytes : List ℕ) : T
 -- The bytes that were taken, and then these, are the output of the emitter's events and the stream's end.
 abbrev pub FinishesBy : (implicit : Bool) → State → List ℕ → Type 0
 FinishesBy implicit emitter bytes =
-    (given : Settings) (all : List Event) (sent : List ℕ) → StandsTaken given all sent emitter → IsStream given (all ++ closing_by implicit) (sent ++ bytes)
+    IsStream emitter.given (emitter.events ++ closing_by implicit) (bytes_taken emitter ++ bytes)
 
 -- The same with an end that isn't written.
 abbrev pub Finishes : State → List ℕ → Type 0

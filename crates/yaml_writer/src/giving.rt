@@ -3,7 +3,7 @@ ghost use Rattle.std.specs.Prelude.{◌≡◌, IfErr, OnOk, [], ◌∷◌, true,
 ghost use Rattle.std.specs.Option.{option_or};
 ghost use Rattle.yaml_base.specs.Seen.{seen_event, seen_scalar_style, seen_text};
 ghost use Rattle.yaml_emitter.specs.BorrowedTexts.{seen_name, seen_scalar};
-ghost use Rattle.yaml_emitter.specs.Moves.{Moves};
+ghost use Rattle.yaml_emitter.specs.Emits.{Emits};
 ghost use Rattle.yaml_pen.specs.Page.{output_left};
 ghost use Rattle.yaml_writer.specs.Unfinished.{IsUnfinishedBy};
 ghost use Rattle.yaml_writer.specs.Writing.{FinishesBy, plain_start as document_begins};
@@ -34,7 +34,7 @@ pub(crate) fn give<A: Allocator + Copy>(
     event: yaml_event_t<A>,
 ) -> Result<(), yaml_error_t>
     requires output { emitter.old.has_output ≡ true }
-    ensures moves { Moves emitter.old (seen_event event ∷ []) result emitter.new }
+    ensures emits { Emits emitter.old (seen_event event ∷ []) result emitter.new }
     ensures output { emitter.new.has_output ≡ true }
 {
     yaml_emitter_emit(emitter, event)
@@ -94,10 +94,14 @@ pub(crate) fn end_stream<A: Allocator + Copy>(
 {
     let implicit = is_implicit(end);
     let _ = yaml_emitter_emit(emitter, YAML_DOCUMENT_END_EVENT { implicit });
-    yaml_emitter_emit(emitter, YAML_STREAM_END_EVENT)?;
+    let ended = yaml_emitter_emit(emitter, YAML_STREAM_END_EVENT);
+    emitter.promised();
+    ended?;
     if emitter.held() > 0 {
         // The start of a mapping waits. One event more decides which is refused: that event, or the document's end after it.
-        return yaml_emitter_emit(emitter, YAML_STREAM_END_EVENT);
+        let answer = yaml_emitter_emit(emitter, YAML_STREAM_END_EVENT);
+        emitter.promised();
+        return answer;
     }
     Ok(())
 }

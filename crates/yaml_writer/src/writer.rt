@@ -1,15 +1,17 @@
 //! The writer: its state, its start, its output and its end.
-ghost use Rattle.std.specs.Prelude.{◌≡◌, IfOk, IfErr, OnErr, OnOk, [], None, Err, true, false, chars};
+ghost use Rattle.std.specs.Prelude.{◌≡◌, ◌≤◌, length, IfOk, IfErr, OnErr, OnOk, [], None, Err, true, false, chars};
 ghost use Rattle.std.specs.Io.KnownBytes.{Appends};
 ghost use Rattle.yaml_base.specs.Seen.{seen_scalar_style};
 ghost use Rattle.std.specs.Option.{option_or};
+ghost use Rattle.yaml_emitter.specs.Emits.{IsPromised};
 ghost use Rattle.yaml_emitter.specs.Given.{seen_settings};
+ghost use Rattle.yaml_emitter.specs.StandsAfter.{StandsAfter};
 ghost use Rattle.yaml_emitter.specs.BorrowedTexts.{seen_name};
 ghost use Rattle.yaml_emitter.specs.State.{with_all_taken};
 ghost use Rattle.yaml_pen.specs.Page.{output_left};
 ghost use Rattle.yaml_base.specs.Sinks.{AppendsFirst};
 ghost use Rattle.yaml_writer.specs.Unfinished.{IsUnfinished, IsUnfinishedBy};
-ghost use Rattle.yaml_writer.specs.Writing.{Finishes, FinishesBy, Gives, StandsTaken, TakesBytes, awaits_node, is_implicit, opening, scalar_event, writer_over};
+ghost use Rattle.yaml_writer.specs.Writing.{Finishes, FinishesBy, Gives, IsNewWriter, awaits_node, is_implicit, scalar_event, writer_over};
 
 use crate::ends::DocumentEnd;
 use crate::giving::{end_stream, give, plain_start, scalar_content, use_up};
@@ -66,10 +68,7 @@ impl<A: Allocator + Copy> Writer<A> {
     /// # Errors
     /// `Memory` if an allocation of the writer fails. An error of its emitter comes with the next call.
     pub fn new(alloc: A, settings: Settings) -> Result<Self, yaml_error_t>
-        ensures stands { IfOk result (λ writer. StandsTaken (seen_settings settings) opening [] writer.emitter) }
-        ensures canonical { IfOk result (λ writer. writer.canonical ≡ settings.canonical) }
-        ensures levels { IfOk result (λ writer. writer.levels ≡ []) }
-        ensures bare { IfOk result (λ writer. (writer.anchor ≡ None) × (writer.tag ≡ None)) }
+        ensures made { IfOk result (λ writer. IsNewWriter (seen_settings settings) writer) }
         ensures memory { IfErr result (λ error. error ≡ yaml_error_t.Memory) }
     {
         let Ok(mut emitter) = yaml_emitter_t::with_settings(alloc, settings) else {
@@ -176,6 +175,15 @@ impl<A: Allocator + Copy> Writer<A> {
         self.anchor.is_some() || self.tag.is_some()
     }
 
+    /// States what a caller may rely on of the emitter, whatever was called before.
+    pub fn promised(&self)
+        ensures stands { StandsAfter self.now.emitter.given self.now.emitter.events self.now.emitter }
+        ensures taken { self.now.emitter.page.taken ≤ length self.now.emitter.page.output }
+        ensures promised { IsPromised self.now.emitter }
+    {
+        self.emitter.promised();
+    }
+
     /// Returns the first error of the emitter, which each event after it returns, too.
     pub fn error(&self) -> Option<yaml_error_t>
         ensures { result ≡ self.now.emitter.error }
@@ -190,7 +198,6 @@ impl<A: Allocator + Copy> Writer<A> {
     /// It may be called at any time, also after an error, and takes no memory. All else stays: the collections that are open,
     /// the anchor and the tag of the next node, and the emitter's error. The limit counts the bytes that were taken, too.
     pub fn take_output(&mut self) -> Vec<u8, A>
-        ensures takes { TakesBytes self.old.emitter result.items self.new.emitter }
         ensures left { result.items ≡ output_left self.old.emitter.page }
         ensures kept { self.new ≡ record self.old { emitter = with_all_taken self.old.emitter } }
     {
@@ -208,7 +215,6 @@ impl<A: Allocator + Copy> Writer<A> {
     /// of the writer changes: all these bytes are left, and the sink has a beginning of them, which may be empty.
     pub fn send<W: io::Write>(&mut self, sink: &mut W) -> io::Result<()>
         ensures sent { OnOk result (Appends (W.contents sink.old) (W.contents sink.new) (output_left self.old.emitter.page)) }
-        ensures takes { OnOk result (TakesBytes self.old.emitter (output_left self.old.emitter.page) self.new.emitter) }
         ensures kept { OnOk result (self.new ≡ record self.old { emitter = with_all_taken self.old.emitter }) }
         ensures left { OnErr result (self.new ≡ self.old) }
         ensures first { OnErr result (AppendsFirst (W.contents sink.old) (W.contents sink.new) (output_left self.old.emitter.page)) }

@@ -36,13 +36,6 @@ kept_prefix e pen after directives frames open_ended kept handles fits =
       page = fits;
     }
 
--- more room for open collections changes nothing in the view
-pub kept_with_room : {A : Type 0} (e : Inside A) (frames : List Frame) → frames ≡ e.frames → IsMachine e → IsMachine (record e { frames = frames })
-kept_with_room e frames same kept = subst (λ (f : List Frame). IsMachine (record e { frames = f })) (sym same) kept
-
-pub seen_with_room : {A : Type 0} (e : Inside A) (frames : List Frame) → frames ≡ e.frames → machine_state (record e { frames = frames }) ≡ machine_state e
-seen_with_room e frames same = ap (λ (f : List Frame). machine_state (record e { frames = f })) same
-
 -- between documents no directives are seen
 unseen : (st : stage.Stage) (before after : List TagDirective) (frames : List Frame) (first : Bool) → seen_stage st before frames ≡ at_document first
     → seen_stage st after frames ≡ seen_stage st before frames
@@ -64,10 +57,6 @@ kept_without e directives first none at kept =
       canonical = kept.canonical;
       page = subst (λ (st : Stage). FitsPage st e.pen) (sym (unseen e.stage e.directives directives e.frames first at)) kept.page;
     }
-
--- the view of a machine, by its fields
-pub stage_inside : {A : Type 0} (e : Inside A) {seen : MachineState} {at : Stage} → machine_state e ≡ seen → seen.stage ≡ at → (machine_state e).stage ≡ at
-stage_inside e is stage = ap (λ (s : MachineState). s.stage) is ∙ stage
 
 pub seen_at : {A : Type 0} (e : Inside A) (st : stage.Stage) → e.stage ≡ st → (machine_state e).stage ≡ seen_stage st e.directives e.frames
 seen_at e st at = ap (λ (st : stage.Stage). seen_stage st e.directives e.frames) at

@@ -165,11 +165,6 @@ processed_after_writing event empty before after stage at kept settings accepted
           });
     }
 
--- at an exit by `?` of a call that fails by memory alone
-pub exit_by_memory : (error : yaml_error_t) (answer : Result (Unit {0}) yaml_error_t) → error ≡ Memory
-    → IsErr answer × IsErrAnd answer (λ given. given ≡ error) → IsErr answer × IsErrAnd answer (λ given. given ≡ Memory)
-exit_by_memory error answer memory is = subst (λ (e : yaml_error_t). IsErr answer × IsErrAnd answer (λ given. given ≡ e)) memory is
-
 -- an event by another form of it
 pub processed_as : (event named : Event) (empty : Bool) (before after : MachineState) (answer : Result (Unit {0}) yaml_error_t) → event ≡ named
     → Processed named empty before after answer → Processed event empty before after answer

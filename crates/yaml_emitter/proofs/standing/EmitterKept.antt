@@ -103,9 +103,3 @@ kept_emitting e after output same room waits =
 pub kept_limited : {A : Type 0} (e : Inside A) (after : MachineState) → IsEngine e → IsEngine (record e { has_output = true; machine = after })
 kept_limited e after kept =
     record { untouched = λ none. cc; begun = λ begun. refl; opened = λ opened. refl; room = kept.room; waits = kept.waits }
-
--- a setter changes the settings as given
-pub given_set : {A : Type 0} {opened e : Inside A} (set : Settings → Settings) {seen : State} → opened ≡ e → state_of e ≡ seen
-    → record (state_of opened) { given = set (state_of opened).given } ≡ record seen { given = set seen.given }
-given_set set opened_is view_is =
-    ap (λ (s : State). let made : State = record s { given = set s.given } in made) (ap state_of opened_is ∙ view_is)

@@ -22,10 +22,6 @@ processed_error event empty before after (Err WriteError) done = ap (λ (m : Mac
 processed_error event empty before after (Err Memory) done = ap (λ (m : MachineState). m.error) done.kept
 processed_error event empty before after (Err error) done = ap (λ (m : MachineState). m.error) done.kept
 
-pub took_error : (waiting : List Event) (before after : MachineState) (answer : Result (Unit {0}) yaml_error_t) → ProcessedFirst waiting before after answer
-    → after.error ≡ before.error
-took_error waiting before after answer h = processed_error h.event (closes_at_once h.event h.rest) before after answer h.done
-
 pub took_next : (waiting : List Event) (before after : MachineState) → ProcessedFirst waiting before after (Ok tt) → is_head_ready waiting ≡ true
     → ReachedOn waiting before (drop 1 waiting) after
 took_next waiting before after h ready given all prefix reached =
@@ -51,20 +47,9 @@ reached_on first second third before between after h h' given all prefix reached
 pub seen_behind : {E : Type 0} (seen : E → Event) (xs : List E) (n : ℕ) → map seen (take (length xs - n) (drop n xs)) ≡ drop n (map seen xs)
 seen_behind seen xs n = ap (map seen) (take_rest xs n) ∙ sym (drop-map seen n xs)
 
-pub took_behind : (waiting part : List Event) (n : ℕ) (before after : MachineState) (answer : Result (Unit {0}) yaml_error_t) → part ≡ drop n waiting
-    → ProcessedFirst part before after answer → ProcessedFirst (drop n waiting) before after answer
-took_behind waiting part n before after answer is took = subst (λ w. ProcessedFirst w before after answer) is took
-
 pub next_behind : (waiting : List Event) (n : ℕ) (before after : MachineState) → ReachedOn (drop n waiting) before (drop 1 (drop n waiting)) after
     → ReachedOn (drop n waiting) before (drop (n + 1) waiting) after
 next_behind waiting n before after on = subst (λ left. ReachedOn (drop n waiting) before left after) (drop-drop 1 n waiting) on
-
--- There was one.
-pub took_within : {E : Type 0} (seen : E → Event) (xs : List E) (n : ℕ) (before after : MachineState) (answer : Result (Unit {0}) yaml_error_t)
-    → ProcessedFirst (drop n (map seen xs)) before after answer → n + 1 ≤ length xs
-took_within seen xs n before after answer took =
-    let long : length (drop n (map seen xs)) ≡ suc (length took.rest) = ap length took.waits in
-    omega (arith, long, length-drop n (map seen xs), length-map xs seen)
 
 -- An event that was taken follows the waiting ones.
 pub reached_taken : (given : Settings) (all : List Event) (event : Event) (state : State) → StateStands given all state → state.error ≡ None

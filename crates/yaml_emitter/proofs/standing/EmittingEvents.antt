@@ -9,7 +9,7 @@ use Rattle.yaml_emitter.proofs.events_done.{SeenTexts.texts_more}
 use Rattle.yaml_emitter.proofs.standing.{Growing.grows_page, Growing.processed_grows, KeepsSet.keeps_set_then, KeepsSet.keeps_with_machine}
 use Rattle.yaml_emitter.proofs.standing.KeepsSet.{processed_keeps_given, with_machine}
 use Rattle.yaml_pen.proofs.Composing.{grows_then}
-use Rattle.yaml_emitter.proofs.standing.{Promising.promised, StandingMore.failed_more}
+use Rattle.yaml_emitter.proofs.standing.{StandingMore.failed_more}
 use Rattle.yaml_emitter.proofs.standing.Emitting.{none_became_ready, processed_error, reached_taken, stands_on_end, took_alone, took_failed, took_next}
 use Rattle.yaml_emitter.specs.EmitsEvent.{EmitsEvent, Settled, SettlingFailed, Settles, StillWait, WroteAlone, WroteWaiting, kept_error}
 
@@ -66,7 +66,6 @@ emits_by : (event : Event) (before after : State) (answer : Result (Unit {0}) ya
 emits_by event before after answer text stands grows waits kept set answered =
     record {
       moves = record { stands = stood; grows = grows; set = set; answered = answered };
-      promised = λ given all h. promised given (all ++ event ∷ []) after (stood given all h);
       waits = λ given all h none same. waits given all h.so none same;
       kept = kept;
     }

@@ -32,10 +32,6 @@ processed_grows event empty before after (Err WriteError) done = cut_grows Write
 processed_grows event empty before after (Err Memory) done = cut_grows Memory event empty before after done.page
 processed_grows event empty before after (Err error) done = grows_page before.page after.page (ap (λ (s : MachineState). s.page) done.kept)
 
-pub took_grows : (waiting : List Event) (before after : MachineState) (answer : Result (Unit {0}) yaml_error_t) → ProcessedFirst waiting before after answer
-    → Grows before.page after.page
-took_grows waiting before after answer took = processed_grows took.event _ before after answer took.done
-
 -- a flush that memory refuses leaves the output as it was
 pub flushed_unflushed : {before after : Page} {answer : Result (Unit {0}) yaml_error_t} → Flushed before after answer → after.error ≡ Some Memory
     → after.output ≡ before.output

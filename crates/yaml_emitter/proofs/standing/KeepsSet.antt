@@ -33,10 +33,6 @@ processed_keeps_given event empty before after (Err Memory) done = by_keeping be
 processed_keeps_given event empty before after (Err error) done =
     record { given = ap (λ (m : MachineState). m.given) done.kept; taken = ap (λ (m : MachineState). m.page.taken) done.kept }
 
-pub took_keeps_given : (waiting : List Event) (before after : MachineState) (answer : Result (Unit {0}) yaml_error_t)
-    → ProcessedFirst waiting before after answer → KeepsGiven before after
-took_keeps_given waiting before after answer took = processed_keeps_given took.event _ before after answer took.done
-
 pub keeps_set_then : (before middle after : State) → KeepsSet before middle → KeepsSet middle after → KeepsSet before after
 keeps_set_then before middle after first second =
     record {

@@ -126,12 +126,6 @@ promised given all state h =
       whole = promises_whole given all state h;
     }
 
--- A call that adds an event.
-pub stands_with : {A : Type 0} (given : Settings) (all : List Event) (event : yaml_event_t A) (after : State)
-    → StateStands given (all ++ seen_event event ∷ []) after → list_all has_scalar_texts all ≡ true
-    → StandsAfter given (all ++ seen_event event ∷ []) after
-stands_with given all event after so texts = record { texts = texts_more all (seen_event event) texts (seen_scalars event); so = so }
-
 -- If all bytes of the pieces are flushed, so are all of the text, and the page has no error.
 page_encoded : (prefix : List Event) (n : ℕ) (s : Effective) (rendered : List Piece) (text : Text) (page : Page) → length prefix ≡ n
     → HoldsPieces s prefix rendered page

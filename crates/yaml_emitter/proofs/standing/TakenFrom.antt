@@ -29,9 +29,3 @@ emitter_kept e after taken is =
 pub state_taken : {A : Type 0} (e : emitter.Inside A) (before : State) (after : MachineState) → state_of e ≡ before
     → after ≡ record e.machine { page = all_taken e.machine.page } → state_of (record e { machine = after }) ≡ with_all_taken before
 state_taken e before after is taken = ap (λ (m : MachineState). state_of (record e { machine = m })) taken ∙ ap with_all_taken is
-
-pub stands_from : {A : Type 0} (e : emitter.Inside A) (before : State) (after : MachineState) → state_of e ≡ before
-    → after ≡ record e.machine { page = all_taken e.machine.page } → (given : Settings) (all : List Event) → StandsAfter given all before
-    → StandsAfter given all (state_of (record e { machine = after }))
-stands_from e before after is taken given all stands =
-    subst (λ (state : State). StandsAfter given all state) (sym (state_taken e before after is taken)) (stands_taken given all before stands)

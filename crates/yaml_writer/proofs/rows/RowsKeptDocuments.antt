@@ -1,6 +1,6 @@
 -- Worked rows: a writer keeps all bytes of the documents that it ended, whatever its later calls answer.
-use Rattle.yaml_writer.proofs.Common.{ℕ, None, Result, codes, false, true, List, [], ◌++◌, ◌∷◌, refl, ◌≡◌, prefix_then, Event, document_end, Grows}
-use Rattle.yaml_writer.proofs.Common.{WriterState, plain_start, StandsTaken, PassedEvents, GaveEvent}
+use Rattle.yaml_writer.proofs.Common.{None, Result, codes, false, true, List, [], ◌++◌, ◌∷◌, refl, ◌≡◌, prefix_then, Event, document_end, Grows}
+use Rattle.yaml_writer.proofs.Common.{WriterState, plain_start, PassedEvents, StandsAfter, GaveEvent}
 use Rattle.yaml_base.specs.{Prefix.IsPrefix, Settings.nothing_given, declared.errors.yaml_error_t.yaml_error_t}
 use Rattle.yaml_emitter.{proofs.standing.KeptDocuments.documents_without_error, proofs.standing.Promising.promised, specs.State.new_state}
 use Rattle.yaml_emitter.proofs.rows.RowsKeptDocuments.{two, begun, both, kept, not_empty}
@@ -17,24 +17,24 @@ its_events :
 its_events = refl
 
 -- The emitter was given the two documents and later events, and has no error.
-module _ (later : List Event) (sent : List ℕ) (before : WriterState) (stood : StandsTaken nothing_given (two ++ later) sent before.emitter)
+module _ (later : List Event) (before : WriterState) (stood : StandsAfter nothing_given (two ++ later) before.emitter)
     (none : before.emitter.error ≡ None) (after : WriterState) where
   stays : Grows before.emitter.page after.emitter.page → IsPrefix both after.emitter.page.output
   stays grows =
       prefix_then
       (kept (two ++ later) later before.emitter.page.output refl
-      (documents_without_error nothing_given (two ++ later) before.emitter (promised nothing_given (two ++ later) before.emitter stood.stands) none))
+      (documents_without_error nothing_given (two ++ later) before.emitter (promised nothing_given (two ++ later) before.emitter stood) none))
       grows.output
 
   -- so no state whose output was emptied follows a call, whether it gave an event, and whatever its error is,
   emptied_giving : (event : Event) (answer : Result (Unit {0}) yaml_error_t) → GaveEvent before event answer after → after.emitter.page.output ≡ [] → ⊥
-  emptied_giving event answer h = not_empty after.emitter.page.output (stays h.moves.grows)
+  emptied_giving event answer h = not_empty after.emitter.page.output (stays h.emits.grows)
 
   -- or ended the document and began the next,
   emptied_passing : (events : List Event) (answer : Result (Unit {0}) yaml_error_t) → PassedEvents before events answer after
       → after.emitter.page.output ≡ [] → ⊥
-  emptied_passing events answer h = not_empty after.emitter.page.output (stays h.moves.grows)
+  emptied_passing events answer h = not_empty after.emitter.page.output (stays h.emits.grows)
 
   -- or ended a collection
   emptied_ending : (answer : Result (Unit {0}) yaml_error_t) → EndedCollection before answer after → after.emitter.page.output ≡ [] → ⊥
-  emptied_ending answer h = not_empty after.emitter.page.output (stays h.moves.grows)
+  emptied_ending answer h = not_empty after.emitter.page.output (stays h.emits.grows)

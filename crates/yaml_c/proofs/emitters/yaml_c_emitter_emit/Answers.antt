@@ -16,7 +16,7 @@ returns-in-Some c =
     let gave = c.in-Some.ensures.gave in
     let given : GivesRecord read c.tell_giving.result report before after = c.tell_giving.ensures read before after gave.1 in
     changed (UnlessClosed status report (GivesRecord read status report)) c.args.emitter.now.state c.put.new.self.state before after taken put
-    c.give_unless_closed-giving.ensures.output
+    c.give_unless_closed-giving.ensures.output (search rules)
     (while_open status report (GivesRecord read status report) before after gave.0
     (subst (λ (returned : ℤ). GivesRecord read returned report before after) (sym fits) given))
 
@@ -33,5 +33,5 @@ returns-in-None c =
     let closed = c.in-None.ensures.closed in
     let tells = c.tell_closed.ensures in
     changed (UnlessClosed status report (GivesRecord read status report)) c.args.emitter.now.state c.put.new.self.state before after taken put
-    c.give_unless_closed-giving.ensures.output
+    c.give_unless_closed-giving.ensures.output (search rules)
     (while_closed status report (GivesRecord read status report) before after closed.0 (fits ∙ tells.0, tells.1) closed.1)

@@ -10,4 +10,3 @@ invariant-loop-record g l =
     × (l.emitter.error ≡ None)
     × (l.number ≡ l.record-index)
     × HasGiven l.fn.arena l.fn.directives l.fn.events l.initial.emitter l.record-index l.last l.emitter
-    × (l.emitter.page.taken ≡ l.initial.emitter.page.taken)

@@ -8,5 +8,5 @@ returns-in-Owned-clause-gave g c =
     let emit = c.yaml_emitter_emit.ensures in (
       seen_event c.in-Owned.event,
       ap (λ given. Some (given_event given)) c.in-Owned.is,
-      record { moves = emit.moves; promised = emit.promised; waits = emit.waits; kept = emit.kept },
+      record { emits = emit.emits; unready = emit.unready; kept = emit.kept },
     )

@@ -21,6 +21,6 @@ returns c =
     let put : c.put.new.self.state ≡ Some after = search rules in
     let taken : Some before ≡ c.args.emitter.now.state = search rules in
     changed (UnlessClosed status report (GivesJson depth unique flow text status report)) c.args.emitter.now.state c.put.new.self.state before after taken
-    put c.give_and_tell-status.ensures.output
+    put c.give_and_tell-status.ensures.output (search rules)
     (subst (λ (returned : ℤ). UnlessClosed returned report (GivesJson depth unique flow text returned report) before after) (sym fits)
     c.give_and_tell-status.ensures.gave)

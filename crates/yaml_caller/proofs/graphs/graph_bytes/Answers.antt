@@ -1,4 +1,5 @@
-use Rattle.yaml_caller.proofs.Common.{◌<◌, ◌==◌, length, [], ap, subst, ◌∙◌, arith, StandsAfter, State, graph_of, Graph, typed_settings}
+use Rattle.yaml_caller.proofs.Common.{◌<◌, ◌==◌, length, ap, subst, ◌∙◌, arith, Settings, State, graph_of, Graph}
+use Rattle.yaml_caller.specs.Alone.{DumpsAlone}
 use Rattle.yaml_base.specs.Settings.{largest_usize}
 use Rattle.yaml_caller.proofs.GraphsCompared.{dump_writes, dump_refused}
 use Rattle.yaml_caller.proofs.graphs.graph_bytes.Goals as goal
@@ -18,20 +19,24 @@ dump_alone-answer-requires-clause-nonempty g c = ap (λ (graph : Graph). length 
 
 pub returns-in-Ok-answer-clause-written : goal.returns-in-Ok-answer-clause-written
 returns-in-Ok-answer-clause-written g c =
+    let made = c.in-Ok.ensures.made in
     let emitter = c.dump_alone-answer.new.emitter in
-    let stands = subst (λ given. StandsAfter given [] c.in-Ok.emitter) c.canonical_settings.ensures c.in-Ok.ensures.stands in
-    let whole = c.yaml_emitter_take_output-output.ensures.untaken
-    (c.dump_alone-answer.ensures.taken ∙ ap (λ (state : State). state.page.taken) c.in-Ok.ensures.made) in
-    dump_writes (graph_of c.args.document) (graph_of c.bare.result) c.yaml_emitter_take_output-output.result.items emitter c.dump_alone-answer.result _
-    c.bare.ensures c.in-Ok-answer.is whole (c.dump_alone-answer.ensures.dumps typed_settings stands)
+    let graph = graph_of c.bare.result in
+    let answer = c.dump_alone-answer.result in
+    let whole = c.yaml_emitter_take_output-output.ensures.untaken (c.dump_alone-answer.ensures.taken ∙ ap (λ (state : State). state.page.taken) made) in
+    dump_writes (graph_of c.args.document) graph c.yaml_emitter_take_output-output.result.items emitter answer _ c.bare.ensures c.in-Ok-answer.is whole
+    (subst (λ (given : Settings). DumpsAlone given graph answer emitter) (ap (λ (state : State). state.given) made ∙ c.canonical_settings.ensures)
+    (c.dump_alone-answer.ensures.dumps (ap (λ (state : State). state.events) made)))
 
 pub returns-clause-failed : goal.returns-clause-failed
 returns-clause-failed g c =
+    let made = c.in-Ok.ensures.made in
     let emitter = c.dump_alone-answer.new.emitter in
-    let stands = subst (λ given. StandsAfter given [] c.in-Ok.emitter) c.canonical_settings.ensures c.in-Ok.ensures.stands in
-    let whole = c.yaml_emitter_take_output-output.ensures.untaken
-    (c.dump_alone-answer.ensures.taken ∙ ap (λ (state : State). state.page.taken) c.in-Ok.ensures.made) in
+    let graph = graph_of c.bare.result in
+    let answer = c.dump_alone-answer.result in
+    let whole = c.yaml_emitter_take_output-output.ensures.untaken (c.dump_alone-answer.ensures.taken ∙ ap (λ (state : State). state.page.taken) made) in
     let bytes = c.yaml_emitter_take_output-output.result in
     let few : length bytes.items < largest_usize = omega (arith, bytes.ok.0, bytes.ok.1, bytes.small) in
-    dump_refused (graph_of c.args.document) (graph_of c.bare.result) _ bytes.items emitter c.dump_alone-answer.result
-    c.bare.ensures c.in-Err.is whole few (c.dump_alone-answer.ensures.dumps typed_settings stands)
+    dump_refused (graph_of c.args.document) graph _ bytes.items emitter answer c.bare.ensures c.in-Err.is whole few
+    (subst (λ (given : Settings). DumpsAlone given graph answer emitter) (ap (λ (state : State). state.given) made ∙ c.canonical_settings.ensures)
+    (c.dump_alone-answer.ensures.dumps (ap (λ (state : State). state.events) made)))

@@ -35,7 +35,7 @@ returns-in-Err g c =
     let before = c.args.emitter.now in
     from_none c.args.form.now graph before c.open_if_needed.new.emitter (Err c.in-Err.error) none
     (dumps_unopened (length graph.nodes == 0) (formed c.args.form.now graph) before c.open_if_needed.new.emitter before.opened c.in-Err.error refl none
-    c.in-Err.ensures)
+    c.promised.ensures.promised c.in-Err.ensures)
 
 pub returns-then-is_empty : goal.returns-then-is_empty
 returns-then-is_empty g c =
@@ -46,7 +46,8 @@ returns-then-is_empty g c =
     let opened = emits_opening before middle tt before.opened refl none c.in_default-open_if_needed.ensures in
     from_none c.args.form.now graph before c.yaml_emitter_close.new.emitter c.yaml_emitter_close.result none
     (dumps_closing (length graph.nodes == 0) (formed c.args.form.now graph) before middle c.yaml_emitter_close.new.emitter c.yaml_emitter_close.result
-    (sym c.is_empty-is_empty.ensures ∙ c.if-is_empty.true) (none_from_result middle.error opened.moves.answered) opened
+    (sym c.is_empty-is_empty.ensures ∙ c.if-is_empty.true) (none_from_result middle.error opened.emits.answered)
+    c.promised-then-is_empty.ensures.promised opened
     c.yaml_emitter_close.ensures.closes)
 
 pub returns : goal.returns
@@ -65,10 +66,10 @@ pub yaml_emitter_close-requires : goal.yaml_emitter_close-requires
 yaml_emitter_close-requires g c =
     let opened = emits_opening c.args.emitter.now c.open_if_needed.new.emitter tt c.args.emitter.now.opened refl
     (sym c.error.ensures ∙ c.in_default.is) c.in_default-open_if_needed.ensures in
-    record { opened = opened.moves.set.opened }
+    record { opened = opened.emits.set.opened }
 
 pub emit_in_form-requires : goal.emit_in_form-requires
 emit_in_form-requires g c =
     let opened = emits_opening c.args.emitter.now c.open_if_needed.new.emitter tt c.args.emitter.now.opened refl
     (sym c.error.ensures ∙ c.in_default.is) c.in_default-open_if_needed.ensures in
-    record { output = opened.moves.set.has_output ∙ c.requires; no_error = none_from_result c.open_if_needed.new.emitter.error opened.moves.answered }
+    record { output = opened.emits.set.has_output ∙ c.requires; no_error = none_from_result c.open_if_needed.new.emitter.error opened.emits.answered }

@@ -10,4 +10,4 @@ returns-then-is_opened g c =
 pub returns : goal.returns
 returns g c =
     subst (λ (opened : Bool). OpensFrom opened c.args.emitter.now c.yaml_emitter_open.result c.yaml_emitter_open.new.emitter)
-    (sym c.if-is_opened.false ∙ c.is_opened.ensures.value) c.yaml_emitter_open.ensures.moves
+    (sym c.if-is_opened.false ∙ c.is_opened.ensures.value) c.yaml_emitter_open.ensures.emits

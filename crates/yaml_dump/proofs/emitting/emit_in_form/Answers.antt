@@ -1,9 +1,9 @@
 use Rattle.yaml_dump.proofs.Common.{[], map, ◌++◌, ◌∷◌, refl, ap, subst, sym, ◌∙◌, into_iter_items, Event, seen_event}
 use Rattle.yaml_dump.proofs.Common.{none_from_result, Err, Ok, List, map-append}
 use Rattle.std.proofs.lemmas.{Iterator.Adapters.YieldsList-from_vec, Iterator.Consumers.YieldsList-end, List.map-id}
-use Rattle.yaml_dump.proofs.Emissions.{parts_more, some_more}
+use Rattle.yaml_dump.proofs.Emissions.{emits_promised, parts_more, some_more}
 use Rattle.yaml_dump.proofs.Formed.{none_formed}
-use Rattle.yaml_emitter.{proofs.standing.Moving.moves_nothing, proofs.standing.Moving.moves_then, specs.Moves.Moves}
+use Rattle.yaml_emitter.{proofs.Giving.emits_nothing, proofs.Giving.emits_then, specs.Emits.Emits}
 use Rattle.yaml_dump.specs.EventForms.{event_in_form}
 use Rattle.yaml_dump.proofs.emitting.emit_in_form.Goals as goal
 
@@ -14,6 +14,8 @@ returns-in-Err g c =
     let before = map seen_event now.yielded in
     let next = seen_event c.in-Some.event in
     let later = map seen_event (into_iter_items c.next.new.self) in
+    let failed = subst (λ (event : Event). Emits now.emitter (event ∷ []) (Err c.in-Err.error) c.yaml_emitter_emit.new.emitter) c.event.ensures
+    c.in-Err.ensures.emits in
     record {
       emits =
           record {
@@ -25,13 +27,16 @@ returns-in-Err g c =
                 ∙ ap (λ (events : List Event). map (event_in_form form) events)
                 (sym (map-append seen_event now.yielded (c.in-Some.event ∷ into_iter_items c.next.new.self))
                 ∙ ap (λ left. map seen_event (now.yielded ++ left)) (sym c.in-Some.ensures.steps.0) ∙ ap (map seen_event) now.invariant.4);
-            between = now.emitter;
-            moved = now.invariant.5;
-            failed =
-                subst (λ (event : Event). Moves now.emitter (event ∷ []) (Err c.in-Err.error) c.yaml_emitter_emit.new.emitter) c.event.ensures
-                c.in-Err.ensures.moves;
+            kept = record {
+              between = now.emitter;
+              no_error = now.invariant.3;
+              promised = emits_promised now.invariant.5 c.promised.ensures.promised c.args.emitter.now.given c.args.emitter.now.events refl refl;
+              grown = now.invariant.5.grows;
+              grows = failed.grows;
+            };
+            emits = emits_then now.invariant.5 failed;
           };
-      output = c.yaml_emitter_emit.ensures.moves.set.has_output ∙ now.invariant.2;
+      output = failed.set.has_output ∙ now.invariant.2;
     }
 
 pub loop-event-preserved : goal.loop-event-preserved
@@ -42,17 +47,17 @@ loop-event-preserved g c =
     let next = seen_event c.in-Some.event in (
       tt,
       tt,
-      c.yaml_emitter_emit.ensures.moves.set.has_output ∙ now.invariant.2,
-      none_from_result c.yaml_emitter_emit.new.emitter.error c.in_default.ensures.moves.answered,
+      c.yaml_emitter_emit.ensures.emits.set.has_output ∙ now.invariant.2,
+      none_from_result c.yaml_emitter_emit.new.emitter.error c.in_default.ensures.emits.answered,
       parts_more now.yielded c.in-Some.event (into_iter_items c.next.new.self)
           (into_iter_items now.event-iterator) c.args.events.items now.invariant.4 c.in-Some.ensures.steps.0,
-      subst (λ (events : List Event). Moves c.args.emitter.now events (Ok tt) c.yaml_emitter_emit.new.emitter)
+      subst (λ (events : List Event). Emits c.args.emitter.now events (Ok tt) c.yaml_emitter_emit.new.emitter)
           (sym
           (ap (λ (events : List Event). map (event_in_form form) events) (map-append seen_event now.yielded (c.in-Some.event ∷ []))
           ∙ map-append (event_in_form form) before (next ∷ [])))
-          (moves_then now.invariant.5
-          (subst (λ (event : Event). Moves now.emitter (event ∷ []) (Ok tt) c.yaml_emitter_emit.new.emitter) c.event.ensures
-          c.in_default.ensures.moves)),
+          (emits_then now.invariant.5
+          (subst (λ (event : Event). Emits now.emitter (event ∷ []) (Ok tt) c.yaml_emitter_emit.new.emitter) c.event.ensures
+          c.in_default.ensures.emits)),
       λ none. absurd (some_more seen_event now.yielded c.in-Some.event none),
     )
 
@@ -63,7 +68,7 @@ loop-event-init g c = (
   c.requires.output,
   c.requires.no_error,
   c.into_iter-event-iterator.ensures.into_iter_gives.0,
-  moves_nothing c.args.emitter.now c.requires.no_error,
+  emits_nothing c.args.emitter.now c.requires.no_error,
   λ none. refl,
 )
 
@@ -79,8 +84,8 @@ returns g c =
     record {
       emits =
           record {
-            moves =
-                subst (λ (events : List Event). Moves c.args.emitter.now (map (event_in_form form) events) (Ok tt) now.emitter) whole now.invariant.5;
+            emits =
+                subst (λ (events : List Event). Emits c.args.emitter.now (map (event_in_form form) events) (Ok tt) now.emitter) whole now.invariant.5;
             unchanged = λ none. now.invariant.6 (whole ∙ none_formed form (map seen_event c.args.events.items) none);
           };
       output = now.invariant.2;

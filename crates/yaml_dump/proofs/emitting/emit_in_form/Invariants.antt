@@ -1,5 +1,5 @@
 use Rattle.yaml_dump.proofs.Common.{None, Ok, true, [], map, ◌++◌, ◌≡◌, into_iter_items, seen_event}
-use Rattle.yaml_emitter.specs.Moves.{Moves}
+use Rattle.yaml_emitter.specs.Emits.{Emits}
 use Rattle.yaml_dump.specs.EventForms.{event_in_form}
 use Rattle.yaml_dump.proofs.emitting.emit_in_form.Given as goal
 
@@ -10,5 +10,5 @@ invariant-loop-event g l =
     × (l.emitter.has_output ≡ true)
     × (l.emitter.error ≡ None)
     × (l.yielded ++ into_iter_items l.event-iterator ≡ l.fn.events.items)
-    × Moves l.initial.emitter (map (event_in_form l.fn.form) (map seen_event l.yielded)) (Ok tt) l.emitter
+    × Emits l.initial.emitter (map (event_in_form l.fn.form) (map seen_event l.yielded)) (Ok tt) l.emitter
     × (map seen_event l.yielded ≡ [] → l.emitter ≡ l.initial.emitter)

@@ -1,8 +1,7 @@
-use Rattle.yaml_dump.proofs.Common.{Bool, Ok, Err, false, true, [], ◌∷◌, refl, subst, sym, ◌∙◌, stream_end, State, none_from_result}
-use Rattle.yaml_dump.proofs.{Emissions.closed_already, Emissions.error_kept, GraphLemmas.moved_reads}
+use Rattle.yaml_dump.proofs.Common.{Bool, Ok, Err, false, true, [], ◌∷◌, refl, ap, subst, sym, ◌∙◌, stream_end, State, none_from_result}
+use Rattle.yaml_dump.proofs.{Emissions.closed_already, Emissions.error_kept, GraphLemmas.graphs_read, GraphLemmas.trees_read}
 use Rattle.yaml_dump.specs.Dumps.{ClosesFrom}
-use Rattle.yaml_emitter.{proofs.standing.Moving.moves_flagged, proofs.standing.Moving.moves_under, proofs.standing.StandingFlagged.stands_flagged}
-use Rattle.yaml_emitter.specs.Moves.{Moves}
+use Rattle.yaml_emitter.{proofs.Giving.emits_flagged, proofs.Giving.emits_under, specs.Emits.Emits}
 use Rattle.yaml_dump.proofs.streams.yaml_emitter_close.Goals as goal
 
 pub returns-then-is_closed-clause-closes : goal.returns-then-is_closed-clause-closes
@@ -15,35 +14,24 @@ pub returns-in-Err-clause-closes : goal.returns-in-Err-clause-closes
 returns-in-Err-clause-closes g c =
     let before = c.args.emitter.now in
     let running = sym c.is_closed.ensures ∙ c.if-is_closed.false in
-    let moves = c.in-Err.ensures.moves in
+    let emits = c.in-Err.ensures.emits in
     subst (λ (b : Bool). ClosesFrom b before (Err c.in-Err.error) c.yaml_emitter_emit.new.emitter) (sym running)
-    (moves_flagged moves before.opened false moves.set.opened (moves.set.closed ∙ running))
+    (emits_flagged emits before.opened false emits.set.opened (emits.set.closed ∙ running))
 
 -- the stream's end was emitted
-pub returns-clause-closes : goal.returns-clause-closes
-returns-clause-closes g c =
+pub returns : goal.returns
+returns g c =
     let before = c.args.emitter.now in
-    let running = sym c.is_closed.ensures ∙ c.if-is_closed.false in
-    let moves = c.in_default.ensures.moves in
-    subst (λ (b : Bool). ClosesFrom b before (Ok tt) c.mark_closed.new.self) (sym running)
-    (subst (λ (s : State). Moves (record before { closed = true }) (stream_end ∷ []) (Ok tt) s) (sym c.mark_closed.ensures.set)
-    (moves_flagged (moves_under c.yaml_emitter_emit.new.emitter.opened true moves) before.opened true moves.set.opened refl))
-
-pub returns-clause-graphs : goal.returns-clause-graphs
-returns-clause-graphs g c running =
-    let closes = subst (λ (b : Bool). ClosesFrom b c.args.emitter.now (Ok tt) c.mark_closed.new.self) running (returns-clause-closes g c) in
-    λ given all stands.
-    (moved_reads (record c.args.emitter.now { closed = true }) c.mark_closed.new.self [] closes given all
-    (stands_flagged given all c.args.emitter.now c.args.emitter.now.opened true stands)).0
-
-pub returns-clause-trees : goal.returns-clause-trees
-returns-clause-trees g c running =
-    let closes = subst (λ (b : Bool). ClosesFrom b c.args.emitter.now (Ok tt) c.mark_closed.new.self) running (returns-clause-closes g c) in
-    λ given all stands.
-    (moved_reads (record c.args.emitter.now { closed = true }) c.mark_closed.new.self [] closes given all
-    (stands_flagged given all c.args.emitter.now c.args.emitter.now.opened true stands)).1
-
-pub returns-clause-kept : goal.returns-clause-kept
-returns-clause-kept g c running =
-    error_kept c.args.emitter.now c.yaml_emitter_emit.new.emitter _ c.yaml_emitter_emit.ensures.kept
-    (none_from_result c.yaml_emitter_emit.new.emitter.error c.in_default.ensures.moves.answered)
+    let after = c.mark_closed.new.self in
+    let emits = c.in_default.ensures.emits in
+    let none = none_from_result c.yaml_emitter_emit.new.emitter.error emits.answered in
+    let unfailed = ap (λ (s : State). s.error) c.mark_closed.ensures.set ∙ none in
+    record {
+      closes =
+          subst (λ (b : Bool). ClosesFrom b before (Ok tt) after) (sym c.if-is_closed.false ∙ c.is_closed.ensures)
+          (subst (λ (s : State). Emits (record before { closed = true }) (stream_end ∷ []) (Ok tt) s) (sym c.mark_closed.ensures.set)
+          (emits_flagged (emits_under c.yaml_emitter_emit.new.emitter.opened true emits) before.opened true emits.set.opened refl));
+      kept = λ running. error_kept before c.yaml_emitter_emit.new.emitter _ c.yaml_emitter_emit.ensures.kept none;
+      graphs = λ running. graphs_read after c.promised.ensures.promised unfailed;
+      trees = λ running. trees_read after c.promised.ensures.promised unfailed;
+    }

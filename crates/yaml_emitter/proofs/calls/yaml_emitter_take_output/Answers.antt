@@ -1,6 +1,6 @@
 use Rattle.yaml_emitter.proofs.Common.{ap, ◌∙◌}
-use Rattle.yaml_emitter.proofs.{Keeping.keeps_taken, standing.Promising.promised}
-use Rattle.yaml_emitter.proofs.standing.{TakenFrom.emitter_kept, TakenFrom.stands_from, TakenFrom.state_taken}
+use Rattle.yaml_emitter.proofs.{Keeping.keeps_taken}
+use Rattle.yaml_emitter.proofs.standing.{TakenFrom.emitter_kept, TakenFrom.state_taken}
 use Rattle.yaml_emitter.specs.EmitterInside.{engine_of}
 use Rattle.yaml_emitter.proofs.calls.yaml_emitter_take_output.Goals as goal
 
@@ -17,11 +17,3 @@ pub returns-clause-taken : goal.returns-clause-taken
 returns-clause-taken g c =
     state_taken c.emitter-inside.inside.0.0 c.args.emitter.now c.take_output.new.self (ap engine_of c.emitter-inside.view_is ∙ c.emitter.view_is)
     c.take_output.ensures.taken
-
-pub returns-clause-stands : goal.returns-clause-stands
-returns-clause-stands g c given all stands =
-    stands_from c.emitter-inside.inside.0.0 c.args.emitter.now c.take_output.new.self (ap engine_of c.emitter-inside.view_is ∙ c.emitter.view_is)
-    c.take_output.ensures.taken given all stands
-
-pub returns-clause-promised : goal.returns-clause-promised
-returns-clause-promised g c given all stands = promised given all _ (returns-clause-stands g c given all stands)

@@ -7,16 +7,13 @@ pub set_limit-requires : goal.set_limit-requires
 set_limit-requires g c =
     c.emitter-inside.invariant.untouched (ap (λ (s : State). s.has_output) (ap engine_of c.emitter-inside.view_is ∙ c.emitter.view_is) ∙ c.requires)
 
-pub returns-clause-set : goal.returns-clause-set
-returns-clause-set g c = first_of (search rules, grind (arith, common_steps))
-
-pub returns-clause-stands : goal.returns-clause-stands
-returns-clause-stands g c stands = stands_limited c.args.emitter.now _ _ (returns-clause-set g c) stands
+pub returns : goal.returns
+returns g c = record { set = first_of (search rules, grind (arith, common_steps)) }
 
 pub invariant_of-emitter-inside : goal.invariant_of-emitter-inside
 invariant_of-emitter-inside g c = kept_limited c.emitter-inside.inside.0.0 c.set_limit.new.self c.emitter-inside.invariant
 
 pub invariant_of-emitter : goal.invariant_of-emitter
 invariant_of-emitter g c =
-    keeps_limited c.emitter.view_is c.requires (ap (λ (s : State). s.events) (returns-clause-set g c))
-    (subst Within (sym (returns-clause-set g c))) (returns-clause-stands g c) c.emitter.invariant
+    keeps_limited c.emitter.view_is c.requires (ap (λ (s : State). s.events) (returns g c).set)
+    (subst Within (sym (returns g c).set)) (λ stands. stands_limited c.args.emitter.now _ _ (returns g c).set stands) c.emitter.invariant

@@ -34,7 +34,8 @@ returns-then-is_empty g c =
       grows = (grew_then was c.texts.writer now None c.texts.invariant.2 (grew_kept c.texts.writer now wrote.kept)).grows;
       sound = wrote.kept.sound;
       written = texts_done s.depth s.flow s.unique_names text was rest first later c.texts.writer now cut so_far wrote.names wrote.written last;
-      reads = texts_read s.depth s.flow s.unique_names text was rest first later c.texts.writer now cut so_far wrote.names wrote.written last;
+      reads = texts_read s.depth s.flow s.unique_names text was rest first later c.texts.writer now cut so_far wrote.names wrote.written last
+          c.promised.ensures.stands.texts;
       names = texts_names s.depth s.flow s.unique_names text was rest first later c.texts.writer now cut so_far wrote.names wrote.written last;
     }
 

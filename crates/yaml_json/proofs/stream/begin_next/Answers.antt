@@ -23,7 +23,7 @@ returns-in-Ok g c =
     let passed = c.in_default.ensures.passed (bare_awaits_none before c.requires) in
     record {
       begun = begun_taken before middle c.send.new.self (output_left middle.emitter.page) (g.W.Write.contents c.args.sink.now)
-          (g.W.Write.contents c.send.new.sink) c.requires passed c.in-Ok.ensures.takes c.in-Ok.ensures.kept c.in-Ok.ensures.sent;
+          (g.W.Write.contents c.send.new.sink) c.requires passed refl c.in-Ok.ensures.kept c.in-Ok.ensures.sent;
       grew = grew_then before middle c.send.new.self None (grew_passed before middle between passed) (grew_sent middle c.send.new.self c.in-Ok.ensures.kept);
     }
 

@@ -69,7 +69,8 @@ returns-in-Ok-false g c =
     let comes = more_came s.depth s.flow s.unique_names a.writer.now start first l.incoming c.read_more.new.incoming (g.R.Read.remaining l.reader) later
     l.writer (g.W.Write.contents l.sink) c.in-Ok-false.ensures.come c.in-Ok-false.ensures.place l.invariant.2 in
     ends_sending s a.writer.now start held c.read_more.new.incoming.reading.place later l.writer (g.W.Write.contents l.sink) end.0
-    c.read_more.new.incoming.reading.cut scanned.0 scanned.1 c.write_last.result c.write_last.new.writer first l.invariant.3 c.write_last.ensures comes
+    c.read_more.new.incoming.reading.cut scanned.0 scanned.1 c.write_last-answer.result c.write_last-answer.new.writer first l.invariant.3
+    c.write_last-answer.ensures c.promised.ensures.stands.texts comes
 
 pub returns-in-Err-write_complete : goal.returns-in-Err-write_complete
 returns-in-Err-write_complete g c =
@@ -134,8 +135,8 @@ returns g c =
 pub read_more-requires : goal.read_more-requires
 read_more-requires g c = c.parts.invariant.1
 
-pub write_last-requires : goal.write_last-requires
-write_last-requires g c = c.parts.invariant.0
+pub write_last-answer-requires : goal.write_last-answer-requires
+write_last-answer-requires g c = c.parts.invariant.0
 
 pub write_complete-requires-clause-bare : goal.write_complete-requires-clause-bare
 write_complete-requires-clause-bare g c = c.parts.invariant.0

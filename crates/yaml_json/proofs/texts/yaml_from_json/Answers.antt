@@ -20,7 +20,7 @@ returns-in-Err g c =
       refused = unwritten.refused;
       why = explained s.depth s.unique_names s.flow text first.writer now error unwritten.stopped;
       failed = if_some (writers_error error)
-          (λ code. text_failed (seen_settings s.writer) s.flow s.depth text first.writer now code first.ensures.stands first.ensures.canonical)
+          (λ code. text_failed (seen_settings s.writer) s.flow s.depth text first.writer now code first.ensures.made c.promised.ensures.stands)
           (writer_failed s.depth s.unique_names s.flow text first.writer now error unwritten.stopped unwritten.sound);
       place = unwritten.place;
     }
@@ -32,7 +32,7 @@ returns-in-Ok-finish g c =
     let wrote = c.in_default-write_json.ensures in
     record {
       stream = yaml_of (seen_settings s.writer) s.flow s.depth c.args.text.now c.in-Ok-finish.bytes.items first.writer c.write_json.new.writer
-          first.ensures.stands first.ensures.canonical wrote.written c.in-Ok-finish.ensures.finishes;
+          first.ensures.made wrote.written c.promised-2.ensures.stands.texts c.in-Ok-finish.ensures.finishes;
       names = wrote.names;
     }
 
@@ -45,7 +45,7 @@ returns-in-Err-finish g c =
     record {
       refused = λ denied. absurd denied;
       why = tt;
-      failed = finish_failed (seen_settings s.writer) s.flow s.depth c.args.text.now first.writer now c.in-Err-finish.error first.ensures.stands
-          first.ensures.canonical written (c.in-Err-finish.ensures.unfinished (bare_awaits_none now written.wrote.bare));
+      failed = finish_failed (seen_settings s.writer) s.flow s.depth c.args.text.now first.writer now c.in-Err-finish.error first.ensures.made
+          c.promised-2.ensures.stands written (c.in-Err-finish.ensures.unfinished (bare_awaits_none now written.wrote.bare));
       place = (0, (tt, tt));
     }

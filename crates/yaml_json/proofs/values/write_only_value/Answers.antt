@@ -36,7 +36,7 @@ past_stopped (token ∷ after) depth unique flow start before front last was now
       gave = gave_same was now (json_events was.canonical flow wrote.json) (tokens_events was.canonical flow (json_tokens wrote.json))
           (sym (value_given wrote.json was.canonical flow))
           (record {
-            adds = wrote.wrote.adds;
+            emits = wrote.wrote.emits;
             canonical = wrote.wrote.canonical;
             levels = wrote.wrote.levels ∙ sym (value_closed wrote.json was.canonical flow was.levels);
             bare = wrote.wrote.bare;

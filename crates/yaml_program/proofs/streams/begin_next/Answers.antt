@@ -10,6 +10,5 @@ returns-in-Ok-clause-begun g c = record {
   begun = c.next_document.new.self;
   passed = c.in_default.ensures.passed c.requires;
   sends = c.in-Ok.ensures.sent;
-  takes = c.in-Ok.ensures.takes;
   kept = c.in-Ok.ensures.kept;
 }

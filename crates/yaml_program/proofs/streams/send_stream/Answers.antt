@@ -4,11 +4,10 @@ use Rattle.yaml_program.proofs.streams.send_stream.Goals as goal
 
 pub returns-in-Ok-write_all-clause-sent : goal.returns-in-Ok-write_all-clause-sent
 returns-in-Ok-write_all-clause-sent g c = λ files are.
-    let held = g.W.Write.contents c.send_documents.new.sink in record {
+    let held = g.W.Write.contents c.send_documents-sent.new.sink in record {
       first = c.in-Ok.writer;
-      stands = c.in-Ok.ensures.stands;
-      canonical = c.in-Ok.ensures.canonical;
-      last = c.send_documents.new.writer;
+      is_new = c.in-Ok.ensures.made;
+      last = c.send_documents-sent.new.writer;
       held = held;
       documents = c.in_default.ensures.sent files are;
       rest = (

@@ -1,5 +1,5 @@
 use Rattle.yaml_serde.proofs.Common.{seen_settings, subst, sym, Finishes}
-use Rattle.yaml_serde.proofs.Gave.{begins_nothing, begun_by, fails_with, written_by}
+use Rattle.yaml_serde.proofs.Gave.{begins_nothing, begun_by, fails_with, new_begins, written_by}
 use Rattle.yaml_serde.proofs.serializing.to_writer_with.Goals as goal
 
 pub returns-in_err-writer-clause-first : goal.returns-in_err-writer-clause-first
@@ -9,27 +9,29 @@ returns-in_err-writer-clause-first g c =
 pub returns-in_err-write_and_send-clause-first : goal.returns-in_err-write_and_send-clause-first
 returns-in_err-write_and_send-clause-first g c =
     fails_with c.from_residual-in_err-write_and_send.result
-    (c.in_err-write_and_send.ensures (seen_settings c.args.settings.writer) c.in_ok-writer.ensures.stands)
+    (new_begins (seen_settings c.args.settings.writer) c.in_ok-writer.writer (g.W.Write.contents c.args.sink.now)
+    (g.W.Write.contents c.write_and_send.new.sink) c.in_ok-writer.ensures.made c.in_err-write_and_send.ensures)
 
 pub returns-in_err-rest-clause-first : goal.returns-in_err-rest-clause-first
 returns-in_err-rest-clause-first g c =
     fails_with c.from_residual-in_err-rest.result
-    (c.in_ok-write_and_send.ensures.first (seen_settings c.args.settings.writer) c.in_ok-writer.ensures.stands)
+    (new_begins (seen_settings c.args.settings.writer) c.in_ok-writer.writer (g.W.Write.contents c.args.sink.now)
+    (g.W.Write.contents c.write_and_send.new.sink) c.in_ok-writer.ensures.made c.in_ok-write_and_send.ensures.first)
 
 pub returns-clause-written : goal.returns-clause-written
 returns-clause-written g c =
     let held = g.W.Write.contents in
     let sent = c.write_and_send in
     let emitter = sent.new.writer.emitter in
-    written_by c.finish_sink.result (seen_settings c.args.settings.writer) (held c.args.sink.now) (held sent.new.sink) (held c.finish_sink.new.sink)
-    c.in_ok-writer.writer.emitter emitter c.as_slice.result.now c.in_ok-writer.ensures.stands c.in_ok-write_and_send.ensures.whole
-    (subst (Finishes emitter) (sym c.as_slice.ensures.value) c.in_ok-rest.ensures.finishes) c.finish_sink.ensures.written
+    written_by (seen_settings c.args.settings.writer) c.in_ok-writer.writer c.in_ok-writer.ensures.made emitter c.as_slice.result.now
+    (subst (Finishes emitter) (sym c.as_slice.ensures.value) c.in_ok-rest.ensures.finishes) (held c.args.sink.now) (held sent.new.sink)
+    (held c.finish_sink.new.sink) c.in_ok-write_and_send.ensures.whole c.finish_sink.result c.finish_sink.ensures.written
 
 pub returns-clause-first : goal.returns-clause-first
 returns-clause-first g c =
     let held = g.W.Write.contents in
     let sent = c.write_and_send in
     let emitter = sent.new.writer.emitter in
-    begun_by c.finish_sink.result (seen_settings c.args.settings.writer) (held c.args.sink.now) (held sent.new.sink) (held c.finish_sink.new.sink)
-    c.in_ok-writer.writer.emitter emitter c.as_slice.result.now c.in_ok-writer.ensures.stands c.in_ok-write_and_send.ensures.whole
-    (subst (Finishes emitter) (sym c.as_slice.ensures.value) c.in_ok-rest.ensures.finishes) c.finish_sink.ensures.first
+    begun_by (seen_settings c.args.settings.writer) c.in_ok-writer.writer c.in_ok-writer.ensures.made emitter c.as_slice.result.now
+    (subst (Finishes emitter) (sym c.as_slice.ensures.value) c.in_ok-rest.ensures.finishes) (held c.args.sink.now) (held sent.new.sink)
+    (held c.finish_sink.new.sink) c.in_ok-write_and_send.ensures.whole c.finish_sink.result c.finish_sink.ensures.first

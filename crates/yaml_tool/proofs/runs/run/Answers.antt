@@ -1,5 +1,5 @@
 use Rattle.yaml_tool.proofs.Common.{map, ap, subst, ◌∙◌, Appends, State, seen_numbered, seen_settings}
-use Rattle.yaml_tool.proofs.RunLemmas.{tells_all, fault_answers, no_memory_answers, writes_nothing, returned_answer, silent_only}
+use Rattle.yaml_tool.proofs.RunLemmas.{tells_all, fault_answers, no_memory_answers, writes_nothing, returned_answer, runs_new, silent_only}
 use Rattle.yaml_tool.proofs.PartLemmas.{reads_at_end}
 use Rattle.yaml_base.specs.Sinks.{AppendsFirst}
 use Rattle.yaml_tool.specs.declared.answers.run_answer_t.TheVariants.{NoMemory, WriteFailed}
@@ -12,18 +12,17 @@ returns-in-Ok-written-clause-reported g c =
     let answer = c.emit_all-answer.result in
     let old = g.W.Write.contents c.args.writer.now in
     let new = g.W.Write.contents c.write_to_sink-written.new.sink in
-    let emits = c.emit_all-answer.ensures.emits set c.in-Ok-with_settings.ensures.stands in
+    let runs = runs_new set all answer _ c.emit_all-answer.new.emitter c.in-Ok-with_settings.ensures.made c.emit_all-answer.ensures.runs in
     let untaken = c.emit_all-answer.ensures.taken ∙ ap (λ (s : State). s.page.taken) c.in-Ok-with_settings.ensures.made in
     tells_all (g.R.Read.remaining c.args.reader.now) set all answer old new c.in-Ok.ensures.understood
-    (returned_answer set all answer c.emit_all-answer.new.emitter old new emits
+    (returned_answer set all answer c.emit_all-answer.new.emitter old new runs
     (subst (Appends old new) (c.output.ensures.untaken untaken) c.in-Ok-written.ensures.whole))
 
 pub returns-in-Ok-written-clause-unwritten : goal.returns-in-Ok-written-clause-unwritten
 returns-in-Ok-written-clause-unwritten g c =
-    let set = seen_settings c.in-Ok.script.settings in
-    silent_only set (map seen_numbered c.in-Ok.script.events.items) c.emit_all-answer.result c.emit_all-answer.new.emitter
+    silent_only _ (map seen_numbered c.in-Ok.script.events.items) c.emit_all-answer.result c.emit_all-answer.new.emitter
     (g.W.Write.contents c.args.writer.now) (g.W.Write.contents c.write_to_sink-written.new.sink)
-    (c.emit_all-answer.ensures.emits set c.in-Ok-with_settings.ensures.stands)
+    (c.emit_all-answer.ensures.runs (ap (λ (s : State). s.events) c.in-Ok-with_settings.ensures.made))
 
 pub returns-in-Err-clause-reported : goal.returns-in-Err-clause-reported
 returns-in-Err-clause-reported g c =
@@ -50,13 +49,15 @@ returns-in-Ok-written-clause-read g c = reads_at_end c.emit_all-answer.result _ 
 pub returns-in-Err-written-clause-reported : goal.returns-in-Err-written-clause-reported
 returns-in-Err-written-clause-reported g c =
     let set = seen_settings c.in-Ok.script.settings in
+    let all = map seen_numbered c.in-Ok.script.events.items in
+    let answer = c.emit_all-answer.result in
     let old = g.W.Write.contents c.args.writer.now in
     let new = g.W.Write.contents c.write_to_sink-written.new.sink in
     let untaken = c.emit_all-answer.ensures.taken ∙ ap (λ (s : State). s.page.taken) c.in-Ok-with_settings.ensures.made in
-    tells_all (g.R.Read.remaining c.args.reader.now) set (map seen_numbered c.in-Ok.script.events.items) WriteFailed old new c.in-Ok.ensures.understood (
-      c.emit_all-answer.result,
+    tells_all (g.R.Read.remaining c.args.reader.now) set all WriteFailed old new c.in-Ok.ensures.understood (
+      answer,
       c.emit_all-answer.new.emitter,
-      c.emit_all-answer.ensures.emits set c.in-Ok-with_settings.ensures.stands,
+      runs_new set all answer _ c.emit_all-answer.new.emitter c.in-Ok-with_settings.ensures.made c.emit_all-answer.ensures.runs,
       subst (AppendsFirst old new) (c.output.ensures.untaken untaken) c.in-Err-written.ensures.first,
     )
 

@@ -3,7 +3,7 @@ use Rattle.yaml_emitter.proofs.Common.{[], ◌++◌, append-nil}
 use Rattle.yaml_emitter.proofs.Common.{StandsAfter, State, MachineState, none_from_result, some_from_result, encoded, result_of_error, Grows}
 use Rattle.yaml_emitter.proofs.Common.{KeepsSet, Page}
 use Rattle.yaml_base.specs.declared.errors.yaml_error_t.TheVariants.{Memory}
-use Rattle.yaml_emitter.proofs.standing.{EmitterKept.has_output_inside, EmitterKept.kept_emitting, Growing.flushed_unflushed, Moving.moved_nowhere}
+use Rattle.yaml_emitter.proofs.standing.{EmitterKept.has_output_inside, EmitterKept.kept_emitting, Growing.flushed_unflushed}
 use Rattle.yaml_emitter.proofs.standing.{StandingMore.flush_stands, StandingMore.flush_failed}
 use Rattle.yaml_emitter.proofs.standing.Promising.{promises_bytes, stands_unfailed, stands_encoded}
 use Rattle.yaml_pen.proofs.Composing.{flushed_grows, grows_itself}
@@ -69,8 +69,9 @@ returns-in-Ok-clause-moves g c =
 pub returns-in-Ok-clause-flushed : goal.returns-in-Ok-clause-flushed
 returns-in-Ok-clause-flushed g c given all stands =
     let unfailed = none_from_result c.flush.new.self.page.error c.in-Ok.ensures.flushed.answered in
-    promises_bytes given all (state_of (record c.self.inside { machine = c.flush.new.self }))
-    (moved_nowhere (returns-in-Ok-clause-moves g c) given all stands).0.so
+    let flushed : State = state_of (record c.self.inside { machine = c.flush.new.self }) in
+    promises_bytes given all flushed
+    (subst (λ (l : List Event). StandsAfter given l flushed) (append-nil all) ((returns-in-Ok-clause-moves g c).stands given all stands)).so
     (ap (λ (m : MachineState). m.error) c.flush.ensures.kept ∙ unfailed)
     (c.in-Ok.ensures.flushed.all unfailed).1
 

@@ -1,5 +1,5 @@
 use Rattle.yaml_writer.proofs.Common.{Bool, Event, [], ◌∷◌, subst, document_end, writer_state_of, plain_start, is_implicit}
-use Rattle.yaml_emitter.{proofs.standing.Moving.moves_then, specs.Moves.Moves}
+use Rattle.yaml_emitter.{proofs.Giving.emits_then, specs.Emits.Emits}
 use Rattle.yaml_writer.proofs.Taken.{passed}
 use Rattle.yaml_writer.proofs.writer.Writer.next_document_after.Goals as goal
 
@@ -10,6 +10,6 @@ returns-clause-passed g c none =
     let implicit = c.is_implicit-implicit.result in
     let answer = c.give-2.result in
     passed (writer_state_of c.self.inside) c.args.self.now (document_end (is_implicit c.args.end) ∷ plain_start ∷ []) answer after c.self.view_is
-    (subst (λ (end : Bool). Moves before (document_end end ∷ plain_start ∷ []) answer after) c.is_implicit-implicit.ensures
-    (subst (λ (start : Event). Moves before (document_end implicit ∷ start ∷ []) answer after) c.plain_start.ensures
-    (moves_then c.give.ensures.moves c.give-2.ensures.moves)))
+    (subst (λ (end : Bool). Emits before (document_end end ∷ plain_start ∷ []) answer after) c.is_implicit-implicit.ensures
+    (subst (λ (start : Event). Emits before (document_end implicit ∷ start ∷ []) answer after) c.plain_start.ensures
+    (emits_then c.give.ensures.emits c.give-2.ensures.emits)))

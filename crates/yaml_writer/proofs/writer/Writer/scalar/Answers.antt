@@ -4,7 +4,7 @@ use Rattle.yaml_writer.proofs.Common.{seen_scalar_style, writer_state_of, Writer
 use Rattle.yaml_base.proofs.Common.{Some, false≢true, or_parts}
 use Rattle.std.specs.{Borrow.Bor, Prelude.Result}
 use Rattle.yaml_base.specs.{declared.errors.yaml_error_t.yaml_error_t, Event.ScalarStyle}
-use Rattle.yaml_emitter.specs.{BorrowedTexts.seen_name, EmitsEvent.EmitsScalar}
+use Rattle.yaml_emitter.specs.{BorrowedTexts.seen_name, Emits.TakesScalar}
 use Rattle.yaml_writer.{proofs.Taken.gave_bare, specs.Writing.Gives, specs.Writing.scalar_event}
 use Rattle.yaml_writer.proofs.writer.Writer.scalar.Goals as goal
 
@@ -54,7 +54,7 @@ returns g c =
     let same : bare_with c.is_none-implicit.result ≡ event c.args.self.now =
     ap bare_with (none_seen c.args.own c.is_none-implicit.result c.is_none-implicit.ensures) ∙ bare_event before own value style no_anchor no_tag
     ∙ ap event c.self.view_is in
-    let emits = subst (λ (e : Event). EmitsScalar before.emitter e answer emitter) same c.yaml_emitter_emit_scalar.ensures.emits in
+    let emits = subst (λ (e : Event). TakesScalar before.emitter e answer emitter) same c.yaml_emitter_emit_scalar.ensures.takes in
     subst (λ (r : Result (Unit {0}) yaml_error_t). Gives c.args.self.now (event c.args.self.now) r (record before { emitter = emitter }))
     (sym c.into_result.ensures)
     (gave_bare before c.args.self.now emitter (event c.args.self.now) answer c.self.view_is emits no_anchor no_tag)

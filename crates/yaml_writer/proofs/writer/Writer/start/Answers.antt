@@ -26,5 +26,5 @@ returns g c =
     let event = collection_start_event c.args.self.now c.args.start in
     gave_event (writer_state_of c.self.inside) c.args.self.now c.give.new.emitter (option_map seen_text c.take-anchor.new.self)
     (option_map seen_text c.take-tag.new.self) (seen_event c.match-start.event) event c.give.result c.self.view_is
-    (seen ∙ same_start c.args.start given (next_collection c.args.self.now) asked) c.give.ensures.moves
+    (seen ∙ same_start c.args.start given (next_collection c.args.self.now) asked) c.give.ensures.emits
     (ap (option_map seen_text) c.take-anchor.ensures.after) (ap (option_map seen_text) c.take-tag.ensures.after)
