@@ -5,7 +5,7 @@
 mod document;
 mod fault;
 mod keys;
-mod laws;
+pub mod laws;
 mod long_keys;
 mod passed;
 mod route;
@@ -16,5 +16,4 @@ mod values;
 pub use document::read_document;
 pub use fault::Fault;
 pub use keys::LiveKeys;
-pub use laws::ordered_is_sorted;
 pub use tree::{Node, Origin, Table};

@@ -28,6 +28,7 @@ pub mod UnfoldSteps
 pub mod UnfoldTrees
 pub mod UnfoldEvents
 pub mod SharedNodes
+pub mod QuotedNames
 pub mod DocumentsUnfold
 pub mod DumpedLeaves
 pub mod DumpedTexts

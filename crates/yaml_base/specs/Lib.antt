@@ -21,6 +21,7 @@ pub mod Grammar
 pub mod Refusal
 pub mod Ready
 pub mod Places
+pub mod Positions
 pub mod NodeLayout
 pub mod Layout
 pub mod Steps

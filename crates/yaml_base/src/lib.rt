@@ -8,7 +8,7 @@ mod encodings;
 mod errors;
 mod events;
 mod kinds;
-mod laws;
+pub mod laws;
 mod nodes;
 mod places;
 mod quoting;
@@ -34,14 +34,8 @@ pub use events::yaml_event_t::{
     YAML_SEQUENCE_START_EVENT, YAML_STREAM_END_EVENT, YAML_STREAM_START_EVENT,
 };
 pub use kinds::CollectionKind;
-pub use laws::{
-    breaks_agree, bytes_have_one_text, canonical_documents_have_texts, documents_unfold,
-    encodings_agree, layout_has_one_piece_each, limit_cuts_the_output, list_has_one_tree,
-    pieces_stand, plain_holds_no_indicator, ready_events_stay_ready, refused_exactly,
-    tree_is_found, whole_stream_is_ready,
-};
 pub use nodes::{yaml_node_data_t, yaml_node_pair_t, yaml_node_t};
-pub use places::place_of;
+pub use places::{Position, position_of};
 pub use quoting::Quoted;
 pub use sinks::write_to_sink;
 pub use styles::yaml_mapping_style_t::{

@@ -1,8 +1,29 @@
 //! The line and the column of an offset in a text.
-ghost use Rattle.std.specs.Prelude.{◌≡◌, ◌+◌, ◌≤◌, count_by, length, not};
+ghost use Rattle.std.specs.Prelude.{◌≡◌, ◌+◌, ◌≤◌, Some, count_by, length, not};
 ghost use Rattle.std.specs.Fmt.{is_char_start};
 ghost use Rattle.std.specs.List.{after_last, suffix_len};
-ghost use Rattle.yaml_base.specs.values.LinesAndColumns.{column_of, is_line_feed, line_of};
+ghost use Rattle.yaml_base.specs.Positions.{IsPositionOf, position_text};
+ghost use Rattle.yaml_base.specs.values.LinesAndColumns.{is_line_feed};
+
+use std::fmt;
+
+/// A line and a column of a text, both from 1. A line ends with LF. A column counts characters by the bytes with which they begin, in a
+/// text that isn't UTF-8, too.
+#[derive(Clone, Copy, Debug, PartialEq, Eq)]
+pub struct Position {
+    pub line: usize,
+    pub column: usize,
+}
+
+/// Writes `line 2, column 7`.
+impl fmt::Display for Position {
+    ghost output = { λ position. Some (position_text position) };
+
+    fn fmt<W: fmt::Write>(&self, f: &mut fmt::Formatter<W>) -> fmt::Result {
+        let Position { line, column } = *self;
+        write!(f, "line {line}, column {column}")
+    }
+}
 
 /// Returns whether a character begins with this byte.
 fn begins_character(byte: u8) -> bool
@@ -58,12 +79,13 @@ fn last_line_characters(bytes: &[u8]) -> usize
     last.iter().filter(|byte| begins_character(**byte)).count()
 }
 
-/// Returns the line and the column of an offset in bytes of a text, both from 1. A line ends with LF. A column counts characters
-/// by the bytes with which they begin, in a text that isn't UTF-8, too. An offset past the end has the place of the end.
-pub fn place_of(text: &[u8], offset: usize) -> (usize, usize)
-    ensures line { result.0 ≡ line_of text.now offset }
-    ensures column { result.1 ≡ column_of text.now offset }
+/// Returns the position of an offset, in bytes, in a text. An offset past the end has the position of the end.
+pub fn position_of(text: &[u8], offset: usize) -> Position
+    ensures { IsPositionOf text.now offset result }
 {
     let before = &text[..offset.min(text.len())];
-    (line_breaks(before) + 1, last_line_characters(before) + 1)
+    Position {
+        line: line_breaks(before) + 1,
+        column: last_line_characters(before) + 1,
+    }
 }

@@ -11,13 +11,13 @@ ghost use Rattle.yaml_emitter.specs.StandsAfter.{StandsAfter};
 ghost use Rattle.yaml_emitter.specs.State.{State};
 ghost use Rattle.yaml_emitter.specs.Uncut.{OutputReads, OutputReadsBack, OutputTells, OutputTellsContent};
 
-pub use yaml_base::{
+pub use yaml_base::laws::{
     breaks_agree, bytes_have_one_text, canonical_documents_have_texts, documents_unfold,
     encodings_agree, layout_has_one_piece_each, limit_cuts_the_output, list_has_one_tree,
     pieces_stand, plain_holds_no_indicator, ready_events_stay_ready, refused_exactly,
     tree_is_found, whole_stream_is_ready,
 };
-pub use yaml_mark::{
+pub use yaml_mark::laws::{
     escaped_text_reads, portable_suffix_holds_no_flow_indicator, written_tag_reads,
     written_tag_stays_one_word,
 };

@@ -3,16 +3,12 @@
 
 mod directives;
 mod index;
-mod laws;
+pub mod laws;
 mod names;
 mod tags;
 mod writing;
 
 pub use directives::Directives;
-pub use laws::{
-    escaped_text_reads, portable_suffix_holds_no_flow_indicator, written_tag_reads,
-    written_tag_stays_one_word,
-};
 pub use names::{Name, analyze_anchor, analyze_name, analyze_tag_directive, analyze_version};
 pub use tags::{analyze_tag, tag_t};
 pub use writing::{

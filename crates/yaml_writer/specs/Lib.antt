@@ -11,7 +11,6 @@ pub mod Binary
 pub mod WasGiven
 pub mod Failing
 pub mod Means
-pub mod Places
 pub mod Inside
 pub mod PlainTexts
 pub mod ReadNumbers

@@ -33,7 +33,7 @@ pub use floats::SpecialFloat;
 pub use headings::comment_lines;
 pub use numbers::{Number, Sign, number_of};
 pub use plain_tags::plain_tag;
-pub use settings::value_settings;
+pub use settings::{ValueSettings, value_settings};
 pub use spelling::{Spelling, number_spelling};
 pub use texts::is_surely_text;
 pub use times::{Offset, Time};

@@ -1,9 +1,10 @@
 use Rattle.std.proofs.Common.{ℕ, drop, take, length, ◌-◌, ◌≤◌, ◌∙◌, ap, subst, arith, le_refl, take_all}
 use Rattle.std.proofs.lemmas.List.{length-drop}
+use Rattle.yaml_base.proofs.AsciiWords.{ascii_of}
 use Rattle.yaml_base.proofs.quoting.ends_of.Goals as goal
 
-pub returns : goal.returns
-returns c =
+pub returns-clause-ends : goal.returns-clause-ends
+returns-clause-ends c =
     let name = c.args.name.now in
     let first = c.in_ok-get.ensures.cases in
     let last = c.in_ok-get-2.ensures.cases in
