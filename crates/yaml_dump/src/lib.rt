@@ -26,9 +26,9 @@ pub use tags::{YAML_MAP_TAG, YAML_SEQ_TAG, YAML_STR_TAG};
 
 // The emitter's calls.
 pub use yaml_emitter::{
-    ScalarAnswer, ScalarContent, borrowed_text, copied_text, yaml_emitter_consume_output,
-    yaml_emitter_delete, yaml_emitter_emit, yaml_emitter_emit_scalar, yaml_emitter_flush,
-    yaml_emitter_initialize, yaml_emitter_t, yaml_emitter_take_output,
+    ScalarContent, borrowed_text, copied_text, yaml_emitter_consume_output, yaml_emitter_delete,
+    yaml_emitter_emit, yaml_emitter_emit_scalar, yaml_emitter_flush, yaml_emitter_initialize,
+    yaml_emitter_t, yaml_emitter_take_output,
 };
 
 // Settings, each by a setter, or all by one struct.

@@ -2,13 +2,15 @@
 use Rattle.yaml_emitter.proofs.Common.{true, false, Bool, ℕ, Result, None, List, [], ◌++◌, ◌∷◌, ◌≡◌, ◌≤◌, arith, ap, length, length-append, refl}
 use Rattle.yaml_emitter.proofs.Common.{subst, sym, take, ◌∙◌, false≢true, append-nil, Event, Page, Settings, State, written}
 use Rattle.std.proofs.lemmas.List.{take-append-le}
-use Rattle.std.specs.Prelude.{Ok, Err, OnOk}
+use Rattle.std.proofs.Common.{inl, inr}
+use Rattle.std.specs.Prelude.{◌⊎◌, Option, Some, Ok, Err, IsOk, IsSome, OnOk}
+use Rattle.yaml_base.specs.declared.errors.yaml_error_t.TheVariants.{Memory}
+use Rattle.yaml_pen.specs.Page.{result_of_error}
 use Rattle.yaml_pen.specs.Wrote.{Grows}
 use Rattle.yaml_emitter.proofs.Common.{with_all_taken}
 use Rattle.yaml_emitter.proofs.standing.{StandingFlagged.stands_flagged, Taking.stands_taken}
 use Rattle.yaml_base.specs.declared.errors.{yaml_error_t.yaml_error_t}
-use Rattle.yaml_emitter.specs.declared.borrowed.ScalarAnswer.{ScalarAnswer}
-use Rattle.yaml_emitter.specs.declared.borrowed.ScalarAnswer.TheVariants.{Taken, NotTaken}
+use Rattle.yaml_emitter.specs.{Emits.UntakenIsTold, Emits.is_taken, EmitsEvent.CopyFailed}
 use Rattle.yaml_emitter.specs.{Emits.Emits, Emits.IsFlushed, Emits.Keeps, Emits.TakesEvent, Emits.TakesScalar, EmitsEvent.EmitsEvent, EmitsEvent.EmitsScalar}
 use Rattle.yaml_emitter.specs.{Moves.Moves, Moves.started_by, Promises.HasAllBytes, StandsAfter.StandsAfter, State.bytes_taken}
 
@@ -95,10 +97,31 @@ takes_event {before} {after} {event} keeps emits =
       kept = emits.kept;
     }
 
-pub takes_scalar : (before after : State) (event : Event) (answer : ScalarAnswer) → Keeps before → EmitsScalar before event answer after
-    → TakesScalar before event answer after
-takes_scalar before after event (Taken answer) keeps emits = takes_event keeps emits
-takes_scalar before after event NotTaken keeps emits = emits
+pub takes_scalar : (before after : State) (event : Event) (answer : Result (Unit {0}) yaml_error_t) → Keeps before
+    → EmitsScalar before event answer after → TakesScalar before event answer after
+takes_scalar before after event answer keeps (inl emits) = inl (takes_event keeps emits)
+takes_scalar before after event answer keeps (inr failed) = inr failed
+
+-- A scalar's call tells whether the scalar was taken.
+takes_is_told : (error : Option yaml_error_t) → is_taken (result_of_error error) error ≡ true
+takes_is_told None = refl
+takes_is_told (Some error) = refl
+
+told_taken : (before : State) (event : Event) (answer : Result (Unit {0}) yaml_error_t) (after : State) → TakesScalar before event answer after
+    → is_taken answer after.error ≡ true → TakesEvent before event answer after
+told_taken before event answer after (inl takes) told = takes
+told_taken before event answer after (inr failed) told =
+    absurd (false≢true (sym (ap (is_taken (Err Memory)) (ap (λ (s : State). s.error) failed.unchanged ∙ failed.no_error))
+    ∙ sym (ap (λ a. is_taken a after.error) failed.answered) ∙ told))
+
+told_untaken : (before : State) (event : Event) (answer : Result (Unit {0}) yaml_error_t) (after : State) → TakesScalar before event answer after
+    → is_taken answer after.error ≡ false → CopyFailed before answer after
+told_untaken before event answer after (inl takes) told =
+    absurd (false≢true (sym told ∙ ap (λ a. is_taken a after.error) takes.emits.answered ∙ takes_is_told after.error))
+told_untaken before event answer after (inr failed) told = failed
+
+pub untaken_is_told : UntakenIsTold
+untaken_is_told = record { taken = told_taken; untaken = told_untaken }
 
 pub all_flushed : (before after : State) (answer : Result (Unit {0}) yaml_error_t) → Keeps before → Moves before [] answer after
     → OnOk answer ((given : Settings) (all : List Event) → StandsAfter given all before → HasAllBytes given all after) → OnOk answer (IsFlushed after)
@@ -140,7 +163,7 @@ keeps_flagged {state} {after} opened closed is keeps =
       taken = keeps.taken;
     })
 
-pub keeps_scalar : {before after : State} (event : Event) (answer : ScalarAnswer) → before.has_output ≡ true → EmitsScalar before event answer after
+pub keeps_scalar : {before after : State} (event : Event) (answer : Result (Unit {0}) yaml_error_t) → before.has_output ≡ true → EmitsScalar before event answer after
     → Keeps before → Keeps after
-keeps_scalar event (Taken answer) output emits keeps = keeps_moved output emits.moves keeps
-keeps_scalar event NotTaken output emits keeps = subst (λ (s : State). Keeps s) (sym emits.unchanged) keeps
+keeps_scalar event answer output (inl emits) keeps = keeps_moved output emits.moves keeps
+keeps_scalar event answer output (inr failed) keeps = subst (λ (s : State). Keeps s) (sym failed.unchanged) keeps

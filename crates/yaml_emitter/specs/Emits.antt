@@ -1,5 +1,6 @@
 -- An emitter between two calls, and the effect of a call that gives events.
-use Rattle.std.specs.Prelude.{◌≡◌, ◌≤◌, true, false, None, IsSome, IsOk, Result, List, [], ◌∷◌, ◌++◌, length}
+use Rattle.std.specs.Result.{is_ok}
+use Rattle.std.specs.Prelude.{◌≡◌, ◌⊎◌, ◌≤◌, ◌||◌, Bool, true, false, Option, None, IsSome, is_some, IsOk, Result, List, [], ◌∷◌, ◌++◌, length}
 use Rattle.yaml_base.specs.Event.{Event}
 use Rattle.yaml_base.specs.Ready.{written}
 use Rattle.yaml_base.specs.declared.errors.yaml_error_t.{yaml_error_t}
@@ -9,9 +10,7 @@ use Rattle.yaml_emitter.specs.EmitsEvent.{CopyFailed}
 use Rattle.yaml_emitter.specs.Moves.{started_by}
 use Rattle.yaml_emitter.specs.Promises.{HasAllBytes, Promised}
 use Rattle.yaml_emitter.specs.StandsAfter.{StandsAfter}
-use Rattle.yaml_emitter.specs.State.{State, KeepsSet, bytes_taken}
-use Rattle.yaml_emitter.specs.declared.borrowed.ScalarAnswer.{ScalarAnswer}
-use Rattle.yaml_emitter.specs.declared.borrowed.ScalarAnswer.TheVariants.{Taken, NotTaken}
+use Rattle.yaml_emitter.specs.State.{GivenEvent, State, KeepsSet, bytes_taken}
 
 -- an emitter's state is the one after the events that it was given; none is given before an output is set; of the output no more
 -- bytes are taken than it has
@@ -31,7 +30,7 @@ IsFlushed emitter = HasAllBytes emitter.given emitter.events emitter
 
 -- an emitter was given these events: its text and its output only grow, the caller's settings stay, and so do the bytes that were
 -- taken; the answer is its error
-pub record Emits (before : State) (events : List Event) (answer : Result (Unit {0}) yaml_error_t) (after : State) : Type 0 where
+pub record Emits (before : State) (events : List GivenEvent) (answer : Result (Unit {0}) yaml_error_t) (after : State) : Type 0 where
   pub set : KeepsSet (record before { events = before.events ++ events; started = started_by before.started events }) after
   pub grows : Grows before.page after.page
   pub taken : bytes_taken after ≡ bytes_taken before
@@ -44,6 +43,16 @@ pub record TakesEvent (before : State) (event : Event) (answer : Result (Unit {0
   pub kept : IsSome before.error → after ≡ record before { events = before.events ++ event ∷ []; started = true }
 
 -- an emitter took a scalar, or had no memory to copy it
-abbrev pub TakesScalar : State → Event → ScalarAnswer → State → Type 0
-TakesScalar before event (Taken answer) after = TakesEvent before event answer after
-TakesScalar before event NotTaken after = CopyFailed before after
+abbrev pub TakesScalar : State → Event → Result (Unit {0}) yaml_error_t → State → Type 0
+TakesScalar before event answer after = TakesEvent before event answer after ⊎ CopyFailed before answer after
+
+-- true if a scalar was taken whose call had this answer, and after which the emitter has this error
+abbrev pub is_taken : Result (Unit {0}) yaml_error_t → Option yaml_error_t → Bool
+is_taken answer error = is_ok answer || is_some error
+
+-- a scalar was not taken exactly if its call failed and the emitter has no error
+pub record UntakenIsTold : Type 0 where
+  pub taken : (before : State) (event : Event) (answer : Result (Unit {0}) yaml_error_t) (after : State) → TakesScalar before event answer after
+      → is_taken answer after.error ≡ true → TakesEvent before event answer after
+  pub untaken : (before : State) (event : Event) (answer : Result (Unit {0}) yaml_error_t) (after : State) → TakesScalar before event answer after
+      → is_taken answer after.error ≡ false → CopyFailed before answer after

@@ -1,5 +1,5 @@
 -- The effect of a call that gives an event, whether it owns the event or borrows it.
-use Rattle.std.specs.Prelude.{◌≡◌, ◌≤◌, ℕ, true, false, None, Some, IsSome, Result, Ok, Err, IsOk, List, [], ◌∷◌, ◌++◌, drop, length}
+use Rattle.std.specs.Prelude.{◌≡◌, ◌⊎◌, ◌≤◌, ℕ, true, false, None, Some, IsSome, Result, Ok, Err, IsOk, List, [], ◌∷◌, ◌++◌, drop, length}
 use Rattle.yaml_base.specs.Settings.{Settings}
 use Rattle.yaml_base.specs.Event.{Event}
 use Rattle.yaml_base.specs.Ready.{written}
@@ -11,8 +11,6 @@ use Rattle.yaml_emitter.specs.State.{MachineState, State, KeepsGiven, KeepsSet, 
 use Rattle.yaml_emitter.specs.StandsAfter.{MachineStands, HasReached, ReachedOn, StandsAfter, failed_by}
 use Rattle.yaml_emitter.specs.Moves.{Moves}
 use Rattle.yaml_emitter.specs.Queue.{are_ready_by_one_more, is_head_ready}
-use Rattle.yaml_emitter.specs.declared.borrowed.ScalarAnswer.{ScalarAnswer}
-use Rattle.yaml_emitter.specs.declared.borrowed.ScalarAnswer.TheVariants.{Taken, NotTaken}
 
 -- the machine with the error of a call kept, if it has one
 abbrev pub kept_error : Result (Unit {0}) yaml_error_t → MachineState → MachineState
@@ -70,17 +68,12 @@ pub record EmitsEvent (before : State) (event : Event) (answer : Result (Unit {0
   pub kept : IsSome before.error → after ≡ record before { events = before.events ++ event ∷ []; started = true }
 
 -- no memory for the copy of a scalar that has to wait, since not all events before it are ready with it: nothing changed, and there is no error
-pub record CopyFailed (before after : State) : Type 0 where
+pub record CopyFailed (before : State) (answer : Result (Unit {0}) yaml_error_t) (after : State) : Type 0 where
+  pub answered : answer ≡ Err Memory
   pub unchanged : after ≡ before
   pub no_error : before.error ≡ None
   pub waits : are_ready_by_one_more before.held ≡ false
 
 -- an emitter took a scalar, or had no memory to copy it
-abbrev pub EmitsScalar : State → Event → ScalarAnswer → State → Type 0
-EmitsScalar before event (Taken answer) after = EmitsEvent before event answer after
-EmitsScalar before event NotTaken after = CopyFailed before after
-
--- the result of a scalar's call; the memory error for a scalar that wasn't taken
-abbrev pub result_of_answer : ScalarAnswer → Result (Unit {0}) yaml_error_t
-result_of_answer (Taken answer) = answer
-result_of_answer NotTaken = Err Memory
+abbrev pub EmitsScalar : State → Event → Result (Unit {0}) yaml_error_t → State → Type 0
+EmitsScalar before event answer after = EmitsEvent before event answer after ⊎ CopyFailed before answer after

@@ -21,7 +21,7 @@ use Rattle.yaml_base.specs.WrittenTexts.{HoldsRaw}
 use Rattle.yaml_base.specs.declared.errors.yaml_error_t.{yaml_error_t}
 use Rattle.yaml_base.specs.declared.errors.yaml_error_t.TheVariants.{WriteError, Memory}
 use Rattle.yaml_pen.specs.Page.{encoded}
-use Rattle.yaml_emitter.specs.State.{State}
+use Rattle.yaml_emitter.specs.State.{GivenEvent, State}
 use Rattle.yaml_emitter.specs.StaysFlushed.{StaysFlushed}
 use Rattle.yaml_emitter.specs.Uncut.{IsUncut}
 
@@ -167,7 +167,7 @@ pub record IsWritten (given : Settings) (all : List Event) (state : State) : Typ
   pub tidy : All (BodyIsTidy (settings_for given all)) (bodies_of (list_layout (settings_for given all) all))
 
 -- all that a caller may rely on after these events
-pub record Promised (given : Settings) (all : List Event) (state : State) : Type 0 where
+pub record Promised (given : Settings) (all : List GivenEvent) (state : State) : Type 0 where
   pub text : state.error ≡ None → HasText given all (written all) state
   pub held : state.error ≡ None → QueuesUnready all state
   pub dropped : IsSome state.error → state.held ≡ []

@@ -15,7 +15,7 @@ use Rattle.yaml_base.specs.declared.errors.yaml_error_t.{yaml_error_t}
 use Rattle.yaml_base.specs.declared.errors.yaml_error_t.TheVariants.{WriteError, Memory}
 use Rattle.yaml_pen.specs.Page.{Page, new_page, encoded, IsFlushedOutput}
 use Rattle.yaml_emitter.specs.StaysFlushed.{StaysFlushed}
-use Rattle.yaml_emitter.specs.State.{MachineState, State, machine_of, standing_of}
+use Rattle.yaml_emitter.specs.State.{GivenEvent, MachineState, State, machine_of, standing_of}
 use Rattle.yaml_emitter.specs.Processing.{Processed, closes_at_once}
 
 -- a page of a stream that was begun, with these settings
@@ -139,7 +139,7 @@ abbrev pub StateStands : Settings → List Event → State → Type 0
 StateStands given all state = MachineStands given all state.error state.held (machine_of state)
 
 -- this is the state of an emitter after these events, whose texts are those of strings, under these settings
-pub record StandsAfter (given : Settings) (all : List Event) (state : State) : Type 0 where
+pub record StandsAfter (given : Settings) (all : List GivenEvent) (state : State) : Type 0 where
   pub texts : list_all has_scalar_texts all ≡ true
   pub so : StateStands given all state
 

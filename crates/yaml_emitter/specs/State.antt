@@ -7,11 +7,15 @@ use Rattle.yaml_base.specs.Steps.{Stage, at_stream}
 use Rattle.yaml_base.specs.declared.errors.yaml_error_t.{yaml_error_t}
 use Rattle.yaml_pen.specs.Page.{Page, new_page, all_taken, IsUntouched, IsReady}
 
+-- An element of the list of what an emitter was given.
+abbrev pub GivenEvent : Type 0
+GivenEvent = Event
+
 -- the events that were given; the settings as given, and in effect from the stream's start on; whether an event was given, an output
 -- set, the stream opened and closed; the waiting events; the next stage; the open-ended state; the text so far, its cursor, the flushed
 -- bytes and how many of them were taken; the first error
 pub record State : Type 0 where
-  pub events : List Event
+  pub events : List GivenEvent
   pub given : Settings
   pub settings : Effective
   pub started : Bool

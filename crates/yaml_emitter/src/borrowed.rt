@@ -6,8 +6,8 @@ ghost use Rattle.yaml_base.specs.Event.{scalar};
 ghost use Rattle.yaml_base.specs.Meaning.{has_scalar_texts};
 ghost use Rattle.yaml_base.specs.Seen.{seen_event, seen_text};
 ghost use Rattle.yaml_emitter.specs.BorrowedTexts.{CopiesText, seen_name, seen_scalar};
-ghost use Rattle.yaml_emitter.specs.Emits.{TakesScalar};
-ghost use Rattle.yaml_emitter.specs.EmitsEvent.{EmitsScalar, result_of_answer};
+ghost use Rattle.yaml_emitter.specs.Emits.{TakesScalar, is_taken};
+ghost use Rattle.yaml_emitter.specs.EmitsEvent.{EmitsScalar};
 ghost use Rattle.yaml_emitter.specs.Queue.{are_ready_by_one_more};
 
 use crate::emitter::yaml_emitter_t;
@@ -20,43 +20,20 @@ use crate::writing::ScalarContent;
 use std::alloc::Allocator;
 use yaml_base::{YAML_SCALAR_EVENT, yaml_error_t, yaml_event_t};
 
-/// The answer of `yaml_emitter_emit_scalar`.
-#[derive(Clone, Copy, PartialEq, Eq, Debug)]
-pub enum ScalarAnswer {
-    /// The scalar was taken. Holds the result that `yaml_emitter_emit` returns.
-    Taken(Result<(), yaml_error_t>),
-    /// The scalar has to wait, and its copy couldn't be allocated: nothing changed, and the emitter has no error.
-    NotTaken,
-}
-
-impl ScalarAnswer {
-    /// Returns the result of a scalar that was taken, and `Memory` for one that wasn't.
-    ///
-    /// # Errors
-    ///
-    /// Those of `yaml_emitter_emit`, and `Memory` for `NotTaken`.
-    pub fn into_result(self) -> Result<(), yaml_error_t>
-        ensures { result ≡ result_of_answer self }
-    {
-        match self {
-            ScalarAnswer::Taken(answer) => answer,
-            ScalarAnswer::NotTaken => Err(yaml_error_t::Memory),
-        }
-    }
-}
-
 /// Takes a scalar with borrowed texts, as `yaml_emitter_emit` takes its event. An output must be set.
 ///
 /// If no event waits, or all that wait are ready with this scalar, it is written at once, without a copy. Else it is
 /// copied, and waits after them.
 ///
-/// Returns `NotTaken` if the copy can't be allocated: then nothing changed, the emitter has no error, and the call may be
-/// made again. Otherwise returns `Taken` with the first error, of this call or an earlier one, if there is one.
+/// # Errors
+///
+/// Those of `yaml_emitter_emit`. `Memory`, too, if the copy can't be allocated: then nothing changed, the emitter has no error,
+/// and the call may be made again. `has_taken` tells it.
 #[inline(always)]
 pub fn yaml_emitter_emit_scalar<A: Allocator + Copy>(
     emitter: &mut yaml_emitter_t<A>,
     content: &ScalarContent<'_>,
-) -> ScalarAnswer
+) -> Result<(), yaml_error_t>
     requires { emitter.old.has_output ≡ true }
     ensures takes { TakesScalar emitter.old (scalar (seen_scalar content.now)) result emitter.new }
     ensures output { emitter.new.has_output ≡ true }
@@ -64,9 +41,18 @@ pub fn yaml_emitter_emit_scalar<A: Allocator + Copy>(
     emitter.engine.emit_scalar(content)
 }
 
+impl<A: Allocator> yaml_emitter_t<A> {
+    /// Returns whether the last call of `yaml_emitter_emit_scalar`, whose answer this is, took its scalar.
+    pub fn has_taken(&self, answer: Result<(), yaml_error_t>) -> bool
+        ensures { result ≡ is_taken answer self.now.error }
+    {
+        answer.is_ok() || self.error().is_some()
+    }
+}
+
 impl<A: Allocator + Copy> Engine<A> {
     /// Takes a scalar, as `yaml_emitter_emit_scalar` does.
-    pub(crate) fn emit_scalar(&mut self, content: &ScalarContent<'_>) -> ScalarAnswer
+    pub(crate) fn emit_scalar(&mut self, content: &ScalarContent<'_>) -> Result<(), yaml_error_t>
         requires { self.old.has_output ≡ true }
         ensures emits { EmitsScalar self.old (scalar (seen_scalar content.now)) result self.new }
         ensures output { self.new.has_output ≡ true }
@@ -75,22 +61,22 @@ impl<A: Allocator + Copy> Engine<A> {
         if let Some(error) = self.machine.error() {
             self.started = true;
             self.history = self.history.with(content);
-            return ScalarAnswer::Taken(Err(error));
+            return Err(error);
         }
         if are_ready_by_one_more(self.queue.as_slice()) {
             self.started = true;
             self.history = self.history.with(content);
             if let Err(error) = self.write_waiting(EventKind::Scalar) {
-                return ScalarAnswer::Taken(Err(error));
+                return Err(error);
             }
             let answer = self.machine.scalar(content);
-            return ScalarAnswer::Taken(self.machine.keep_error(answer));
+            return self.machine.keep_error(answer);
         }
         self.wait_behind(content)
     }
 
     /// Queues a copy of a scalar that doesn't make every queued event ready.
-    fn wait_behind(&mut self, content: &ScalarContent<'_>) -> ScalarAnswer
+    fn wait_behind(&mut self, content: &ScalarContent<'_>) -> Result<(), yaml_error_t>
         requires waits { are_ready_by_one_more self.old.held ≡ false }
         requires no_error { self.old.error ≡ None }
         requires output { self.old.has_output ≡ true }
@@ -99,8 +85,8 @@ impl<A: Allocator + Copy> Engine<A> {
     {
         let alloc = self.machine.allocator();
         match copied_scalar(&mut self.spares, alloc, content) {
-            Ok(event) => ScalarAnswer::Taken(self.emit(event)),
-            Err(_) => ScalarAnswer::NotTaken,
+            Ok(event) => self.emit(event),
+            Err(_) => Err(yaml_error_t::Memory),
         }
     }
 }

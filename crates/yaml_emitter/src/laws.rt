@@ -5,6 +5,7 @@ ghost use Rattle.yaml_base.specs.Meaning.{CanonicalBytesRead, MeaningIsKept};
 ghost use Rattle.yaml_base.specs.Settings.{Settings};
 ghost use Rattle.yaml_base.specs.StreamLaw.{PortableReadsBack, StreamReadsBack};
 ghost use Rattle.yaml_base.specs.WrittenTexts.{BodiesAreTidy, StreamsAgree, TextsHoldRaw};
+ghost use Rattle.yaml_emitter.specs.Emits.{UntakenIsTold};
 ghost use Rattle.yaml_emitter.specs.EncodedAlike as encoded;
 ghost use Rattle.yaml_emitter.specs.Promises.{Promised};
 ghost use Rattle.yaml_emitter.specs.StandsAfter.{StandsAfter};
@@ -87,6 +88,11 @@ pub fn portable_streams_read_back()
 pub fn output_tells_content()
     ensures reads { (given : Settings) (events : List Event) → OutputReadsBack given events }
     ensures tells { (given : Settings) (first second : List Event) → OutputTellsContent given first second }
+{}
+
+/// States how the caller of `yaml_emitter_emit_scalar` tells a scalar that wasn't taken: the call failed, and the emitter has no error.
+pub fn untaken_scalar_is_told()
+    ensures { UntakenIsTold }
 {}
 
 /// States that an emitter that has been given some events (`StandsAfter`) keeps every promise about them (`Promised`).

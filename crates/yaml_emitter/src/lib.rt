@@ -25,7 +25,7 @@ mod stage;
 mod writing;
 
 // The emitter's calls.
-pub use borrowed::{ScalarAnswer, copied_text, yaml_emitter_emit_scalar};
+pub use borrowed::{copied_text, yaml_emitter_emit_scalar};
 pub use calls::{
     yaml_emitter_consume_output, yaml_emitter_emit, yaml_emitter_flush, yaml_emitter_take_output,
 };

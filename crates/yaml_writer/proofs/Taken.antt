@@ -3,10 +3,9 @@ use Rattle.yaml_writer.proofs.Common.{IfErr, OnOk, Option, None, Some, Result, E
 use Rattle.yaml_writer.proofs.Common.{sym, inr, ◌∙◌, Text, Event, State, output_left, result_of_error, WriterState, PassedEvents, GaveEvent, option_or}
 use Rattle.yaml_base.proofs.Common.{inl, ◌⊎◌, append-nil}
 use Rattle.std.{proofs.Common.take-append-drop, proofs.Math.Seq.take-length}
-use Rattle.yaml_emitter.specs.{Emits.Emits, Emits.TakesEvent, Emits.TakesScalar, EmitsEvent.CopyFailed, EmitsEvent.result_of_answer}
-use Rattle.yaml_emitter.{proofs.Common.with_all_taken, specs.State.bytes_taken, specs.declared.borrowed.ScalarAnswer.ScalarAnswer}
+use Rattle.yaml_emitter.specs.{Emits.Emits, Emits.TakesEvent, Emits.TakesScalar, EmitsEvent.CopyFailed}
+use Rattle.yaml_emitter.{proofs.Common.with_all_taken, specs.State.bytes_taken}
 use Rattle.yaml_pen.proofs.Composing.{grows_itself}
-use Rattle.yaml_emitter.specs.declared.borrowed.ScalarAnswer.TheVariants.{Taken, NotTaken}
 use Rattle.yaml_base.specs.declared.errors.yaml_error_t.{yaml_error_t}
 use Rattle.yaml_writer.specs.{WasGiven.EmitsTaking, Writing.Begins, Writing.Failed, Writing.Gives, Writing.tag_or_default, Writing.with_collection}
 use Rattle.yaml_base.specs.{declared.kinds.CollectionKind.CollectionKind, declared.errors.yaml_error_t.TheVariants.Memory}
@@ -83,18 +82,19 @@ gave_taken inside before emitter anchor tag event answer view emits no_anchor no
     (gave_event inside before emitter anchor tag event event answer view refl emits.emits no_anchor no_tag)
 
 -- it didn't, since there was no memory to copy it
-pub gave_untaken : (inside before : WriterState) (emitter : State) (event : Event) → inside ≡ before → CopyFailed inside.emitter emitter
-    → Gives before event (Err Memory) (record inside { emitter = emitter })
-gave_untaken inside before emitter event view failed =
-    inr (refl, ap (λ (e : State). record inside { emitter = e }) failed.unchanged ∙ view)
+pub gave_untaken : (inside before : WriterState) (emitter : State) (event : Event) (answer : Result (Unit {0}) yaml_error_t) → inside ≡ before
+    → CopyFailed inside.emitter answer emitter → Gives before event answer (record inside { emitter = emitter })
+gave_untaken inside before emitter event answer view failed =
+    subst (λ (a : Result (Unit {0}) yaml_error_t). Gives before event a (record inside { emitter = emitter })) (sym failed.answered)
+    (inr (refl, ap (λ (e : State). record inside { emitter = e }) failed.unchanged ∙ view))
 
 -- If the next node has no properties, it has none after a scalar either.
-pub gave_bare : (inside before : WriterState) (emitter : State) (event : Event) (answer : ScalarAnswer) → inside ≡ before
+pub gave_bare : (inside before : WriterState) (emitter : State) (event : Event) (answer : Result (Unit {0}) yaml_error_t) → inside ≡ before
     → TakesScalar inside.emitter event answer emitter → inside.anchor ≡ None → inside.tag ≡ None
-    → Gives before event (result_of_answer answer) (record inside { emitter = emitter })
-gave_bare inside before emitter event (Taken answer) view emits no_anchor no_tag =
+    → Gives before event answer (record inside { emitter = emitter })
+gave_bare inside before emitter event answer view (inl emits) no_anchor no_tag =
     gave_taken inside before emitter inside.anchor inside.tag event answer view emits no_anchor no_tag
-gave_bare inside before emitter event NotTaken view failed no_anchor no_tag = gave_untaken inside before emitter event view failed
+gave_bare inside before emitter event answer view (inr failed) no_anchor no_tag = gave_untaken inside before emitter event answer view failed
 
 -- a call that gives the same event
 pub given_as : {given event : Event} (before after : WriterState) (answer : Result (Unit {0}) yaml_error_t) → given ≡ event

@@ -22,8 +22,8 @@ use yaml_base::{
     YAML_ANY_ENCODING, YAML_STREAM_START_EVENT, write_to_sink, yaml_error_t, yaml_scalar_style_t,
 };
 use yaml_emitter::{
-    CollectionKind, ScalarAnswer, ScalarContent, Settings, yaml_emitter_consume_output,
-    yaml_emitter_emit_scalar, yaml_emitter_t, yaml_emitter_take_output,
+    CollectionKind, ScalarContent, Settings, yaml_emitter_consume_output, yaml_emitter_emit_scalar,
+    yaml_emitter_t, yaml_emitter_take_output,
 };
 
 /// Writes values, one call each, into a vector of bytes.
@@ -144,7 +144,7 @@ impl<A: Allocator + Copy> Writer<A> {
             quoted_implicit: implicit,
             style,
         };
-        yaml_emitter_emit_scalar(&mut self.emitter, &content).into_result()
+        yaml_emitter_emit_scalar(&mut self.emitter, &content)
     }
 
     /// Does the same as `scalar` if an anchor or a tag awaits its node. Out of line, so that `scalar` is inlined.
@@ -159,13 +159,11 @@ impl<A: Allocator + Copy> Writer<A> {
             (seen_scalar_style style)) result self.new }
     {
         let content = scalar_content(&self.anchor, &self.tag, own, value, style);
-        match yaml_emitter_emit_scalar(&mut self.emitter, &content) {
-            ScalarAnswer::Taken(answer) => {
-                use_up(&mut self.anchor, &mut self.tag);
-                answer
-            }
-            ScalarAnswer::NotTaken => Err(yaml_error_t::Memory),
+        let answer = yaml_emitter_emit_scalar(&mut self.emitter, &content);
+        if self.emitter.has_taken(answer) {
+            use_up(&mut self.anchor, &mut self.tag);
         }
+        answer
     }
 
     /// Returns whether an anchor or a tag was given whose node wasn't yet.

@@ -1,3 +1,4 @@
+use Rattle.std.proofs.Common.{inl}
 use Rattle.yaml_emitter.proofs.Common.{Result, Err, Event, List, true, false, [], refl, ◌≡◌, ap}
 use Rattle.yaml_emitter.proofs.Common.{subst, sym, ◌∙◌, scalar, seen_events, seen_scalar, state_of, State, machine_of}
 use Rattle.yaml_base.specs.declared.errors.{yaml_error_t.yaml_error_t}
@@ -12,19 +13,19 @@ returns-in-Some-clause-emits g c =
     let before : State = state_of c.self.inside in
     let event = scalar (seen_scalar c.args.content.now) in
     let answer : Result (Unit {0}) yaml_error_t = Err c.in-Some.error in
-    subst (λ (l : List Event). EmitsEvent c.args.self.now event answer (started_with before l)) (sym c.with-self-inside.ensures)
+    inl (subst (λ (l : List Event). EmitsEvent c.args.self.now event answer (started_with before l)) (sym c.with-self-inside.ensures)
     (subst (λ (s : State). EmitsEvent s event answer (starting before event)) c.self.view_is
-    (emits_failed event before c.in-Some.error c.texts_are_scalars.ensures (sym c.error.ensures ∙ c.in-Some.is)))
+    (emits_failed event before c.in-Some.error c.texts_are_scalars.ensures (sym c.error.ensures ∙ c.in-Some.is))))
 
 pub returns-in-Err-clause-emits : goal.returns-in-Err-clause-emits
 returns-in-Err-clause-emits g c =
     let before : State = state_of c.self.inside in
     let event = scalar (seen_scalar c.args.content.now) in
-    subst (λ (s : State). EmitsEvent s event (Err c.in-Err.error) c.write_waiting.new.self) c.self.view_is
+    inl (subst (λ (s : State). EmitsEvent s event (Err c.in-Err.error) c.write_waiting.new.self) c.self.view_is
     (emits_stopped event before c.write_waiting.new.self c.in-Err.error c.texts_are_scalars.ensures (sym c.error.ensures ∙ c.in_default.is)
     (subst (λ (r : Result (Unit {0}) yaml_error_t). Settles (starting before event) event r c.write_waiting.new.self) c.in-Err.is
     (subst (λ (l : List Event). Settles (started_with (state_of c.self.inside) l) event c.write_waiting.result c.write_waiting.new.self)
-    c.with-self-inside-then-are_ready_by_one_more.ensures (c.write_waiting.ensures event refl))))
+    c.with-self-inside-then-are_ready_by_one_more.ensures (c.write_waiting.ensures event refl)))))
 
 pub returns-in-Err-clause-output : goal.returns-in-Err-clause-output
 returns-in-Err-clause-output g c =
@@ -63,11 +64,11 @@ returns-then-are_ready_by_one_more-clause-emits g c =
     let ready : are_ready_by_one_more before.held ≡ true =
     ap (λ q. are_ready_by_one_more (seen_events q)) (sym c.as_slice.ensures.value) ∙ sym c.are_ready_by_one_more.ensures ∙ c.if-are_ready_by_one_more.true in
     let alone : settled.held ≡ [] = h.held ∙ none_waits_on h.count before.held (seen_scalar c.args.content.now) ready h.wrote.waits in
-    subst (λ (s : State). EmitsEvent s event c.keep_error.result (with_machine settled settled.held c.keep_error.new.self)) c.self.view_is
+    inl (subst (λ (s : State). EmitsEvent s event c.keep_error.result (with_machine settled settled.held c.keep_error.new.self)) c.self.view_is
     (emits_alone event before settled c.keep_error.new.self c.keep_error.result c.texts_are_scalars.ensures (sym c.error.ensures ∙ c.in_default.is)
     h alone refl
     (wrote_alone event (machine_of settled) c.scalar-answer.new.self c.keep_error.new.self c.scalar-answer.result c.keep_error.result
-    h.no_error refl (c.scalar-answer.ensures false) c.keep_error.ensures.kept c.keep_error.ensures.answered))
+    h.no_error refl (c.scalar-answer.ensures false) c.keep_error.ensures.kept c.keep_error.ensures.answered)))
 
 pub returns-then-are_ready_by_one_more-clause-output : goal.returns-then-are_ready_by_one_more-clause-output
 returns-then-are_ready_by_one_more-clause-output g c =

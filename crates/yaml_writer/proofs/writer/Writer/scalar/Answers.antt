@@ -55,6 +55,4 @@ returns g c =
     ap bare_with (none_seen c.args.own c.is_none-implicit.result c.is_none-implicit.ensures) ∙ bare_event before own value style no_anchor no_tag
     ∙ ap event c.self.view_is in
     let emits = subst (λ (e : Event). TakesScalar before.emitter e answer emitter) same c.yaml_emitter_emit_scalar.ensures.takes in
-    subst (λ (r : Result (Unit {0}) yaml_error_t). Gives c.args.self.now (event c.args.self.now) r (record before { emitter = emitter }))
-    (sym c.into_result.ensures)
-    (gave_bare before c.args.self.now emitter (event c.args.self.now) answer c.self.view_is emits no_anchor no_tag)
+    gave_bare before c.args.self.now emitter (event c.args.self.now) answer c.self.view_is emits no_anchor no_tag
