@@ -147,7 +147,7 @@ module _ (charset : Charset) where
       (or_from (is_empty value) (begins_with_blanks_alone value) bars.0 (none_of_blanks value bars.1)) (literal_bars value bars.1))
 
 -- if a scalar's value allows a block style, it allows literal with literal blanks
-pub literal_allowed : (s : Effective) (content : Scalar) → (allowed_under s content).block ≡ true
+pub literal_allowed : (s : Effective) (content : Scalar) → (allowed_under s content).block_allowed ≡ true
     → allows_literal (charset_of s) content.value ≡ true
 literal_allowed s content = by (is_literal content.style && s.literal_blanks)
   where

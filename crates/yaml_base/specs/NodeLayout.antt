@@ -160,12 +160,12 @@ charset_of s = record { unicode = s.unicode; breaks12 = escapes_separators s }
 
 -- the styles that a value allows: no single quotes if double quotes are asked for in their place (this project)
 abbrev pub allowed_by_quotes : (double_quotes : Bool) → Allowances → Allowances
-allowed_by_quotes double_quotes allowed = record allowed { single_quoted = not double_quotes && allowed.single_quoted }
+allowed_by_quotes double_quotes allowed = record allowed { single_quoted_allowed = not double_quotes && allowed.single_quoted_allowed }
 
 -- the styles that a value allows; if blanks are literal, it allows block styles exactly if it allows literal (this project)
 abbrev pub allowed_by_blanks : (blanks : Bool) → Charset → Text → Allowances
 allowed_by_blanks blanks charset value =
-    record (allowances charset value) { block = if blanks then allows_literal charset value else allows_block charset value }
+    record (allowances charset value) { block_allowed = if blanks then allows_literal charset value else allows_block charset value }
 
 -- the styles that a scalar's value allows under the settings; blanks are literal only if literal is asked for
 abbrev pub allowed_under : Effective → Scalar → Allowances

@@ -12,6 +12,7 @@ pub mod laws;
 mod nodes;
 mod places;
 mod quoting;
+mod scalars;
 mod sinks;
 mod styles;
 
@@ -37,6 +38,7 @@ pub use kinds::CollectionKind;
 pub use nodes::{yaml_node_data_t, yaml_node_pair_t, yaml_node_t};
 pub use places::{Position, position_of};
 pub use quoting::Quoted;
+pub use scalars::{CharacterKind, Charset, Ending, scalar_data_t};
 pub use sinks::write_to_sink;
 pub use styles::yaml_mapping_style_t::{
     YAML_ANY_MAPPING_STYLE, YAML_BLOCK_MAPPING_STYLE, YAML_FLOW_MAPPING_STYLE,

@@ -2,10 +2,10 @@
 use Rattle.yaml_scalar.proofs.Common.{arith, ℕ, if◌then◌else◌, ◌==◌, chars, IsUtf8, codes, length, Bool, false, not, true, ◌&&◌, ◌||◌, List, [], ◌++◌, ◌∷◌, ◌≡◌}
 use Rattle.yaml_scalar.proofs.Common.{refl, eqb-true, ap, sym, ◌∙◌, and_parts, and_right, or_parts, or_from, not-true, nil_from_length, chars-nil, encode_utf8}
 use Rattle.yaml_scalar.proofs.Common.{chars_past_char, list_all, Text, is_among, line_separator, paragraph_separator, space, tab, is_ascii, is_space, is_break}
-use Rattle.yaml_scalar.proofs.Common.{is_printable, Charset, begins_with, is_empty, is_gap, ends_word, is_special, is_trailing_space, Barred, barred_by, either}
-use Rattle.yaml_scalar.proofs.Common.{barred_in, none_barred, is_quiet, barred_by_space, last_from, ◌≤◌, nat_tests, and_from, or_left, le-leb, false≢true}
+use Rattle.yaml_scalar.proofs.Common.{is_printable, Charset, begins_with, is_empty, is_gap, ends_word, is_special, is_trailing_space, BarredStyles, barred_by}
+use Rattle.yaml_scalar.proofs.Common.{either, barred_in, none_barred, is_quiet, barred_by_space, last_from, ◌≤◌, nat_tests, and_from, or_left, le-leb}
+use Rattle.yaml_scalar.proofs.Common.{false≢true, false_from_ne_true, line_feed, carriage_return, next_line, is_ordinary}
 use Rattle.yaml_base.proofs.Common.{and_left}
-use Rattle.yaml_scalar.proofs.Common.{false_from_ne_true, line_feed, carriage_return, next_line, is_ordinary}
 use Rattle.yaml_base.specs.scalars.Analysis.{is_key_or_comment}
 use Rattle.yaml_scalar.specs.Barred.{with_indicator}
 
@@ -17,25 +17,25 @@ or_more : (a b c : Bool) → (a || (b || c)) ≡ (a || b || c)
 or_more true b c = refl
 or_more false b c = refl
 
-same : {a b : Barred} → a.multiline ≡ b.multiline → a.flow_plain ≡ b.flow_plain → a.block_plain ≡ b.block_plain
+same : {a b : BarredStyles} → a.multiline ≡ b.multiline → a.flow_plain ≡ b.flow_plain → a.block_plain ≡ b.block_plain
     → a.single_quoted ≡ b.single_quoted → a.block ≡ b.block → a ≡ b
 same {a} {b} m f p s k =
     let whole : Bool → Bool → Bool → Bool → Bool
-    → Barred = λ m f p s k. record { multiline = m; flow_plain = f; block_plain = p; single_quoted = s; block = k } in
+    → BarredStyles = λ m f p s k. record { multiline = m; flow_plain = f; block_plain = p; single_quoted = s; block = k } in
     ap (λ x. whole x a.flow_plain a.block_plain a.single_quoted a.block) m
     ∙ ap (λ x. whole b.multiline x a.block_plain a.single_quoted a.block) f
     ∙ ap (λ x. whole b.multiline b.flow_plain x a.single_quoted a.block) p
     ∙ ap (λ x. whole b.multiline b.flow_plain b.block_plain x a.block) s
     ∙ ap (λ x. whole b.multiline b.flow_plain b.block_plain b.single_quoted x) k
 
-pub either_none : (a : Barred) → either a none_barred ≡ a
+pub either_none : (a : BarredStyles) → either a none_barred ≡ a
 either_none a = same (or_none a.multiline) (or_none a.flow_plain) (or_none a.block_plain) (or_none a.single_quoted) (or_none a.block)
 
-pub either_more : (a b c : Barred) → either a (either b c) ≡ either (either a b) c
+pub either_more : (a b c : BarredStyles) → either a (either b c) ≡ either (either a b) c
 either_more a b c = grind (arith, same, or_more)
 
 -- one more character was read
-pub barred_more : (charset : Charset) (whole found : Barred) {after : Barred} (old new rest : List ℕ) (c : ℕ)
+pub barred_more : (charset : Charset) (whole found : BarredStyles) {after : BarredStyles} (old new rest : List ℕ) (c : ℕ)
     → IsUtf8 old → old ≡ encode_utf8 c ++ new → rest ≡ new → whole ≡ either found (barred_in charset (chars old))
     → after ≡ either found (barred_by charset c (chars rest))
     → whole ≡ either after (barred_in charset (chars new))
@@ -43,10 +43,10 @@ barred_more charset whole found {after} old new rest c is_text e follows h more 
     h ∙ ap (λ t. either found (barred_in charset t)) (chars_past_char old new c is_text e)
     ∙ either_more found (barred_by charset c (chars new)) (barred_in charset (chars new))
     ∙ ap (λ (l : List ℕ). either (either found (barred_by charset c (chars l))) (barred_in charset (chars new))) (sym follows)
-    ∙ ap (λ (b : Barred). either b (barred_in charset (chars new))) (sym more)
+    ∙ ap (λ (b : BarredStyles). either b (barred_in charset (chars new))) (sym more)
 
 -- all was read
-pub barred_whole : (charset : Charset) (whole found : Barred) (old : List ℕ) → length old ≡ 0 → whole ≡ either found (barred_in charset (chars old))
+pub barred_whole : (charset : Charset) (whole found : BarredStyles) (old : List ℕ) → length old ≡ 0 → whole ≡ either found (barred_in charset (chars old))
     → found ≡ whole
 barred_whole charset whole found old e h =
     sym (h ∙ ap (λ t. either found (barred_in charset t)) (ap chars (nil_from_length old e) ∙ chars-nil) ∙ either_none found)
@@ -100,7 +100,7 @@ quiet_run charset (c ∷ []) rest h = grind (arith, and_parts, quiet_last_by, qu
 quiet_run charset (c ∷ d ∷ prefix) rest h =
     let p = and_parts (is_quiet charset c) (list_all (is_quiet charset) (d ∷ prefix)) h in
     let q = and_parts (is_quiet charset d) (list_all (is_quiet charset) prefix) p.1 in
-    ap (λ (b : Barred). either b (barred_in charset (d ∷ (prefix ++ rest))))
+    ap (λ (b : BarredStyles). either b (barred_in charset (d ∷ (prefix ++ rest))))
     (quiet_next charset c d (prefix ++ rest) (quiet_parts charset c p.0) (quiet_parts charset d q.0))
     ∙ quiet_run charset (d ∷ prefix) rest p.1
 
@@ -147,7 +147,7 @@ ordinary_quiet charset c h =
           (or_from _ _ (other 93 refl) (or_from _ _ (other 123 refl) (or_from _ _ (other 125 refl) refl))))));
     }
 
-pub ordinary_seen : (charset : Charset) (found : Barred) (c : ℕ) (rest : Text) → is_ordinary c ≡ true → found ≡ either found (barred_by charset c rest)
+pub ordinary_seen : (charset : Charset) (found : BarredStyles) (c : ℕ) (rest : Text) → is_ordinary c ≡ true → found ≡ either found (barred_by charset c rest)
 ordinary_seen charset found c rest h =
     let spaced : is_space c ≡ false = apart c h space refl in
     sym (either_none found) ∙ ap (either found) (sym (quiet_bars charset c rest (ordinary_quiet charset c h) (and_left _ (is_empty rest) spaced)
@@ -173,11 +173,11 @@ indicator_bars charset c rest is =
     let trailing : (is_special charset c || is_trailing_space c rest) ≡ false = or_from _ _ special (and_left _ (begins_with is_break rest) spaced) in
     same broken (or_last _ _ is) (or_none _ ∙ plain) (or_from _ _ trailing (and_left _ (begins_with is_space rest) broken)) (or_from _ _ trailing ends)
 
-pub indicator_seen : (charset : Charset) (found : Barred) (c : ℕ) (rest : Text) → is_among (codes ",?:[]{}") c ≡ true
+pub indicator_seen : (charset : Charset) (found : BarredStyles) (c : ℕ) (rest : Text) → is_among (codes ",?:[]{}") c ≡ true
     → with_indicator found c rest ≡ either found (barred_by charset c rest)
 indicator_seen charset found c rest is = grind (arith, indicator_bars, same, or_none, or_last)
 
 -- if all styles are barred, only breaks matter
-pub all_barred : (found more : Barred) → found.flow_plain ≡ true → found.block_plain ≡ true → found.single_quoted ≡ true → found.block ≡ true
+pub all_barred : (found more : BarredStyles) → found.flow_plain ≡ true → found.block_plain ≡ true → found.single_quoted ≡ true → found.block ≡ true
     → either found more ≡ record found { multiline = found.multiline || more.multiline }
 all_barred found more f p s k = grind (arith, same)

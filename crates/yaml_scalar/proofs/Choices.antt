@@ -1,6 +1,6 @@
 -- The style of a value that only double quotes can write doesn't depend on its breaks.
 use Rattle.yaml_scalar.proofs.Common.{arith, if◌then◌else◌, Bool, false, not, true, ◌&&◌, ◌||◌, [], ◌∷◌, refl, ◌≡◌, ap, sym, ◌∙◌, and_parts, Text, Charset}
-use Rattle.yaml_scalar.proofs.Common.{Allowances, allowances, ChosenStyle, chosen, Barred, barred_in, allowed_by}
+use Rattle.yaml_scalar.proofs.Common.{Allowances, allowances, ChosenStyle, chosen, BarredStyles, barred_in, allowed_by}
 use Rattle.yaml_base.proofs.Common.{ScalarStyle, any_style, plain, single_quoted, double_quoted, literal, folded, is_plain, quoted_style, fitting_style}
 use Rattle.yaml_scalar.{proofs.Barred.or_none, specs.Barred.all_styles, specs.ScalarData.ChooseAlike}
 
@@ -10,7 +10,7 @@ allowed_whole charset [] = refl
 allowed_whole charset (c ∷ rest) = refl
 
 -- if nothing else fits, double quotes do
-none_fits : (allowed : Allowances) (plain_fits block_fits : Bool) (asked : ScalarStyle) → plain_fits ≡ false → allowed.single_quoted ≡ false
+none_fits : (allowed : Allowances) (plain_fits block_fits : Bool) (asked : ScalarStyle) → plain_fits ≡ false → allowed.single_quoted_allowed ≡ false
     → block_fits ≡ false → fitting_style allowed plain_fits block_fits asked ≡ double_quoted
 none_fits allowed plain_fits block_fits plain p s b =
     ap (λ (x : Bool). if x then plain else quoted_style allowed) p ∙ ap (λ (x : Bool). if x then single_quoted else double_quoted) s
@@ -24,7 +24,8 @@ neither_plain : (flow one other a b : Bool) → one ≡ false → other ≡ fals
 neither_plain true one other a b e f = ap (λ x. x && a && b) e
 neither_plain false one other a b e f = ap (λ x. x && a && b) f
 
-nothing_allowed : (allowed : Allowances) → allowed.flow_plain ≡ false → allowed.block_plain ≡ false → allowed.single_quoted ≡ false → allowed.block ≡ false
+nothing_allowed : (allowed : Allowances) → allowed.flow_plain_allowed ≡ false → allowed.block_plain_allowed ≡ false
+    → allowed.single_quoted_allowed ≡ false → allowed.block_allowed ≡ false
     → (asked : ScalarStyle) (empty tag_written plain_implicit quoted_implicit flow simple_key canonical : Bool)
     → chosen allowed asked empty tag_written plain_implicit quoted_implicit flow simple_key canonical
     ≡ record { style = double_quoted; bare = not tag_written && not quoted_implicit && not (is_plain double_quoted) }
@@ -40,14 +41,14 @@ not_either : (a x : Bool) → x ≡ true → not (a || x) ≡ false
 not_either true x e = refl
 not_either false x e = ap not e
 
-barred_double : (found : Barred) (value : Text) → all_styles found ≡ true
+barred_double : (found : BarredStyles) (value : Text) → all_styles found ≡ true
     → (asked : ScalarStyle) (empty tag_written plain_implicit quoted_implicit flow simple_key canonical : Bool)
     → chosen (allowed_by found value) asked empty tag_written plain_implicit quoted_implicit flow simple_key canonical
     ≡ record { style = double_quoted; bare = not tag_written && not quoted_implicit && not (is_plain double_quoted) }
 barred_double found value all = grind (arith, and_parts, nothing_allowed, not_plain, not_either)
 
 -- so later breaks don't matter if any do
-pub alike : (found : Barred) (more : Bool) (value : Text) → (all_styles found ≡ false → more ≡ false)
+pub alike : (found : BarredStyles) (more : Bool) (value : Text) → (all_styles found ≡ false → more ≡ false)
     → ChooseAlike (allowed_by found value) (allowed_by (record found { multiline = found.multiline || more }) value)
 alike found more value none asked empty tag_written plain_implicit quoted_implicit flow simple_key canonical = go (all_styles found) refl
   where

@@ -30,23 +30,26 @@ pub use Rattle.yaml_base.specs.reading.ReadBlock.{next_content_unindented, unfol
 pub use Rattle.yaml_base.specs.reading.ReadFolding.{literal_blank, literal_break, itself, FoldState, fold_state_text, prepend_unit, fold_state_of}
 pub use Rattle.yaml_base.specs.scalars.Analysis.{begins_with, is_gap, ends_word, begins_like_marker, begins_unlike_plain, bars_plain, is_trailing_space}
 pub use Rattle.yaml_base.specs.scalars.Analysis.{bars_single_quoted, allows_plain, allows_single_quoted}
-pub use Rattle.yaml_base.specs.scalars.BlockHeader.{Ending, without_break, one_break, more_breaks, begins_blank, render_hints, render_lines, block_body}
-pub use Rattle.yaml_base.specs.scalars.BlockHeader.{Encloses}
+pub use Rattle.yaml_base.specs.scalars.BlockHeader.{begins_blank, render_hints, render_lines, block_body, Encloses}
 pub use Rattle.yaml_base.specs.scalars.DoubleQuoted.{quote, ShortEscape, is_some_non_space, may_fold, space_kept, double_fold, double_character}
 pub use Rattle.yaml_base.specs.Characters.{backslash}
 pub use Rattle.yaml_base.specs.scalars.DoubleQuoted.{double_quoted_body, render_double_quoted}
 pub use Rattle.yaml_base.specs.scalars.Folded.{is_past_limit, folds, cut_from, cut_line, next_line_unindented, folded_body, render_folded}
 pub use Rattle.yaml_base.specs.scalars.Lines.{Part, line, line_break, begun}
-pub use Rattle.yaml_base.specs.scalars.Plain.{Kind, spaces, breaks, others, kind_of, is_same_kind, indentation, plain_body, render_plain}
+pub use Rattle.yaml_base.specs.scalars.Plain.{kind_of, is_same_kind, indentation, plain_body, render_plain}
+pub use Rattle.yaml_base.specs.declared.scalars.{CharacterKind.CharacterKind, Ending.Ending}
+pub use Rattle.yaml_base.specs.declared.scalars.CharacterKind.TheVariants.{Space, Break, Other}
+pub use Rattle.yaml_base.specs.declared.scalars.Ending.TheVariants.{WithoutBreak, OneBreak, MoreBreaks}
 pub use Rattle.yaml_pen.{proofs.Cuts.chars-cut, specs.Page.Page, specs.Page.natural, specs.Wrote.Wrote}
 pub use Rattle.yaml_pen.proofs.Composing.{wrote_all, wrote_then, wrote_failed, wrote_as, wrote_changing, wrote_text_then, wrote_text_failed, wrote_exit}
 pub use Rattle.yaml_pen.proofs.Composing.{wrote_failed_as}
 pub use Rattle.yaml_scalar.specs.{Batch.AreBatched, BlockCode.is_folded, ByteClasses.is_free, ByteClasses.IsFreeRun, ByteClasses.ImpliesTest, Width.limit_of}
-pub use Rattle.yaml_scalar.specs.{EscapeBytes.is_unbroken_ascii, ReadsBack.ReadsBack, ScalarData.seen_charset, ShortRuns.most_short, ShortRuns.IsShortRun}
-pub use Rattle.yaml_scalar.specs.{ShortRuns.IsShortLine, SimpleAsciiTexts.has_simple_ascii_ends, SimpleAsciiTexts.is_simple_ascii_character, Width.limit_where}
-pub use Rattle.yaml_scalar.specs.Barred.{Barred, seen_barred, barred_by, barred_in, none_barred, either, is_ordinary, is_quiet, barred_by_space, allowed_by}
+pub use Rattle.yaml_scalar.specs.{EscapeBytes.is_unbroken_ascii, ReadsBack.ReadsBack, ShortRuns.most_short, ShortRuns.IsShortRun, ShortRuns.IsShortLine}
+pub use Rattle.yaml_scalar.specs.{SimpleAsciiTexts.has_simple_ascii_ends, SimpleAsciiTexts.is_simple_ascii_character, Width.limit_where}
+pub use Rattle.yaml_scalar.specs.{declared.analysis.BarredStyles.BarredStyles}
+pub use Rattle.yaml_scalar.specs.Barred.{barred_by, barred_in, none_barred, either, is_ordinary, is_quiet, barred_by_space, allowed_by}
 pub use Rattle.yaml_scalar.specs.BlockSteps.{place_after, render_content, render_inner, is_doubled, render_block_break, render_step, stays_at, lines_from}
 pub use Rattle.yaml_scalar.specs.BlockSteps.{separated_header, header_end}
-pub use Rattle.yaml_scalar.specs.LineSteps.{seen_kind, written_as, begins_kind, step_text, render_steps}
+pub use Rattle.yaml_scalar.specs.LineSteps.{written_as, begins_kind, step_text, render_steps}
 pub use Rattle.yaml_scalar.specs.WholeRuns.{has_limit, stays_where, stays, stays_in_line, IsRun, HasRoom}
 pub use Rattle.yaml_base.specs.Tags.{last_from}

@@ -6,8 +6,8 @@ use Rattle.yaml_scalar.proofs.Common.{Text, line_feed, carriage_return, next_lin
 use Rattle.yaml_scalar.proofs.Common.{is_printable, Cursor, Rendered, render_then, column_after, render_text, breaks_line, is_past_width, with_breaks_written}
 use Rattle.yaml_scalar.proofs.Common.{with_line_breaks_read, is_read_break, is_rendered_text, is_indented_text, LineBreak, between, with_unit, quoted_from}
 use Rattle.yaml_scalar.proofs.Common.{read_double, FoldUnit, literal_blank, literal_break, itself, FoldState, fold_state_text, prepend_unit, fold_state_of}
-use Rattle.yaml_scalar.proofs.Common.{folding_read, quote, backslash, escape_text, needs_escape, character_text, is_some_non_space, may_fold, space_kept, double_fold}
-use Rattle.yaml_scalar.proofs.Common.{double_inside, render_quote, double_quoted_body}
+use Rattle.yaml_scalar.proofs.Common.{folding_read, quote, backslash, escape_text, needs_escape, character_text, is_some_non_space, may_fold, space_kept}
+use Rattle.yaml_scalar.proofs.Common.{double_fold, double_inside, render_quote, double_quoted_body}
 use Rattle.yaml_base.specs.reading.ReadDouble.{QuotedReading, double_quoted_prefix, value_alone}
 use Rattle.yaml_scalar.proofs.{EscapesRead.escape-reads, Unbroken.is_unbroken, Unbroken.unbroken-replicate, Unbroken.unbroken-column}
 use Rattle.yaml_scalar.proofs.{Unbroken.unbroken-rendered, Unbroken.unbroken-indented, Unbroken.unescaped, Unbroken.character-unbroken, Unbroken.character-long}

@@ -1,6 +1,6 @@
 -- The ending of a text, by its last characters.
 use Rattle.yaml_scalar.proofs.Common.{arith, ℕ, if◌then◌else◌, length, take, false, true, List, [], ◌++◌, ◌∷◌, refl, ◌≡◌, append-nil, append_assoc, ap, subst}
-use Rattle.yaml_scalar.proofs.Common.{sym, ◌∙◌, scalar, IsUtf8-encode, IsUtf8-take, Text, is_break, without_break, one_break, more_breaks, ending, last_from}
+use Rattle.yaml_scalar.proofs.Common.{sym, ◌∙◌, scalar, IsUtf8-encode, IsUtf8-take, Text, is_break, WithoutBreak, OneBreak, MoreBreaks, ending, last_from}
 use Rattle.yaml_base.proofs.Common.{encode_utf8, chars-encodes, chars}
 use Rattle.std.{proofs.lemmas.List.take_at, proofs.lemmas.Str.IsCharBoundary-at_seam, proofs.lemmas.Str.chars-append, specs.Str.IsUtf8}
 use Rattle.yaml_scalar.proofs.WholeRuns.{last-more}
@@ -15,7 +15,7 @@ ending-two : (xs : Text) (b c : ℕ) → ending (xs ++ b ∷ c ∷ []) ≡ endin
 ending-two [] b c = refl
 ending-two (x ∷ xs) b c = ending-further x b c xs ∙ ending-two xs b c
 
-ending-other : (xs : Text) (c : ℕ) → is_break c ≡ false → ending (xs ++ c ∷ []) ≡ without_break
+ending-other : (xs : Text) (c : ℕ) → is_break c ≡ false → ending (xs ++ c ∷ []) ≡ WithoutBreak
 ending-other [] c e = rw e refl
 ending-other (x ∷ []) c e = rw e refl
 ending-other (x ∷ y ∷ []) c e = rw e refl
@@ -36,15 +36,15 @@ last-is before text prefix c u s e =
     sym (ap (λ t. last_from before (chars t)) e ∙ ap (last_from before) (chars-last prefix c is_text s) ∙ last-more before (chars prefix) c)
 
 -- a text that ends in no break
-pub other-ends : (prefix : List ℕ) (c : ℕ) → IsUtf8 prefix → scalar c ≡ true → is_break c ≡ false → ending (chars (prefix ++ encode_utf8 c)) ≡ without_break
+pub other-ends : (prefix : List ℕ) (c : ℕ) → IsUtf8 prefix → scalar c ≡ true → is_break c ≡ false → ending (chars (prefix ++ encode_utf8 c)) ≡ WithoutBreak
 other-ends prefix c u s e = ap ending (chars-last prefix c u s) ∙ ending-other (chars prefix) c e
 
 -- in a break alone
 pub break-ends : (prefix : List ℕ) (c : ℕ) → IsUtf8 prefix → scalar c ≡ true → is_break c ≡ true → chars prefix ≡ []
-    → ending (chars (prefix ++ encode_utf8 c)) ≡ more_breaks
+    → ending (chars (prefix ++ encode_utf8 c)) ≡ MoreBreaks
 break-ends prefix c u s e none = ap ending (chars-last prefix c u s ∙ ap (λ t. t ++ c ∷ []) none) ∙ rw e refl
 
 -- in a break after another character
 pub two-end : (prefix : List ℕ) (b c : ℕ) → IsUtf8 prefix → IsUtf8 (prefix ++ encode_utf8 b) → scalar b ≡ true → scalar c ≡ true → is_break c ≡ true
-    → ending (chars (prefix ++ encode_utf8 b ++ encode_utf8 c)) ≡ (if is_break b then more_breaks else one_break)
+    → ending (chars (prefix ++ encode_utf8 b ++ encode_utf8 c)) ≡ (if is_break b then MoreBreaks else OneBreak)
 two-end prefix b c u v s t e = grind (arith, chars-last, append_assoc, ending-two)

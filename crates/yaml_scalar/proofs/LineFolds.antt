@@ -3,16 +3,16 @@ use Rattle.yaml_scalar.proofs.Common.{arith, suc, zero, ℕ, if◌then◌else◌
 use Rattle.yaml_scalar.proofs.Common.{eqb-true, ap, subst, sym, ◌∙◌, and-false, and_parts, and_from, or_parts, not_from_false, not-false, not-true, list_any}
 use Rattle.yaml_scalar.proofs.Common.{Text, line_feed, carriage_return, next_line, space, is_space, is_break, is_printable, Cursor, is_past_width}
 use Rattle.yaml_scalar.proofs.Common.{is_rendered_text, FoldUnit, literal_blank, literal_break, itself, unit_of, FoldState, fold_state_text, prepend_unit}
-use Rattle.yaml_scalar.proofs.Common.{fold_state_of, folding_read, Charset, somewhere, begins_with, is_empty, is_special, bars_single_quoted, Kind, spaces}
-use Rattle.yaml_scalar.proofs.Common.{breaks, others, kind_of, is_same_kind, indentation, begins_kind, step_text}
+use Rattle.yaml_scalar.proofs.Common.{fold_state_of, folding_read, Charset, somewhere, begins_with, is_empty, is_special, bars_single_quoted, CharacterKind}
+use Rattle.yaml_scalar.proofs.Common.{Space, Break, Other, kind_of, is_same_kind, indentation, begins_kind, step_text}
 use Rattle.yaml_base.specs.reading.ReadFolding.{run_read}
 use Rattle.yaml_scalar.proofs.LineTexts.{bare_steps}
 
 -- the unit that a reader finds in a character of a kind
-abbrev pub unit_of_kind : Kind → ℕ → FoldUnit
-unit_of_kind spaces c = literal_blank c
-unit_of_kind breaks c = literal_break c
-unit_of_kind others c = itself c
+abbrev pub unit_of_kind : CharacterKind → ℕ → FoldUnit
+unit_of_kind Space c = literal_blank c
+unit_of_kind Break c = literal_break c
+unit_of_kind Other c = itself c
 
 -- two characters differ if one is printable and the other isn't
 unlike_by : (c d : ℕ) (same : Bool) → (c == d) ≡ same → is_printable c ≡ true → is_printable d ≡ false → same ≡ false
@@ -29,7 +29,7 @@ same_unit :
     is_tab ≡ false → is_cr ≡ false → is_nel ≡ false → (breaks12 && (is_ls || is_ps)) ≡ false →
     (if is_sp || is_tab then literal_blank c
     else if is_lf || (not breaks12 && (is_ls || is_ps)) then literal_break c else itself c) ≡
-    unit_of_kind (if is_sp then spaces else if is_lf || is_cr || is_nel || is_ls || is_ps then breaks else others) c
+    unit_of_kind (if is_sp then Space else if is_lf || is_cr || is_nel || is_ls || is_ps then Break else Other) c
 same_unit c true is_tab is_lf is_cr is_nel is_ls is_ps breaks12 t r n s = refl
 same_unit c false is_tab true is_cr is_nel is_ls is_ps breaks12 t r n s = simp t
 same_unit c false is_tab false is_cr is_nel is_ls is_ps true t r n s = simp (t, r, n, s)
@@ -61,10 +61,10 @@ indentation-rest breaks12 zero text = refl
 indentation-rest breaks12 (suc n) text = indentation-rest breaks12 n text
 
 -- true for a rest that may not follow a character of this kind, since no space is next to a break
-abbrev pub clashes : Kind → Text → Bool
-clashes spaces rest = begins_with is_break rest
-clashes breaks rest = begins_with is_space rest
-clashes others rest = false
+abbrev pub clashes : CharacterKind → Text → Bool
+clashes Space rest = begins_with is_break rest
+clashes Break rest = begins_with is_space rest
+clashes Other rest = false
 
 -- the condition on a fold state for a value after a character of this kind
 pub record AfterSpace (value : Text) (prefix : FoldState) : Type 0 where
@@ -77,19 +77,19 @@ pub record AfterBreak (value : Text) (prefix : FoldState) : Type 0 where
   pub whole : prefix.breaks ++ prefix.rest ≡ value
 
 -- of a fold state, by the kind of the character before
-abbrev pub ReadsAfter : Kind → Text → FoldState → Type 0
-ReadsAfter spaces value prefix = AfterSpace value prefix
-ReadsAfter breaks value prefix = begins_with is_space value ≡ false → AfterBreak value prefix
-ReadsAfter others value prefix = fold_state_text prefix ≡ value
+abbrev pub ReadsAfter : CharacterKind → Text → FoldState → Type 0
+ReadsAfter Space value prefix = AfterSpace value prefix
+ReadsAfter Break value prefix = begins_with is_space value ≡ false → AfterBreak value prefix
+ReadsAfter Other value prefix = fold_state_text prefix ≡ value
 
 -- a character that is neither a space nor a break
 own_step :
-    (before : Kind) (c : ℕ) (rest : Text) (prefix : FoldState) →
+    (before : CharacterKind) (c : ℕ) (rest : Text) (prefix : FoldState) →
     fold_state_text prefix ≡ rest →
     ReadsAfter before (c ∷ rest) (prepend_unit (itself c) prefix)
-own_step spaces c rest prefix read = grind (arith)
-own_step breaks c rest prefix read = λ _. record { no_blanks = refl; whole = ap (λ (t : Text). c ∷ t) read }
-own_step others c rest prefix read = ap (λ (t : Text). c ∷ t) read
+own_step Space c rest prefix read = grind (arith)
+own_step Break c rest prefix read = λ _. record { no_blanks = refl; whole = ap (λ (t : Text). c ∷ t) read }
+own_step Other c rest prefix read = ap (λ (t : Text). c ∷ t) read
 
 -- if no break comes first, a fold state reads as its blanks and its rest
 clear_read :
@@ -105,13 +105,13 @@ space_read value prefix clear read = rw clear (ap (λ (t : Text). space ∷ t) (
 
 -- a space that stays
 space_step :
-    (before : Kind) (rest : Text) (prefix : FoldState) →
+    (before : CharacterKind) (rest : Text) (prefix : FoldState) →
     AfterSpace rest prefix →
     begins_with is_break rest ≡ false →
     ReadsAfter before (space ∷ rest) (prepend_unit (literal_blank space) prefix)
-space_step spaces rest prefix after clear = grind (arith, space_read)
-space_step breaks rest prefix after clear = λ e. cc
-space_step others rest prefix after clear = space_read rest prefix (after.no_breaks clear) after.whole
+space_step Space rest prefix after clear = grind (arith, space_read)
+space_step Break rest prefix after clear = λ e. cc
+space_step Other rest prefix after clear = space_read rest prefix (after.no_breaks clear) after.whole
 
 -- if no blank comes first either, it reads as its rest
 bare_read : (value : Text) (prefix : FoldState) → prefix.breaks ≡ [] → prefix.blanks ≡ [] → fold_state_text prefix ≡ value → prefix.rest ≡ value
@@ -126,15 +126,15 @@ fold_read value prefix clear none read = rw clear (ap (λ (t : Text). space ∷ 
 
 -- a space that becomes a break and indentation
 fold_step :
-    (before : Kind) (rest : Text) (prefix : FoldState) →
-    is_same_kind before spaces ≡ false →
+    (before : CharacterKind) (rest : Text) (prefix : FoldState) →
+    is_same_kind before Space ≡ false →
     AfterSpace rest prefix →
     begins_with is_break rest ≡ false →
     begins_with is_space rest ≡ false →
     ReadsAfter before (space ∷ rest) (record { blanks = []; breaks = line_feed ∷ prefix.breaks; rest = prefix.rest })
-fold_step spaces rest prefix other after clear own = cc
-fold_step breaks rest prefix other after clear own = λ e. cc
-fold_step others rest prefix other after clear own =
+fold_step Space rest prefix other after clear own = cc
+fold_step Break rest prefix other after clear own = λ e. cc
+fold_step Other rest prefix other after clear own =
     fold_read rest prefix (after.no_breaks clear) (after.no_blanks own) after.whole
 
 -- a run that doesn't begin with LF is kept
@@ -156,14 +156,14 @@ broken_read c value more rest false e whole = rw (run_kept c more e) (ap (λ (t 
 
 -- LF is written twice if no break precedes it
 break_step :
-    (before : Kind) (c : ℕ) (value more rest : Text) →
+    (before : CharacterKind) (c : ℕ) (value more rest : Text) →
     is_break c ≡ true →
     more ++ rest ≡ value →
-    ReadsAfter before (c ∷ value) (broken (c == line_feed && not (is_same_kind before breaks)) c more rest)
-break_step spaces c value more rest b whole = grind (arith, broken_read)
-break_step breaks c value more rest b whole =
+    ReadsAfter before (c ∷ value) (broken (c == line_feed && not (is_same_kind before Break)) c more rest)
+break_step Space c value more rest b whole = grind (arith, broken_read)
+break_step Break c value more rest b whole =
     λ _. record { no_blanks = refl; whole = rw (and-false (c == line_feed)) (ap (λ (t : Text). c ∷ t) whole) }
-break_step others c value more rest b whole = broken_read c value more rest _ refl whole
+break_step Other c value more rest b whole = broken_read c value more rest _ refl whole
 
 -- the fold state of a break as it is rendered
 broken_prefix :
@@ -178,47 +178,47 @@ broken_prefix breaks12 true false indent c text u = rw u (simp (indentation-brea
 broken_prefix breaks12 false false indent c text u = rw u (simp (indentation-breaks, indentation-rest))
 
 -- a kind is spaces only at a space
-pub spaces_only : (s b : Bool) → (if s then spaces else if b then breaks else others) ≡ spaces → s ≡ true
+pub spaces_only : (s b : Bool) → (if s then Space else if b then Break else Other) ≡ Space → s ≡ true
 spaces_only true b e = refl
 spaces_only false true e = cc
 spaces_only false false e = cc
 
 -- and breaks only at a break
-pub breaks_only : (s b : Bool) → (if s then spaces else if b then breaks else others) ≡ breaks → b ≡ true
+pub breaks_only : (s b : Bool) → (if s then Space else if b then Break else Other) ≡ Break → b ≡ true
 breaks_only true b e = cc
 breaks_only false true e = refl
 breaks_only false false e = cc
 
 -- a kind is spaces exactly at a space
-same_as_space : (s b : Bool) → is_same_kind spaces (if s then spaces else if b then breaks else others) ≡ s
+same_as_space : (s b : Bool) → is_same_kind Space (if s then Space else if b then Break else Other) ≡ s
 same_as_space true b = refl
 same_as_space false true = refl
 same_as_space false false = refl
 
 -- a text begins with a character of that kind exactly if it begins with a space
-begins_space : (rest : Text) → begins_kind spaces rest ≡ begins_with is_space rest
+begins_space : (rest : Text) → begins_kind Space rest ≡ begins_with is_space rest
 begins_space [] = refl
 begins_space (c ∷ rest) = same_as_space (is_space c) (is_break c)
 
 -- the conditions of a fold
-record Folds (before : Kind) (rest : Text) : Type 0 where
-  other : is_same_kind before spaces ≡ false
+record Folds (before : CharacterKind) (rest : Text) : Type 0 where
+  other : is_same_kind before Space ≡ false
   own : begins_with is_space rest ≡ false
 
 -- a fold is only there
 folds_where :
-    (folds : Bool) (before : Kind) (rest : Text) →
-    (folds && not (is_same_kind before spaces || (is_empty rest || begins_kind spaces rest))) ≡ true →
+    (folds : Bool) (before : CharacterKind) (rest : Text) →
+    (folds && not (is_same_kind before Space || (is_empty rest || begins_kind Space rest))) ≡ true →
     Folds before rest
 folds_where folds before rest e = grind (arith, or_parts, not-true, and_parts, begins_space)
 
 -- a space or a fold before a text that reads as the rest
 spaced :
-    (breaks12 folds : Bool) (indent : ℕ) (before : Kind) (rest text : Text) →
+    (breaks12 folds : Bool) (indent : ℕ) (before : CharacterKind) (rest text : Text) →
     begins_with is_break rest ≡ false →
     AfterSpace rest (fold_state_at breaks12 text) →
     (folded : Bool) →
-    (folds && not (is_same_kind before spaces || (is_empty rest || begins_kind spaces rest))) ≡ folded →
+    (folds && not (is_same_kind before Space || (is_empty rest || begins_kind Space rest))) ≡ folded →
     ReadsAfter before (space ∷ rest)
     (fold_state_at breaks12 ((if folded then line_feed ∷ indentation indent else space ∷ []) ++ text))
 spaced breaks12 folds indent before rest text clear after true e = grind (arith, folds_where, indentation-breaks, indentation-rest, fold_step)
@@ -227,37 +227,37 @@ spaced breaks12 folds indent before rest text clear after false e =
 
 -- one character's text before a text that reads as the rest
 step_reads :
-    (charset : Charset) (folds : Bool) (indent : ℕ) (before kind : Kind) (c : ℕ) (rest text : Text) →
+    (charset : Charset) (folds : Bool) (indent : ℕ) (before kind : CharacterKind) (c : ℕ) (rest text : Text) →
     kind_of c ≡ kind →
     is_special charset c ≡ false →
     clashes kind rest ≡ false →
     ReadsAfter kind rest (fold_state_at charset.breaks12 text) →
     ReadsAfter before (c ∷ rest)
     (fold_state_at charset.breaks12 (step_text (λ t. t) folds indent before kind c rest ++ text))
-step_reads charset folds indent before spaces c rest text k clean clear after = grind (arith, eqb-true, spaces_only, spaced)
-step_reads charset folds indent before breaks c rest text k clean clear after = grind (arith, unit_by_kind, broken_prefix, break_step, breaks_only)
-step_reads charset folds indent before others c rest text k clean clear after = grind (arith, unit_by_kind, own_step)
+step_reads charset folds indent before Space c rest text k clean clear after = grind (arith, eqb-true, spaces_only, spaced)
+step_reads charset folds indent before Break c rest text k clean clear after = grind (arith, unit_by_kind, broken_prefix, break_step, breaks_only)
+step_reads charset folds indent before Other c rest text k clean clear after = grind (arith, unit_by_kind, own_step)
 
 -- a value that single quotes may hold has no space beside a break
 clear_after :
-    (charset : Charset) (c : ℕ) (rest : Text) (kind : Kind) →
+    (charset : Charset) (c : ℕ) (rest : Text) (kind : CharacterKind) →
     kind_of c ≡ kind →
     bars_single_quoted charset c rest ≡ false →
     clashes kind rest ≡ false
-clear_after charset c rest spaces k clean = grind (arith, or_parts, spaces_only)
-clear_after charset c rest breaks k clean =
+clear_after charset c rest Space k clean = grind (arith, or_parts, spaces_only)
+clear_after charset c rest Break k clean =
     sym (ap (λ (b : Bool). b && begins_with is_space rest) (breaks_only (is_space c) (is_break c) k)) ∙ (or_parts _ _ clean).1
-clear_after charset c rest others k clean = refl
+clear_after charset c rest Other k clean = refl
 
 -- a value that quotes may hold, from some character on
 pub lines_read :
-    (charset : Charset) (written : Text → Text) (limit : Option ℕ) (indent : ℕ) (before : Kind) (value : Text) (cursor : Cursor) →
+    (charset : Charset) (written : Text → Text) (limit : Option ℕ) (indent : ℕ) (before : CharacterKind) (value : Text) (cursor : Cursor) →
     somewhere (bars_single_quoted charset) value ≡ false →
     ReadsAfter before value (fold_state_at charset.breaks12 (bare_steps written limit indent before value cursor))
-lines_read charset written limit indent spaces [] cursor clean =
+lines_read charset written limit indent Space [] cursor clean =
     record { whole = refl; no_breaks = λ _. refl; no_blanks = λ _. refl }
-lines_read charset written limit indent breaks [] cursor clean = λ _. record { no_blanks = refl; whole = refl }
-lines_read charset written limit indent others [] cursor clean = refl
+lines_read charset written limit indent Break [] cursor clean = λ _. record { no_blanks = refl; whole = refl }
+lines_read charset written limit indent Other [] cursor clean = refl
 lines_read charset written limit indent before (c ∷ rest) cursor clean =
     let parts = or_parts (bars_single_quoted charset c rest) (somewhere (bars_single_quoted charset) rest) clean in
     step_reads charset (is_past_width limit cursor) indent before (kind_of c) c rest _ refl
@@ -269,9 +269,9 @@ lines_read charset written limit indent before (c ∷ rest) cursor clean =
 pub folding_reads :
     (charset : Charset) (written : Text → Text) (limit : Option ℕ) (indent : ℕ) (value : Text) (cursor : Cursor) →
     somewhere (bars_single_quoted charset) value ≡ false →
-    folding_read (map (unit_of charset.breaks12) (bare_steps written limit indent spaces value cursor)) ≡ value
+    folding_read (map (unit_of charset.breaks12) (bare_steps written limit indent Space value cursor)) ≡ value
 folding_reads charset written limit indent value cursor clean =
-    (lines_read charset written limit indent spaces value cursor clean).whole
+    (lines_read charset written limit indent Space value cursor clean).whole
 
 -- CR and U+0085 are read as other breaks than they are
 abbrev pub is_return : ℕ → Bool

@@ -1,7 +1,7 @@
 -- Each nonempty line of plain and single-quoted text after the first begins with two spaces.
 use Rattle.yaml_scalar.proofs.Common.{suc, zero, ℕ, ◌≤◌, if◌then◌else◌, Option, Bool, false, not, true, [], ◌++◌, ◌∷◌, refl, ◌≡◌, eqb-true}
 use Rattle.yaml_scalar.proofs.Common.{append_assoc, arith, and-false, and_from, or_right, Text, line_feed, space, is_space, is_break, Cursor, render_text}
-use Rattle.yaml_scalar.proofs.Common.{is_past_width, begins_indented, is_indented_text, Kind, spaces, breaks, others, kind_of, is_same_kind}
+use Rattle.yaml_scalar.proofs.Common.{is_past_width, begins_indented, is_indented_text, CharacterKind, Space, Break, Other, kind_of, is_same_kind}
 use Rattle.yaml_scalar.proofs.Common.{indentation, begins_kind, step_text, render_steps}
 use Rattle.yaml_base.proofs.BreakLaws.{break-begins}
 use Rattle.yaml_scalar.proofs.{LineFolds.spaces_only, LineFolds.breaks_only, LineRuns.WritesEach, Unbroken.unbroken-replicate, Unbroken.unbroken-indented}
@@ -13,7 +13,7 @@ indentation-begins (suc zero) wide text = absurd (omega arith)
 indentation-begins (suc (suc n)) wide text = refl
 
 -- a kind is others only at a character that is no break
-pub others_only : (s b : Bool) → (if s then spaces else if b then breaks else others) ≡ others → b ≡ false
+pub others_only : (s b : Bool) → (if s then Space else if b then Break else Other) ≡ Other → b ≡ false
 others_only true b e = cc
 others_only false true e = cc
 others_only false false e = refl
@@ -53,34 +53,34 @@ doubled_line false c text b lines = lines
 step_indented :
     (written : Text → Text) → WritesEach written →
     (folds : Bool) (indent : ℕ) → 2 ≤ indent →
-    (before kind : Kind) (c : ℕ) (rest text : Text) →
+    (before kind : CharacterKind) (c : ℕ) (rest text : Text) →
     kind_of c ≡ kind →
     is_indented_text text ≡ true →
-    (is_same_kind kind breaks ≡ true → begins_kind breaks rest ≡ true → begins_indented text ≡ true) →
+    (is_same_kind kind Break ≡ true → begins_kind Break rest ≡ true → begins_indented text ≡ true) →
     is_indented_text (step_text written folds indent before kind c rest ++ text) ≡ true
-step_indented written w folds indent wide before spaces c rest text k lines begins = grind (arith, eqb-true, spaces_only, folded_line)
-step_indented written w folds indent wide before breaks c rest text k lines begins =
+step_indented written w folds indent wide before Space c rest text k lines begins = grind (arith, eqb-true, spaces_only, folded_line)
+step_indented written w folds indent wide before Break c rest text k lines begins =
     grind (arith, append_assoc, doubled_line, breaks_only, broken_line)
-step_indented written w folds indent wide before others c rest text k lines begins =
+step_indented written w folds indent wide before Other c rest text k lines begins =
     unbroken-indented (written (c ∷ [])) text (w.unbroken c (others_only (is_space c) (is_break c) k)) lines
 
 -- a run that goes on goes on with a break
 run_begins :
-    (written : Text → Text) (limit : Option ℕ) (indent : ℕ) (before kind : Kind) (c : ℕ) (rest text : Text) (folds : Bool) →
+    (written : Text → Text) (limit : Option ℕ) (indent : ℕ) (before kind : CharacterKind) (c : ℕ) (rest text : Text) (folds : Bool) →
     kind_of c ≡ kind →
-    is_same_kind before breaks ≡ true →
-    is_same_kind breaks kind ≡ true →
+    is_same_kind before Break ≡ true →
+    is_same_kind Break kind ≡ true →
     begins_indented (step_text written folds indent before kind c rest ++ text) ≡ true
-run_begins written limit indent before spaces c rest text folds k same here = cc
-run_begins written limit indent before breaks c rest text folds k same here =
+run_begins written limit indent before Space c rest text folds k same here = cc
+run_begins written limit indent before Break c rest text folds k same here =
     simp (same, and-false) (break-begins c _ (breaks_only (is_space c) (is_break c) k))
-run_begins written limit indent before others c rest text folds k same here = cc
+run_begins written limit indent before Other c rest text folds k same here = cc
 
 -- a run that goes on begins its line with a break
 text_begins :
-    (written : Text → Text) (limit : Option ℕ) (indent : ℕ) (before : Kind) (value after : Text) (cursor : Cursor) →
-    is_same_kind before breaks ≡ true →
-    begins_kind breaks value ≡ true →
+    (written : Text → Text) (limit : Option ℕ) (indent : ℕ) (before : CharacterKind) (value after : Text) (cursor : Cursor) →
+    is_same_kind before Break ≡ true →
+    begins_kind Break value ≡ true →
     begins_indented ((render_steps written limit indent before value cursor).text ++ after) ≡ true
 text_begins written limit indent before [] after cursor same here = cc
 text_begins written limit indent before (c ∷ rest) after cursor same here = grind (arith, append_assoc, run_begins)
@@ -89,7 +89,7 @@ text_begins written limit indent before (c ∷ rest) after cursor same here = gr
 pub lines_indented :
     (written : Text → Text) → WritesEach written →
     (limit : Option ℕ) (indent : ℕ) → 2 ≤ indent →
-    (before : Kind) (value after : Text) (cursor : Cursor) →
+    (before : CharacterKind) (value after : Text) (cursor : Cursor) →
     is_indented_text after ≡ true →
     is_indented_text ((render_steps written limit indent before value cursor).text ++ after) ≡ true
 lines_indented written w limit indent wide before [] after cursor lines = lines

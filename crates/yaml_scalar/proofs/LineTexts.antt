@@ -1,11 +1,11 @@
 -- The text of plain and single-quoted lines before quotes are doubled: each character is the value's, or of a break or indentation.
 use Rattle.yaml_scalar.proofs.Common.{arith, suc, zero, ℕ, if◌then◌else◌, ◌==◌, Option, Bool, false, true, [], ◌++◌, ◌∷◌, refl, ◌≡◌, eqb-true, ap}
-use Rattle.yaml_scalar.proofs.Common.{sym, ◌∙◌, or_parts, list_any-append, list_any, Text, line_feed, space, Cursor, render_text, is_past_width, Kind}
-use Rattle.yaml_scalar.proofs.Common.{spaces, breaks, others, kind_of, is_same_kind, indentation, step_text, render_steps}
+use Rattle.yaml_scalar.proofs.Common.{sym, ◌∙◌, or_parts, list_any-append, list_any, Text, line_feed, space, Cursor, render_text, is_past_width, CharacterKind}
+use Rattle.yaml_scalar.proofs.Common.{Space, Break, Other, kind_of, is_same_kind, indentation, step_text, render_steps}
 use Rattle.yaml_scalar.proofs.LineRuns.{WritesEach}
 
 -- the lines with each character as it is; the cursor is that of the text as it is written
-abbrev pub bare_steps : (written : Text → Text) (limit : Option ℕ) (indent : ℕ) (before : Kind) → Text → Cursor → Text
+abbrev pub bare_steps : (written : Text → Text) (limit : Option ℕ) (indent : ℕ) (before : CharacterKind) → Text → Cursor → Text
 bare_steps written limit indent before [] cursor = []
 bare_steps written limit indent before (c ∷ rest) cursor =
     let folds = is_past_width limit cursor in
@@ -38,19 +38,19 @@ any_indentation test (suc n) a = any_one test space (indentation n) a (any_inden
 
 -- no character of a step meets a test that the value's character, LF and the space don't meet
 pub any_step :
-    (test : ℕ → Bool) (folds : Bool) (indent : ℕ) (before kind : Kind) (c : ℕ) (rest : Text) →
+    (test : ℕ → Bool) (folds : Bool) (indent : ℕ) (before kind : CharacterKind) (c : ℕ) (rest : Text) →
     test line_feed ≡ false →
     test space ≡ false →
     test c ≡ false →
     list_any test (step_text (λ t. t) folds indent before kind c rest) ≡ false
-any_step test folds indent before spaces c rest feed blank own = grind (arith, any_cond, any_one, any_indentation)
-any_step test folds indent before breaks c rest feed blank own = grind (arith, any_both, any_cond, any_one, any_indentation)
-any_step test folds indent before others c rest feed blank own = any_one test c [] own refl
+any_step test folds indent before Space c rest feed blank own = grind (arith, any_cond, any_one, any_indentation)
+any_step test folds indent before Break c rest feed blank own = grind (arith, any_both, any_cond, any_one, any_indentation)
+any_step test folds indent before Other c rest feed blank own = any_one test c [] own refl
 
 -- no character of all lines passes a test that none of the value's does
 pub any_bare :
     (test : ℕ → Bool) → test line_feed ≡ false → test space ≡ false →
-    (written : Text → Text) (limit : Option ℕ) (indent : ℕ) (before : Kind) (value : Text) (cursor : Cursor) →
+    (written : Text → Text) (limit : Option ℕ) (indent : ℕ) (before : CharacterKind) (value : Text) (cursor : Cursor) →
     list_any test value ≡ false →
     list_any test (bare_steps written limit indent before value cursor) ≡ false
 any_bare test feed blank written limit indent before [] cursor own = refl
@@ -66,12 +66,12 @@ is_quote c = c == 39
 
 -- a quote is no space and no break
 not_quote_by :
-    (c : ℕ) (kind : Kind) (quote : Bool) → is_quote c ≡ quote → kind_of c ≡ kind → is_same_kind kind others ≡ false → quote ≡ false
+    (c : ℕ) (kind : CharacterKind) (quote : Bool) → is_quote c ≡ quote → kind_of c ≡ kind → is_same_kind kind Other ≡ false → quote ≡ false
 not_quote_by c kind false q k e = refl
 not_quote_by c kind true q k e = grind (arith, eqb-true)
 
 -- a space or a break is no quote
-not_quote : (c : ℕ) (kind : Kind) → kind_of c ≡ kind → is_same_kind kind others ≡ false → is_quote c ≡ false
+not_quote : (c : ℕ) (kind : CharacterKind) → kind_of c ≡ kind → is_same_kind kind Other ≡ false → is_quote c ≡ false
 not_quote c kind k e = not_quote_by c kind _ refl k e
 
 -- a text without `'` is written as it is
@@ -86,19 +86,19 @@ written_kept written w (c ∷ rest) clean =
 -- a step of bare text, written, is the step
 step_written :
     (written : Text → Text) → WritesEach written →
-    (folds : Bool) (indent : ℕ) (before kind : Kind) (c : ℕ) (rest : Text) →
+    (folds : Bool) (indent : ℕ) (before kind : CharacterKind) (c : ℕ) (rest : Text) →
     kind_of c ≡ kind →
     written (step_text (λ t. t) folds indent before kind c rest) ≡ step_text written folds indent before kind c rest
-step_written written w folds indent before spaces c rest k =
-    written_kept written w _ (any_step is_quote folds indent before spaces c rest refl refl (not_quote c spaces k refl))
-step_written written w folds indent before breaks c rest k =
-    written_kept written w _ (any_step is_quote folds indent before breaks c rest refl refl (not_quote c breaks k refl))
-step_written written w folds indent before others c rest k = refl
+step_written written w folds indent before Space c rest k =
+    written_kept written w _ (any_step is_quote folds indent before Space c rest refl refl (not_quote c Space k refl))
+step_written written w folds indent before Break c rest k =
+    written_kept written w _ (any_step is_quote folds indent before Break c rest refl refl (not_quote c Break k refl))
+step_written written w folds indent before Other c rest k = refl
 
 -- the text of a layout is that of its bare lines, written
 pub bare_written :
     (written : Text → Text) → WritesEach written →
-    (limit : Option ℕ) (indent : ℕ) (before : Kind) (value : Text) (cursor : Cursor) →
+    (limit : Option ℕ) (indent : ℕ) (before : CharacterKind) (value : Text) (cursor : Cursor) →
     (render_steps written limit indent before value cursor).text ≡ written (bare_steps written limit indent before value cursor)
 bare_written written w limit indent before [] cursor = sym w.nothing
 bare_written written w limit indent before (c ∷ rest) cursor =

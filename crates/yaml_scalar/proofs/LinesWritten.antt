@@ -1,6 +1,6 @@
 -- Lines written character by character are the lines by runs, and between quotes the single-quoted layout.
 use Rattle.yaml_scalar.proofs.Common.{ℕ, if◌then◌else◌, ◌==◌, Option, Result, Bool, false, true, ◌&&◌, [], ◌++◌, ◌∷◌, refl, ◌≡◌, eqb-true, subst, sym, Text}
-use Rattle.yaml_scalar.proofs.Common.{Cursor, Rendered, render_then, render_text, space_if, indicator, Kind, spaces, runs, render_runs, quotes_doubled}
+use Rattle.yaml_scalar.proofs.Common.{Cursor, Rendered, render_then, render_text, space_if, indicator, CharacterKind, Space, runs, render_runs, quotes_doubled}
 use Rattle.yaml_scalar.proofs.Common.{single_quote, render_single_quoted, wrote_as, Page, Wrote, written_as, render_steps}
 use Rattle.yaml_base.specs.declared.errors.yaml_error_t.{yaml_error_t}
 use Rattle.yaml_pen.proofs.StillToWrite.{StillToWrite}
@@ -22,7 +22,7 @@ quote_text false c extra e = rw e refl
 
 -- lines of a value, after a character of a kind, of which some are left to be written, after another
 abbrev pub LinesLeft :
-    (written : Text → Text) (limit : Option ℕ) (indent : ℕ) (first : Kind) (value left : Text) (kind : Kind) (before now : Page) → Type 0
+    (written : Text → Text) (limit : Option ℕ) (indent : ℕ) (first : CharacterKind) (value left : Text) (kind : CharacterKind) (before now : Page) → Type 0
 LinesLeft written limit indent first value left kind before now =
     StillToWrite (render_steps written limit indent kind left) (render_steps written limit indent first value) before now
 
@@ -34,7 +34,7 @@ written_each false = itself_writes
 -- lines by characters are those by runs
 pub wrote_runs :
     (quoted : Bool) (limit : Option ℕ) (indent : ℕ) (value : Text) {before after : Page} {answer : Result (Unit {0}) yaml_error_t} →
-    Wrote (render_steps (written_as quoted) limit indent spaces value) before after answer →
+    Wrote (render_steps (written_as quoted) limit indent Space value) before after answer →
     Wrote (render_runs (written_as quoted) limit indent true (runs value)) before after answer
 wrote_runs quoted limit indent value {before} {after} {answer} wrote =
     wrote_as (render_runs (written_as quoted) limit indent true (runs value))

@@ -3,7 +3,7 @@ use Rattle.yaml_scalar.proofs.Common.{arith, ℕ, ◌≤◌, Option, Some, Bool,
 use Rattle.yaml_scalar.proofs.Common.{and_parts, or_parts, or_from, not-true, breaks-round, indented-written, Text, is_space, is_break, Cursor}
 use Rattle.yaml_scalar.proofs.Common.{with_breaks_written, with_line_breaks_read, is_rendered_text, is_indented_text, LineBreak, unit_of, folding_read}
 use Rattle.yaml_scalar.proofs.Common.{begins_no_plain, holds_no_plain, read_plain, Charset, somewhere, begins_with, is_empty, begins_unlike_plain, bars_plain}
-use Rattle.yaml_scalar.proofs.Common.{bars_single_quoted, allows_plain, spaces, plain_body, render_steps}
+use Rattle.yaml_scalar.proofs.Common.{bars_single_quoted, allows_plain, Space, plain_body, render_steps}
 use Rattle.yaml_scalar.proofs.{LineIndents.lines_indented, LineRuns.WritesEach, LineRuns.runs_by_steps, LineTexts.bare_steps, LineTexts.any_bare}
 use Rattle.yaml_scalar.proofs.{LineTexts.bare_written, PlainStarts.lines_hold, PlainStarts.lines_full, PlainStarts.lines_begin}
 use Rattle.yaml_scalar.proofs.LineFolds.{folding_reads, no_returns, rendered_without_returns}
@@ -19,7 +19,7 @@ itself_writes = record {
 
 -- the lines of a plain body
 abbrev pub lines : (limit : Option ℕ) (indent : ℕ) (value : Text) → Cursor → Text
-lines limit indent value cursor = bare_steps (λ text. text) limit indent spaces value cursor
+lines limit indent value cursor = bare_steps (λ text. text) limit indent Space value cursor
 
 -- a body is its lines
 pub body-lines :
@@ -98,9 +98,9 @@ value_reads charset flow limit indent (c ∷ rest) cursor allowed =
     let begins = plain_begins charset flow (c ∷ rest) allowed in
     let whole = no_break_begins charset flow (c ∷ rest) bars in
     unbarred_read charset.breaks12 flow (lines limit indent (c ∷ rest) cursor)
-    (lines_full (λ text. text) limit indent spaces c rest cursor begins whole flow)
-    (lines_begin charset.breaks12 (λ text. text) limit indent spaces c rest cursor begins whole)
-    (lines_hold charset flow (λ text. text) limit indent spaces (c ∷ rest) cursor bars)
+    (lines_full (λ text. text) limit indent Space c rest cursor begins whole flow)
+    (lines_begin charset.breaks12 (λ text. text) limit indent Space c rest cursor begins whole)
+    (lines_hold charset flow (λ text. text) limit indent Space (c ∷ rest) cursor bars)
 
 -- a body, however its line breaks are written, reads as the value
 pub plain-reads :
@@ -119,8 +119,8 @@ pub plain-indented :
     is_indented_text (with_breaks_written setting (plain_body limit indent value cursor).text) ≡ true
 plain-indented limit indent value cursor setting wide =
     let body = (plain_body limit indent value cursor).text in
-    let lines : is_indented_text ((render_steps (λ text. text) limit indent spaces value cursor).text ++ []) ≡ true =
-    lines_indented (λ text. text) itself_writes limit indent wide spaces value [] cursor refl in
+    let lines : is_indented_text ((render_steps (λ text. text) limit indent Space value cursor).text ++ []) ≡ true =
+    lines_indented (λ text. text) itself_writes limit indent wide Space value [] cursor refl in
     indented-written setting body
     (rw (runs_by_steps (λ text. text) itself_writes limit indent value cursor)
     (rw append-nil at lines))

@@ -2,8 +2,8 @@
 use Rattle.yaml_scalar.proofs.Common.{arith, suc, zero, ℕ, if◌then◌else◌, ◌==◌, Option, codes, Bool, false, not, true, ◌&&◌, ◌||◌, [], ◌++◌, ◌∷◌, refl, ◌≡◌}
 use Rattle.yaml_scalar.proofs.Common.{eqb-true, true≢false, ap, subst, sym, ◌∙◌, and-false, and-true, or_parts, or_from, Text, is_among, line_feed, space}
 use Rattle.yaml_scalar.proofs.Common.{is_space, is_break, Cursor, render_text, is_past_width, is_read_white, begins_no_plain, holds_no_plain, Charset}
-use Rattle.yaml_scalar.proofs.Common.{somewhere, begins_with, is_empty, is_gap, ends_word, begins_like_marker, begins_unlike_plain, bars_plain, Kind, spaces}
-use Rattle.yaml_scalar.proofs.Common.{breaks, others, kind_of, is_same_kind, indentation, begins_kind, step_text}
+use Rattle.yaml_scalar.proofs.Common.{somewhere, begins_with, is_empty, is_gap, ends_word, begins_like_marker, begins_unlike_plain, bars_plain, CharacterKind}
+use Rattle.yaml_scalar.proofs.Common.{Space, Break, Other, kind_of, is_same_kind, indentation, begins_kind, step_text}
 use Rattle.yaml_base.proofs.Common.{begins_white, begins_with_three, begins_with_hash}
 use Rattle.std.proofs.Math.Bool.{and_assoc}
 use Rattle.yaml_scalar.proofs.{LineFolds.spaces_only, LineFolds.breaks_only, LineTexts.bare_steps}
@@ -35,19 +35,19 @@ break_is_gap c b e = grind (arith, or_parts)
 
 -- a step begins white only if its character is a gap
 step_white :
-    (breaks12 folds : Bool) (indent : ℕ) (before kind : Kind) (c : ℕ) (rest text : Text) →
+    (breaks12 folds : Bool) (indent : ℕ) (before kind : CharacterKind) (c : ℕ) (rest text : Text) →
     kind_of c ≡ kind →
     is_gap c ≡ false →
     begins_white breaks12 (step_text (λ t. t) folds indent before kind c rest ++ text) ≡ false
-step_white breaks12 folds indent before spaces c rest text k e =
+step_white breaks12 folds indent before Space c rest text k e =
     absurd (true≢false (sym (ap is_gap (eqb-true c 32 (spaces_only (is_space c) (is_break c) k))) ∙ e))
-step_white breaks12 folds indent before breaks c rest text k e =
+step_white breaks12 folds indent before Break c rest text k e =
     absurd (true≢false (sym (break_is_gap c (breaks_only (is_space c) (is_break c) k) e)))
-step_white breaks12 folds indent before others c rest text k e = white_is_gap breaks12 c e
+step_white breaks12 folds indent before Other c rest text k e = white_is_gap breaks12 c e
 
 -- lines begin white only if the value begins with a gap
 pub lines_white :
-    (breaks12 : Bool) (written : Text → Text) (limit : Option ℕ) (indent : ℕ) (before : Kind) (rest : Text) (cursor : Cursor) →
+    (breaks12 : Bool) (written : Text → Text) (limit : Option ℕ) (indent : ℕ) (before : CharacterKind) (rest : Text) (cursor : Cursor) →
     ends_word rest ≡ false →
     begins_white breaks12 (bare_steps written limit indent before rest cursor) ≡ false
 lines_white breaks12 written limit indent before [] cursor e = cc
@@ -71,18 +71,18 @@ hash_of_break false c more text e = e
 
 -- a step begins with `#` only if its character is it
 step_hash :
-    (folds : Bool) (indent : ℕ) (before kind : Kind) (c : ℕ) (rest text : Text) →
+    (folds : Bool) (indent : ℕ) (before kind : CharacterKind) (c : ℕ) (rest text : Text) →
     kind_of c ≡ kind →
     (c == 35) ≡ false →
     begins_with_hash (step_text (λ t. t) folds indent before kind c rest ++ text) ≡ false
-step_hash folds indent before spaces c rest text k e = grind (arith, eqb-true, spaces_only, hash_of_fold)
-step_hash folds indent before breaks c rest text k e =
-    hash_of_break (c == line_feed && not (is_same_kind before breaks)) c _ text e
-step_hash folds indent before others c rest text k e = e
+step_hash folds indent before Space c rest text k e = grind (arith, eqb-true, spaces_only, hash_of_fold)
+step_hash folds indent before Break c rest text k e =
+    hash_of_break (c == line_feed && not (is_same_kind before Break)) c _ text e
+step_hash folds indent before Other c rest text k e = e
 
 -- lines begin with `#` only if the value does
 pub lines_hash :
-    (written : Text → Text) (limit : Option ℕ) (indent : ℕ) (before : Kind) (rest : Text) (cursor : Cursor) →
+    (written : Text → Text) (limit : Option ℕ) (indent : ℕ) (before : CharacterKind) (rest : Text) (cursor : Cursor) →
     begins_with (λ c. c == 35) rest ≡ false →
     begins_with_hash (bare_steps written limit indent before rest cursor) ≡ false
 lines_hash written limit indent before [] cursor e = refl
@@ -152,7 +152,7 @@ spaced_holds breaks12 flow false indent rest text own white hash later =
 
 -- nor does a step
 step_holds :
-    (breaks12 flow folds : Bool) (indent : ℕ) (before kind : Kind) (c : ℕ) (rest text : Text) →
+    (breaks12 flow folds : Bool) (indent : ℕ) (before kind : CharacterKind) (c : ℕ) (rest text : Text) →
     kind_of c ≡ kind →
     is_break c ≡ false →
     ((c == 58 && ends_word rest) || (is_gap c && begins_with (λ d. d == 35) rest)) ≡ false →
@@ -161,20 +161,20 @@ step_holds :
     (begins_with (λ d. d == 35) rest ≡ false → begins_with_hash text ≡ false) →
     holds_no_plain breaks12 flow text ≡ false →
     holds_no_plain breaks12 flow (step_text (λ t. t) folds indent before kind c rest ++ text) ≡ false
-step_holds breaks12 flow folds indent before spaces c rest text k whole symbols in_flow white hash later =
+step_holds breaks12 flow folds indent before Space c rest text k whole symbols in_flow white hash later =
     let is : c ≡ 32 = eqb-true c 32 (spaces_only (is_space c) (is_break c) k) in
     let own : begins_with (λ d. d == 35) rest ≡ false =
     subst (λ (n : ℕ). ((n == 58 && ends_word rest) || (is_gap n && begins_with (λ d. d == 35) rest)) ≡ false) is symbols in
     rw is (spaced_holds breaks12 flow
-    (folds && not (is_same_kind before spaces || (is_empty rest || begins_kind spaces rest))) indent rest text own white hash later)
-step_holds breaks12 flow folds indent before breaks c rest text k whole symbols in_flow white hash later =
+    (folds && not (is_same_kind before Space || (is_empty rest || begins_kind Space rest))) indent rest text own white hash later)
+step_holds breaks12 flow folds indent before Break c rest text k whole symbols in_flow white hash later =
     absurd (true≢false (sym (breaks_only (is_space c) (is_break c) k) ∙ whole))
-step_holds breaks12 flow folds indent before others c rest text k whole symbols in_flow white hash later =
+step_holds breaks12 flow folds indent before Other c rest text k whole symbols in_flow white hash later =
     kept_holds breaks12 flow c rest text symbols in_flow white hash later
 
 -- the lines of a value that allows plain text hold no indicator that plain text may not hold
 pub lines_hold :
-    (charset : Charset) (flow : Bool) (written : Text → Text) (limit : Option ℕ) (indent : ℕ) (before : Kind) (value : Text) (cursor : Cursor) →
+    (charset : Charset) (flow : Bool) (written : Text → Text) (limit : Option ℕ) (indent : ℕ) (before : CharacterKind) (value : Text) (cursor : Cursor) →
     somewhere (bars_plain charset flow) value ≡ false →
     holds_no_plain charset.breaks12 flow (bare_steps written limit indent before value cursor) ≡ false
 lines_hold charset flow written limit indent before [] cursor clean = refl
@@ -233,17 +233,18 @@ break_times marker is_marker n false c more text e = simp e
 
 -- a step begins with an indicator as its character does
 step_times :
-    (marker : ℕ) → IsMarkerCharacter marker → (n : ℕ) (folds : Bool) (indent : ℕ) (before kind : Kind) (c : ℕ) (rest text : Text) →
+    (marker : ℕ) → IsMarkerCharacter marker → (n : ℕ) (folds : Bool) (indent : ℕ) (before kind : CharacterKind) (c : ℕ) (rest text : Text) →
     kind_of c ≡ kind →
     begins_times n marker text ≡ begins_times n marker rest →
     begins_times (suc n) marker (step_text (λ t. t) folds indent before kind c rest ++ text) ≡ begins_times (suc n) marker (c ∷ rest)
-step_times marker is_marker n folds indent before spaces c rest text k later = grind (arith, eqb-true, spaces_only, fold_times)
-step_times marker is_marker n folds indent before breaks c rest text k later = grind (arith, other_break, breaks_only, break_times)
-step_times marker is_marker n folds indent before others c rest text k later = ap (λ (b : Bool). c == marker && b) later
+step_times marker is_marker n folds indent before Space c rest text k later = grind (arith, eqb-true, spaces_only, fold_times)
+step_times marker is_marker n folds indent before Break c rest text k later = grind (arith, other_break, breaks_only, break_times)
+step_times marker is_marker n folds indent before Other c rest text k later = ap (λ (b : Bool). c == marker && b) later
 
 -- lines begin with an indicator as often as the value does
 times_kept :
-    (marker : ℕ) → IsMarkerCharacter marker → (n : ℕ) (written : Text → Text) (limit : Option ℕ) (indent : ℕ) (before : Kind) (value : Text) (cursor : Cursor) →
+    (marker : ℕ) → IsMarkerCharacter marker →
+    (n : ℕ) (written : Text → Text) (limit : Option ℕ) (indent : ℕ) (before : CharacterKind) (value : Text) (cursor : Cursor) →
     begins_times n marker (bare_steps written limit indent before value cursor) ≡ begins_times n marker value
 times_kept marker is_marker zero written limit indent before value cursor = refl
 times_kept marker is_marker (suc n) written limit indent before [] cursor = refl
@@ -278,7 +279,8 @@ dots (a ∷ b ∷ c ∷ rest) e = no_dots a b c (a == 46) refl e
 
 -- lines begin with three indicators only if the value does
 lines_three :
-    (marker : ℕ) → IsMarkerCharacter marker → (written : Text → Text) (limit : Option ℕ) (indent : ℕ) (before : Kind) (value : Text) (cursor : Cursor) →
+    (marker : ℕ) → IsMarkerCharacter marker →
+    (written : Text → Text) (limit : Option ℕ) (indent : ℕ) (before : CharacterKind) (value : Text) (cursor : Cursor) →
     begins_with_three marker value ≡ false →
     begins_with_three marker (bare_steps written limit indent before value cursor) ≡ false
 lines_three marker is_marker written limit indent before value cursor e =
@@ -286,21 +288,21 @@ lines_three marker is_marker written limit indent before value cursor e =
     ∙ (times_kept marker is_marker 3 written limit indent before value cursor ∙ (sym (three_times marker value) ∙ e))
 
 -- a character that is neither a space nor a break is of the other kind
-kind_of_indicator : (s b : Bool) → s ≡ false → b ≡ false → (if s then spaces else if b then breaks else others) ≡ others
+kind_of_indicator : (s b : Bool) → s ≡ false → b ≡ false → (if s then Space else if b then Break else Other) ≡ Other
 kind_of_indicator s b e f = rw (e, f)
 
 -- a value's lines begin with its first character, if that is neither a space nor a break
 first_kept :
-    (folds : Bool) (indent : ℕ) (before : Kind) (c : ℕ) (rest : Text) →
+    (folds : Bool) (indent : ℕ) (before : CharacterKind) (c : ℕ) (rest : Text) →
     is_space c ≡ false →
     is_break c ≡ false →
     step_text (λ t. t) folds indent before (kind_of c) c rest ≡ c ∷ []
 first_kept folds indent before c rest e f =
-    ap (λ (kind : Kind). step_text (λ t. t) folds indent before kind c rest) (kind_of_indicator (is_space c) (is_break c) e f)
+    ap (λ (kind : CharacterKind). step_text (λ t. t) folds indent before kind c rest) (kind_of_indicator (is_space c) (is_break c) e f)
 
 -- the lines of a value that isn't empty are not empty
 pub lines_full :
-    (written : Text → Text) (limit : Option ℕ) (indent : ℕ) (before : Kind) (c : ℕ) (rest : Text) (cursor : Cursor) →
+    (written : Text → Text) (limit : Option ℕ) (indent : ℕ) (before : CharacterKind) (c : ℕ) (rest : Text) (cursor : Cursor) →
     begins_unlike_plain (c ∷ rest) ≡ false →
     is_break c ≡ false →
     (flow : Bool) →
@@ -309,7 +311,7 @@ lines_full written limit indent before c rest cursor e f flow = grind (arith, or
 
 -- lines begin with no indicator that the value doesn't begin with
 pub lines_begin :
-    (breaks12 : Bool) (written : Text → Text) (limit : Option ℕ) (indent : ℕ) (before : Kind) (c : ℕ) (rest : Text) (cursor : Cursor) →
+    (breaks12 : Bool) (written : Text → Text) (limit : Option ℕ) (indent : ℕ) (before : CharacterKind) (c : ℕ) (rest : Text) (cursor : Cursor) →
     begins_unlike_plain (c ∷ rest) ≡ false →
     is_break c ≡ false →
     begins_no_plain breaks12 (bare_steps written limit indent before (c ∷ rest) cursor) ≡ false

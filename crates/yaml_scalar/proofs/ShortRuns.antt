@@ -1,6 +1,6 @@
 -- A short text of ASCII is rendered as it is.
 use Rattle.yaml_scalar.proofs.Common.{ℕ, ◌≤◌, IsUtf8, Option, None, length, Bool, false, true, List, [], ◌≡◌, take_all, append-nil, ap, sym, ◌∙◌, encodes-chars}
-use Rattle.yaml_scalar.proofs.Common.{list_all, Text, Cursor, Rendered, render_text, double_inside, spaces, IsFreeRun, ImpliesTest, is_unbroken_ascii, stays}
+use Rattle.yaml_scalar.proofs.Common.{list_all, Text, Cursor, Rendered, render_text, double_inside, Space, IsFreeRun, ImpliesTest, is_unbroken_ascii, stays}
 use Rattle.yaml_scalar.proofs.Common.{written_as, render_steps, most_short, IsShortRun, IsShortLine, stays_where, has_limit, subst}
 use Rattle.std.{proofs.lemmas.Str.encodes-IsAscii, specs.Str.chars}
 use Rattle.yaml_scalar.proofs.{ByteRuns.free_passes, EscapeBytes.plain-ascii, InsideSteps.inside_stays, InsideSteps.ascii_stays}
@@ -26,11 +26,11 @@ whole_run {classes} {size} {text} test is_text free whole few plain tells =
 
 -- a text that is one line
 pub short_line_rendered : (quoted : Bool) (limit : Option ℕ) (indent : ℕ) (cursor : Cursor) {text : List ℕ} → IsShortLine limit quoted cursor text
-    → render_text text cursor ≡ render_steps (written_as quoted) limit indent spaces (chars text) cursor
+    → render_text text cursor ≡ render_steps (written_as quoted) limit indent Space (chars text) cursor
 short_line_rendered quoted limit indent cursor {text} is =
     ap (λ (t : Text). let l : Rendered = record { text = t; cursor = (render_text text cursor).cursor } in l) (sym (append-nil text))
     ∙ sym (line_at quoted limit indent false 32 text [] cursor is.run.all (λ _. is.room))
-    ∙ ap (λ (t : Text). render_steps (written_as quoted) limit indent spaces t cursor) (append-nil text ∙ sym is.run.ascii)
+    ∙ ap (λ (t : Text). render_steps (written_as quoted) limit indent Space t cursor) (append-nil text ∙ sym is.run.ascii)
 
 -- such a text between double quotes, if its classes include those of bytes beyond ASCII
 pub short_inside : {text : List ℕ} (classes : ℕ) (unicode : Bool) (limit : Option ℕ) (folds : Bool) → folds ≡ has_limit limit

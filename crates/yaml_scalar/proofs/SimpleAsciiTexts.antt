@@ -1,7 +1,7 @@
 -- Simple ASCII texts: every style may hold them.
 use Rattle.yaml_scalar.proofs.Common.{ℕ, ◌-◌, ◌<◌, if◌then◌else◌, ◌==◌, slice_index, IsUtf8, Option, length, Bool, false, not, true, ◌&&◌, ◌||◌, List, []}
 use Rattle.yaml_scalar.proofs.Common.{◌∷◌, refl, ◌≡◌, leb-true, true≢false, append-nil, ap, subst, sym, ◌∙◌, arith, and_parts, not-true, chars-nil, list_all}
-use Rattle.yaml_scalar.proofs.Common.{Text, space, is_space, Cursor, Charset, Allowances, begins_with, is_empty, allowances, Barred, barred_by}
+use Rattle.yaml_scalar.proofs.Common.{Text, space, is_space, Cursor, Charset, Allowances, begins_with, is_empty, allowances, BarredStyles, barred_by}
 use Rattle.yaml_scalar.proofs.Common.{barred_in, none_barred, either, is_ordinary, is_quiet, allowed_by, is_free, ImpliesTest, is_unbroken_ascii, IsShortRun}
 use Rattle.yaml_scalar.proofs.Common.{IsShortLine, has_simple_ascii_ends, is_simple_ascii_character, stays_in_line, last_from, HasRoom}
 use Rattle.yaml_base.proofs.Common.{chars}
@@ -58,7 +58,7 @@ simple_ascii {text} ends run =
           let quiet = run (is_quiet charset) returned (quiet_tells charset.unicode charset.breaks12) in
           ap (allowances charset) quiet.ascii
           ∙ allowed_whole charset text
-          ∙ ap (λ (b : Barred). allowed_by b text) (bars_none charset text quiet.all (not-true _ p.1))
+          ∙ ap (λ (b : BarredStyles). allowed_by b text) (bars_none charset text quiet.all (not-true _ p.1))
           ∙ none_allowed text p.0;
       line = run (stays_in_line false false) returned (ascii_only_tells 57 (stays_in_line false false) refl refl);
     }
@@ -67,11 +67,11 @@ simple_ascii {text} ends run =
 pub simple_ascii_some : {text : List ℕ} → IsSimpleAscii text → 0 < length text
 simple_ascii_some {text = []} is =
     let charset : Charset = record { unicode = true; breaks12 = true } in
-    absurd (true≢false (sym (ap (λ (a : Allowances). a.flow_plain) (sym (ap (allowances charset) chars-nil) ∙ is.allows charset))))
+    absurd (true≢false (sym (ap (λ (a : Allowances). a.flow_plain_allowed) (sym (ap (allowances charset) chars-nil) ∙ is.allows charset))))
 simple_ascii_some {text = first ∷ rest} is = omega arith
 
 some_allowed : (charset : Charset) (text : Text) → allowances charset text ≡ all_allowed → is_empty text ≡ false
-some_allowed charset [] is = absurd (true≢false (sym (ap (λ (a : Allowances). a.flow_plain) is)))
+some_allowed charset [] is = absurd (true≢false (sym (ap (λ (a : Allowances). a.flow_plain_allowed) is)))
 some_allowed charset (c ∷ rest) is = refl
 
 -- so a space is needed before it, in flow or not

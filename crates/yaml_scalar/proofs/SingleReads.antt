@@ -2,7 +2,7 @@
 use Rattle.yaml_scalar.proofs.Common.{arith, ℕ, ◌≤◌, if◌then◌else◌, ◌==◌, option_map, Option, Some, Bool, false, true, [], ◌++◌, ◌∷◌, refl, ◌≡◌, eqb-true}
 use Rattle.yaml_scalar.proofs.Common.{append_assoc, ◌∙◌, or_parts, not-true, list_any-append, list_any, breaks-round, rendered-append, indented-written, Text}
 use Rattle.yaml_scalar.proofs.Common.{is_break, Cursor, with_breaks_written, with_line_breaks_read, is_rendered_text, is_indented_text, LineBreak, read_single}
-use Rattle.yaml_scalar.proofs.Common.{Charset, allows_single_quoted, spaces, quotes_doubled, single_quote, single_quoted_body}
+use Rattle.yaml_scalar.proofs.Common.{Charset, allows_single_quoted, Space, quotes_doubled, single_quote, single_quoted_body}
 use Rattle.yaml_base.proofs.Common.{unquoted}
 use Rattle.yaml_scalar.proofs.{LineIndents.lines_indented, LineRuns.WritesEach, LineRuns.runs_by_steps, Unbroken.is_unbroken}
 use Rattle.yaml_scalar.proofs.LineFolds.{folding_reads, no_returns, rendered_without_returns}
@@ -46,7 +46,7 @@ unquoted-doubled (c ∷ rest) = grind (arith, append_assoc, unquoted-step, unquo
 
 -- the lines between the quotes, before each quote of theirs is doubled
 abbrev pub inside : (limit : Option ℕ) (indent : ℕ) (value : Text) → Cursor → Text
-inside limit indent value cursor = bare_steps quotes_doubled limit indent spaces value (single_quote cursor).cursor
+inside limit indent value cursor = bare_steps quotes_doubled limit indent Space value (single_quote cursor).cursor
 
 -- a body is its lines between two quotes
 pub body-inside :
@@ -55,7 +55,7 @@ pub body-inside :
 body-inside limit indent value cursor =
     rw (
       runs_by_steps quotes_doubled doubled_writes limit indent value (single_quote cursor).cursor,
-      bare_written quotes_doubled doubled_writes limit indent spaces value (single_quote cursor).cursor,
+      bare_written quotes_doubled doubled_writes limit indent Space value (single_quote cursor).cursor,
     )
 
 -- a test that holds nowhere in a text holds nowhere in it with quotes doubled
@@ -93,4 +93,4 @@ single-indented limit indent value cursor setting wide =
     let after = (single_quote cursor).cursor in
     indented-written setting (single_quoted_body limit indent value cursor).text
     (rw (runs_by_steps quotes_doubled doubled_writes limit indent value after)
-    (lines_indented quotes_doubled doubled_writes limit indent wide spaces value (39 ∷ []) after refl))
+    (lines_indented quotes_doubled doubled_writes limit indent wide Space value (39 ∷ []) after refl))

@@ -4,7 +4,7 @@ use Rattle.yaml_scalar.proofs.Common.{ℕ, ◌+◌, ◌≤◌, if◌then◌else�
 use Rattle.yaml_scalar.proofs.Common.{ap, ◌∙◌, arith, and_from, or_parts, not-true, list_any, Text, line_feed, space, is_space, is_break, Cursor, Charset}
 use Rattle.yaml_scalar.proofs.Common.{◌||◌, is_empty, is_special_but_tab, begins_with_blanks_alone, bars_literal, allows_literal}
 use Rattle.yaml_scalar.proofs.Common.{somewhere, begins_with, is_special, bars_single_quoted, bars_block, allows_plain, allows_single_quoted, allows_block}
-use Rattle.yaml_scalar.proofs.Common.{Ending, without_break, one_break, more_breaks, ending, begins_blank, ending_hint, block_body, folds, cut_from, cut_line}
+use Rattle.yaml_scalar.proofs.Common.{Ending, WithoutBreak, OneBreak, MoreBreaks, ending, begins_blank, ending_hint, block_body, folds, cut_from, cut_line}
 use Rattle.yaml_scalar.proofs.Common.{next_line_unindented, folded_parts, folded_body, Part, line, line_break, begun, parts, indented, literal_body}
 use Rattle.yaml_scalar.proofs.{LineTexts.any_both, LineTexts.any_one, PlainReads.plain_is_single, PlainReads.plain_bars, Sparing.is_graph, Sparing.Spares}
 use Rattle.yaml_scalar.proofs.{Sparing.lacks_spaces, blocks.BlockReads.block-text, blocks.BlockReads.digit_text, blocks.BlockReads.block_indicator_of}
@@ -95,9 +95,9 @@ module _ (test : ℕ → Bool) where
 
     -- the indicator of a value's end
     lacks_hint : (e : Ending) → list_any test (ending_hint e) ≡ false
-    lacks_hint without_break = any_one test 45 [] (spares.graph 45 refl) refl
-    lacks_hint one_break = refl
-    lacks_hint more_breaks = any_one test 43 [] (spares.graph 43 refl) refl
+    lacks_hint WithoutBreak = any_one test 45 [] (spares.graph 45 refl) refl
+    lacks_hint OneBreak = refl
+    lacks_hint MoreBreaks = any_one test 43 [] (spares.graph 43 refl) refl
 
     -- the digit of the indent
     lacks_digit : (blank : Bool) (n : ℕ) → n ≤ 9 → list_any test (digit_text blank n) ≡ false

@@ -2,7 +2,7 @@
 use Rattle.yaml_scalar.proofs.Common.{suc, zero, ℕ, ◌+◌, ◌<◌, ◌≤◌, if◌then◌else◌, ◌==◌, IsUtf8, Option, None, Some, length, take, encode_utf8_all as encodes}
 use Rattle.yaml_scalar.proofs.Common.{Bool, false, true, ◌&&◌, List, [], ◌++◌, ◌∷◌, refl, ◌≡◌, length-take-le, ap, subst, sym, ◌∙◌, arith, and_parts}
 use Rattle.yaml_scalar.proofs.Common.{or_parts, not-true, nat_tests, IsUtf8-take, encodes-chars, list_all, IsCharBoundary, Text, is_space, is_break, Cursor}
-use Rattle.yaml_scalar.proofs.Common.{Rendered, render_then, next_column, render_text, is_past_width, Kind, spaces, breaks, others, kind_of, written_as}
+use Rattle.yaml_scalar.proofs.Common.{Rendered, render_then, next_column, render_text, is_past_width, CharacterKind, Space, Break, Other, kind_of, written_as}
 use Rattle.yaml_scalar.proofs.Common.{step_text, render_steps, stays_in_line, last_from, HasRoom}
 use Rattle.yaml_base.proofs.Common.{length-le-encodes, chars}
 use Rattle.yaml_scalar.{proofs.LinesWritten.written_each, proofs.RunsWritten.RunStands, specs.WholeRuns.IsLineRun}
@@ -24,9 +24,9 @@ other_kept : (quoted : Bool) (c : ℕ) → (quoted && c == 39) ≡ false → wri
 other_kept true c e = (written_each true).kept c e
 other_kept false c e = refl
 
-step_kept : (quoted past : Bool) (indent : ℕ) (before : Kind) (c : ℕ) (rest : Text) (is_space is_break : Bool)
+step_kept : (quoted past : Bool) (indent : ℕ) (before : CharacterKind) (c : ℕ) (rest : Text) (is_space is_break : Bool)
     → is_break ≡ false → (is_space && past) ≡ false → (quoted && c == 39) ≡ false
-    → step_text (written_as quoted) past indent before (if is_space then spaces else if is_break then breaks else others) c rest ≡ c ∷ []
+    → step_text (written_as quoted) past indent before (if is_space then Space else if is_break then Break else Other) c rest ≡ c ∷ []
 step_kept quoted false indent before c rest true broken e f g = refl
 step_kept quoted true indent before c rest true broken e f g = cc
 step_kept quoted past indent before c rest false true e f g = cc

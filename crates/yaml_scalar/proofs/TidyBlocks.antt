@@ -4,7 +4,7 @@ use Rattle.yaml_scalar.proofs.Common.{◌≡◌, true≢false, append_assoc, inl
 use Rattle.yaml_scalar.proofs.Common.{tab, ◌==◌, ◌&&◌, ◌||◌, is_blank, is_special, is_special_but_tab, is_blank_to_line_end, begins_with_blanks_alone, space}
 use Rattle.yaml_scalar.proofs.Common.{bars_literal, allows_literal, line_feed, is_space, is_break, Cursor, is_read_break, begins_with_spaces, has_deep_lines}
 use Rattle.yaml_scalar.proofs.Common.{begins_with_blank_line, begins_with_deep_line, Charset, somewhere, begins_with, is_empty, bars_block, allows_block, folds}
-use Rattle.yaml_scalar.proofs.Common.{Ending, without_break, one_break, more_breaks, ending, begins_blank, ending_hint, block_body, cut_from, cut_line, Part}
+use Rattle.yaml_scalar.proofs.Common.{Ending, WithoutBreak, OneBreak, MoreBreaks, ending, begins_blank, ending_hint, block_body, cut_from, cut_line, Part}
 use Rattle.yaml_scalar.proofs.Common.{folded_parts, folded_body, line, line_break, begun, parts, indented, literal_body}
 use Rattle.yaml_scalar.proofs.{Sparing.is_graph, SparingBlocks.one_digit, TidyQuoted.graph_no_break, blocks.BlockFolds.fold-spaced}
 use Rattle.yaml_scalar.proofs.DeepLines.{Unbroken, unblank_line, space_unbroken, enough_spaces, deep_break, deep_unbroken, spaces_unbroken, deep_after}
@@ -65,9 +65,9 @@ module _ (breaks12 : Bool) where
 
     -- the indicator of a value's end breaks no line
     hint_unbroken : (e : Ending) → Unbroken breaks12 (ending_hint e)
-    hint_unbroken without_break = (graph_no_break breaks12 45 refl, tt)
-    hint_unbroken one_break = tt
-    hint_unbroken more_breaks = (graph_no_break breaks12 43 refl, tt)
+    hint_unbroken WithoutBreak = (graph_no_break breaks12 45 refl, tt)
+    hint_unbroken OneBreak = tt
+    hint_unbroken MoreBreaks = (graph_no_break breaks12 43 refl, tt)
 
     -- nor does a digit
     digit_unbroken : (blank : Bool) (n : ℕ) → is_graph (48 + n) ≡ true → Unbroken breaks12 (digit_text blank n)

@@ -4,8 +4,8 @@ use Rattle.yaml_scalar.proofs.Common.{ℕ, ◌≤◌, if◌then◌else◌, ◌==
 use Rattle.yaml_scalar.proofs.Common.{append-nil, append_assoc, ap, subst, sym, ◌∙◌, and_parts, and_from, or_parts, or_from, not-true, false≢true, Text, space}
 use Rattle.yaml_scalar.proofs.Common.{line_feed, tab, is_space, is_blank, is_break, Cursor, render_text, is_past_width, is_read_break, and-true, is_read_white}
 use Rattle.yaml_scalar.proofs.Common.{begins_with_break, Charset, somewhere, begins_with, is_empty, is_special, begins_unlike_plain, bars_plain, allows_plain}
-use Rattle.yaml_scalar.proofs.Common.{bars_single_quoted, allows_single_quoted, Kind, spaces, breaks, others, kind_of, is_same_kind, indentation, plain_body}
-use Rattle.yaml_scalar.proofs.Common.{quotes_doubled, single_quote, single_quoted_body, begins_kind, step_text, render_steps}
+use Rattle.yaml_scalar.proofs.Common.{bars_single_quoted, allows_single_quoted, CharacterKind, Space, Break, Other, kind_of, is_same_kind, indentation}
+use Rattle.yaml_scalar.proofs.Common.{plain_body, quotes_doubled, single_quote, single_quoted_body, begins_kind, step_text, render_steps}
 use Rattle.yaml_base.proofs.{Charsets.special_tab, Common.ends_white, Common.has_clean_edges}
 use Rattle.yaml_scalar.proofs.{LineIndents.others_only, LineRuns.runs_by_steps, SingleReads.doubled_writes, blocks.BlockReads.ordinary}
 use Rattle.yaml_scalar.proofs.LineFolds.{spaces_only, breaks_only}
@@ -15,40 +15,40 @@ use Rattle.yaml_scalar.proofs.PlainReads.{itself_writes, plain_is_single, plain_
 
 -- Kinds.
 
-not_spaces : (s b : Bool) → s ≡ false → is_same_kind spaces (if s then spaces else if b then breaks else others) ≡ false
+not_spaces : (s b : Bool) → s ≡ false → is_same_kind Space (if s then Space else if b then Break else Other) ≡ false
 not_spaces true b e = absurd (true≢false e)
 not_spaces false true e = refl
 not_spaces false false e = refl
 
-not_breaks : (s b : Bool) → b ≡ false → is_same_kind breaks (if s then spaces else if b then breaks else others) ≡ false
+not_breaks : (s b : Bool) → b ≡ false → is_same_kind Break (if s then Space else if b then Break else Other) ≡ false
 not_breaks s true e = absurd (true≢false e)
 not_breaks true false e = refl
 not_breaks false false e = refl
 
-others_no_space : (s b : Bool) → (if s then spaces else if b then breaks else others) ≡ others → s ≡ false
+others_no_space : (s b : Bool) → (if s then Space else if b then Break else Other) ≡ Other → s ≡ false
 others_no_space true b e = cc
 others_no_space false b e = refl
 
 -- a text that doesn't begin with a space doesn't begin with their kind, and likewise for breaks
-kind_no_space : (rest : Text) → begins_with is_space rest ≡ false → begins_kind spaces rest ≡ false
+kind_no_space : (rest : Text) → begins_with is_space rest ≡ false → begins_kind Space rest ≡ false
 kind_no_space [] h = refl
 kind_no_space (d ∷ rest) h = not_spaces (is_space d) (is_break d) h
 
-kind_no_break : (rest : Text) → begins_with is_break rest ≡ false → begins_kind breaks rest ≡ false
+kind_no_break : (rest : Text) → begins_with is_break rest ≡ false → begins_kind Break rest ≡ false
 kind_no_break [] h = refl
 kind_no_break (d ∷ rest) h = not_breaks (is_space d) (is_break d) h
 
 -- a text goes on with another character than a space or a break, or ends before a closing quote
 abbrev next_ink : (closed : Bool) → Text → Bool
 next_ink closed [] = closed
-next_ink closed (c ∷ rest) = is_same_kind others (kind_of c)
+next_ink closed (c ∷ rest) = is_same_kind Other (kind_of c)
 
-third_kind : (kind : Kind) → is_same_kind spaces kind ≡ false → is_same_kind breaks kind ≡ false → is_same_kind others kind ≡ true
-third_kind spaces h k = absurd (true≢false h)
-third_kind breaks h k = absurd (true≢false k)
-third_kind others h k = refl
+third_kind : (kind : CharacterKind) → is_same_kind Space kind ≡ false → is_same_kind Break kind ≡ false → is_same_kind Other kind ≡ true
+third_kind Space h k = absurd (true≢false h)
+third_kind Break h k = absurd (true≢false k)
+third_kind Other h k = refl
 
-next_other : (closed : Bool) (rest : Text) → begins_kind spaces rest ≡ false → begins_kind breaks rest ≡ false → (is_empty rest ≡ true → closed ≡ true)
+next_other : (closed : Bool) (rest : Text) → begins_kind Space rest ≡ false → begins_kind Break rest ≡ false → (is_empty rest ≡ true → closed ≡ true)
     → next_ink closed rest ≡ true
 next_other closed [] h k full = full refl
 next_other closed (d ∷ rest) h k full = third_kind (kind_of d) h k
@@ -78,11 +78,11 @@ quote_ink false = record { no_space = refl; no_tab = refl; no_break = refl }
 
 module _ (charset : Charset) (count indent : ℕ) (enough : count ≤ indent) (closed : Bool) where
   -- facts about a value's lines from some character on, up to the closing quote
-  record LinesEven (before : Kind) (value text : Text) : Type 0 where
+  record LinesEven (before : CharacterKind) (value text : Text) : Type 0 where
     pub begins_unindented : IsEven charset.breaks12 count text
     pub ink : next_ink closed value ≡ true → BeginsInk charset.breaks12 text
-    pub unbroken : is_same_kind before spaces ≡ true → begins_kind breaks value ≡ false → begins_with_break charset.breaks12 text ≡ false
-    pub broken : is_same_kind before breaks ≡ true → begins_kind breaks value ≡ true → begins_with_break charset.breaks12 text ≡ true
+    pub unbroken : is_same_kind before Space ≡ true → begins_kind Break value ≡ false → begins_with_break charset.breaks12 text ≡ false
+    pub broken : is_same_kind before Break ≡ true → begins_kind Break value ≡ true → begins_with_break charset.breaks12 text ≡ true
 
   even_end : (closed : Bool) → IsEven charset.breaks12 count (ending_quote closed)
   even_end true = even_ink charset.breaks12 count (39 ∷ []) [] (quote_ink charset.breaks12, tt) (even_nothing charset.breaks12 count)
@@ -96,7 +96,7 @@ module _ (charset : Charset) (count indent : ℕ) (enough : count ≤ indent) (c
   unbroken_end true = (quote_ink charset.breaks12).no_break
   unbroken_end false = refl
 
-  lines_end : (before : Kind) → LinesEven before [] (ending_quote closed)
+  lines_end : (before : CharacterKind) → LinesEven before [] (ending_quote closed)
   lines_end before = record {
     begins_unindented = even_end closed;
     ink = λ h. ink_end closed h;
@@ -105,7 +105,7 @@ module _ (charset : Charset) (count indent : ℕ) (enough : count ≤ indent) (c
   }
 
   -- a fold in place of a space
-  space_folded : (before : Kind) (rest text : Text) → is_same_kind before spaces ≡ false → next_ink closed rest ≡ true → LinesEven spaces rest text
+  space_folded : (before : CharacterKind) (rest text : Text) → is_same_kind before Space ≡ false → next_ink closed rest ≡ true → LinesEven Space rest text
       → LinesEven before (space ∷ rest) (line_feed ∷ (indentation indent ++ text))
   space_folded before rest text other next ih = record {
     begins_unindented = even_line charset.breaks12 count indent line_feed text enough refl (ih.ink next) ih.begins_unindented;
@@ -115,7 +115,7 @@ module _ (charset : Charset) (count indent : ℕ) (enough : count ≤ indent) (c
   }
 
   -- a space that stays
-  space_kept : (before : Kind) (rest text : Text) → begins_kind breaks rest ≡ false → LinesEven spaces rest text
+  space_kept : (before : CharacterKind) (rest text : Text) → begins_kind Break rest ≡ false → LinesEven Space rest text
       → LinesEven before (space ∷ rest) (space ∷ text)
   space_kept before rest text next ih = record {
     begins_unindented = even_space charset.breaks12 count text (ih.unbroken refl next) ih.begins_unindented;
@@ -125,29 +125,29 @@ module _ (charset : Charset) (count indent : ℕ) (enough : count ≤ indent) (c
   }
 
   -- facts after a break
-  break_begins : (before : Kind) (c : ℕ) (rest text : Text) → kind_of c ≡ breaks → is_read_break charset.breaks12 c ≡ true
+  break_begins : (before : CharacterKind) (c : ℕ) (rest text : Text) → kind_of c ≡ Break → is_read_break charset.breaks12 c ≡ true
       → IsEven charset.breaks12 count (c ∷ text) → LinesEven before (c ∷ rest) (c ∷ text)
   break_begins before c rest text k brk even = record {
     begins_unindented = even;
-    ink = λ e. absurd (false≢true (ap (is_same_kind others) (sym k) ∙ e));
-    unbroken = λ e none. absurd (true≢false (ap (is_same_kind breaks) (sym k) ∙ none));
+    ink = λ e. absurd (false≢true (ap (is_same_kind Other) (sym k) ∙ e));
+    unbroken = λ e none. absurd (true≢false (ap (is_same_kind Break) (sym k) ∙ none));
     broken = λ e b. brk;
   }
 
   -- a break, after LF if it is doubled
-  break_doubled : (twice : Bool) (before : Kind) (c : ℕ) (rest text : Text) → kind_of c ≡ breaks → is_read_break charset.breaks12 c ≡ true
+  break_doubled : (twice : Bool) (before : CharacterKind) (c : ℕ) (rest text : Text) → kind_of c ≡ Break → is_read_break charset.breaks12 c ≡ true
       → LinesEven before (c ∷ rest) (c ∷ text) → LinesEven before (c ∷ rest) ((if twice then line_feed ∷ [] else []) ++ (c ∷ text))
   break_doubled false before c rest text k brk h = h
   break_doubled true before c rest text k brk h = record {
     begins_unindented = even_break charset.breaks12 count line_feed (c ∷ text) refl (deep_break charset.breaks12 count (c ∷ text) brk) h.begins_unindented;
-    ink = λ e. absurd (false≢true (ap (is_same_kind others) (sym k) ∙ e));
-    unbroken = λ e none. absurd (true≢false (ap (is_same_kind breaks) (sym k) ∙ none));
+    ink = λ e. absurd (false≢true (ap (is_same_kind Other) (sym k) ∙ e));
+    unbroken = λ e none. absurd (true≢false (ap (is_same_kind Break) (sym k) ∙ none));
     broken = λ e b. refl;
   }
 
   -- a break that goes on, or the indentation after it
-  break_line : (goes_on : Bool) (before : Kind) (c : ℕ) (rest text : Text) → kind_of c ≡ breaks → is_read_break charset.breaks12 c ≡ true
-      → begins_kind breaks rest ≡ goes_on → (goes_on ≡ false → next_ink closed rest ≡ true) → LinesEven breaks rest text
+  break_line : (goes_on : Bool) (before : CharacterKind) (c : ℕ) (rest text : Text) → kind_of c ≡ Break → is_read_break charset.breaks12 c ≡ true
+      → begins_kind Break rest ≡ goes_on → (goes_on ≡ false → next_ink closed rest ≡ true) → LinesEven Break rest text
       → LinesEven before (c ∷ rest) (c ∷ ((if goes_on then [] else indentation indent) ++ text))
   break_line true before c rest text k brk e next ih =
       break_begins before c rest text k brk
@@ -157,18 +157,18 @@ module _ (charset : Charset) (count indent : ℕ) (enough : count ≤ indent) (c
       (even_line charset.breaks12 count indent c text enough brk (ih.ink (next refl)) ih.begins_unindented)
 
   -- another character
-  other_begins : (before : Kind) (c : ℕ) (rest prefix text : Text) → kind_of c ≡ others → AllInk charset.breaks12 prefix
+  other_begins : (before : CharacterKind) (c : ℕ) (rest prefix text : Text) → kind_of c ≡ Other → AllInk charset.breaks12 prefix
       → BeginsInk charset.breaks12 (prefix ++ text)
-      → LinesEven others rest text → LinesEven before (c ∷ rest) (prefix ++ text)
+      → LinesEven Other rest text → LinesEven before (c ∷ rest) (prefix ++ text)
   other_begins before c rest prefix text k inks begins ih = record {
     begins_unindented = even_ink charset.breaks12 count prefix text inks ih.begins_unindented;
     ink = λ e. begins;
     unbroken = λ e none. ink_unbroken charset.breaks12 (prefix ++ text) begins;
-    broken = λ e h. absurd (false≢true (ap (is_same_kind breaks) (sym k) ∙ h));
+    broken = λ e h. absurd (false≢true (ap (is_same_kind Break) (sym k) ∙ h));
   }
 
   -- a character that isn't special and neither a space nor a break is ink
-  ink_of : (c : ℕ) → is_special charset c ≡ false → kind_of c ≡ others → Ink charset.breaks12 c
+  ink_of : (c : ℕ) → is_special charset c ≡ false → kind_of c ≡ Other → Ink charset.breaks12 c
   ink_of c clean k = record {
     no_space = others_no_space (is_space c) (is_break c) k;
     no_tab = special_tab charset c clean;
@@ -180,48 +180,48 @@ module _ (charset : Charset) (count indent : ℕ) (enough : count ≤ indent) (c
     pub inks : (c : ℕ) → Ink charset.breaks12 c → AllInk charset.breaks12 (written (c ∷ []))
     pub begins : (c : ℕ) (text : Text) → Ink charset.breaks12 c → BeginsInk charset.breaks12 (written (c ∷ []) ++ text)
 
-  space_step : (folds : Bool) (before : Kind) (rest text : Text) → begins_with is_break rest ≡ false → LinesEven spaces rest text
+  space_step : (folds : Bool) (before : CharacterKind) (rest text : Text) → begins_with is_break rest ≡ false → LinesEven Space rest text
       → LinesEven before (space ∷ rest)
-      ((if folds && not (is_same_kind before spaces || (is_empty rest || begins_kind spaces rest)) then line_feed ∷ indentation indent else space ∷ []) ++ text)
-  space_step folds before rest text clean ih = by (folds && not (is_same_kind before spaces || (is_empty rest || begins_kind spaces rest))) refl
+      ((if folds && not (is_same_kind before Space || (is_empty rest || begins_kind Space rest)) then line_feed ∷ indentation indent else space ∷ []) ++ text)
+  space_step folds before rest text clean ih = by (folds && not (is_same_kind before Space || (is_empty rest || begins_kind Space rest))) refl
     where
-      by : (fold : Bool) → (folds && not (is_same_kind before spaces || (is_empty rest || begins_kind spaces rest))) ≡ fold
+      by : (fold : Bool) → (folds && not (is_same_kind before Space || (is_empty rest || begins_kind Space rest))) ≡ fold
           → LinesEven before (space ∷ rest) ((if fold then line_feed ∷ indentation indent else space ∷ []) ++ text)
       by false e = space_kept before rest text (kind_no_break rest clean) ih
       by true e =
-          let none = or_parts (is_same_kind before spaces) _ (not-true _ (and_parts folds _ e).1) in
+          let none = or_parts (is_same_kind before Space) _ (not-true _ (and_parts folds _ e).1) in
           let next = or_parts (is_empty rest) _ none.1 in
           space_folded before rest text none.0
           (next_other closed rest next.1 (kind_no_break rest clean) (λ full. absurd (false≢true (sym next.0 ∙ full)))) ih
 
   module _ (written : Text → Text) (each : InksEach written) where
-    step_even : (folds : Bool) (before kind : Kind) (c : ℕ) (rest text : Text) → kind_of c ≡ kind → bars_single_quoted charset c rest ≡ false
+    step_even : (folds : Bool) (before kind : CharacterKind) (c : ℕ) (rest text : Text) → kind_of c ≡ kind → bars_single_quoted charset c rest ≡ false
         → ends_closed closed (c ∷ rest) ≡ true → LinesEven kind rest text
         → LinesEven before (c ∷ rest) (step_text written folds indent before kind c rest ++ text)
-    step_even folds before spaces c rest text k clean ends ih =
+    step_even folds before Space c rest text k clean ends ih =
         let s : is_space c ≡ true = spaces_only (is_space c) (is_break c) k in
         let parts = or_parts _ _ (or_parts _ _ clean).0 in
         let unbroken : begins_with is_break rest ≡ false = sym (ap (λ (b : Bool). b && begins_with is_break rest) s) ∙ parts.1 in
         rw (eqb-true c space s) (space_step folds before rest text unbroken ih)
-    step_even folds before breaks c rest text k clean ends ih =
+    step_even folds before Break c rest text k clean ends ih =
         let b : is_break c ≡ true = breaks_only (is_space c) (is_break c) k in
         let parts = or_parts _ _ clean in
         let special = (or_parts _ _ parts.0).0 in
         let brk : is_read_break charset.breaks12 c ≡ true = (ordinary charset c special).same_break ∙ b in
         let unspaced : begins_with is_space rest ≡ false = sym (ap (λ (b : Bool). b && begins_with is_space rest) b) ∙ parts.1 in
-        let first = if c == line_feed && not (is_same_kind before breaks) then line_feed ∷ [] else [] in
-        let run = if begins_kind breaks rest then [] else indentation indent in
+        let first = if c == line_feed && not (is_same_kind before Break) then line_feed ∷ [] else [] in
+        let run = if begins_kind Break rest then [] else indentation indent in
         rw (append_assoc first (c ∷ run) text)
-        (break_doubled (c == line_feed && not (is_same_kind before breaks)) before c rest (run ++ text) k brk
-        (break_line (begins_kind breaks rest) before c rest text k brk refl
+        (break_doubled (c == line_feed && not (is_same_kind before Break)) before c rest (run ++ text) k brk
+        (break_line (begins_kind Break rest) before c rest text k brk refl
         (λ over. next_other closed rest (kind_no_space rest unspaced) over (closed_break closed c rest ends b)) ih))
-    step_even folds before others c rest text k clean ends ih =
+    step_even folds before Other c rest text k clean ends ih =
         let special = (or_parts _ _ (or_parts _ _ clean).0).0 in
         let ink = ink_of c special k in
         other_begins before c rest (written (c ∷ [])) text k (each.inks c ink) (each.begins c text ink) ih
 
     -- the lines of a value that quotes may hold
-    lines_even : (limit : Option ℕ) (before : Kind) (value : Text) (cursor : Cursor) → somewhere (bars_single_quoted charset) value ≡ false
+    lines_even : (limit : Option ℕ) (before : CharacterKind) (value : Text) (cursor : Cursor) → somewhere (bars_single_quoted charset) value ≡ false
         → ends_closed closed value ≡ true → LinesEven before value ((render_steps written limit indent before value cursor).text ++ ending_quote closed)
     lines_even limit before [] cursor clean ends = lines_end before
     lines_even limit before (c ∷ rest) cursor clean ends =
@@ -262,7 +262,7 @@ single_even charset count limit indent value cursor enough allowed =
     let after = (single_quote cursor).cursor in
     let each : InksEach charset count indent enough true
     quotes_doubled = record { inks = doubled_inks charset.breaks12; begins = doubled_begins charset.breaks12 } in
-    let inside = lines_even charset count indent enough true quotes_doubled each limit spaces value after (not-true _ allowed) (ends_always value) in
+    let inside = lines_even charset count indent enough true quotes_doubled each limit Space value after (not-true _ allowed) (ends_always value) in
     rw (runs_by_steps quotes_doubled doubled_writes limit indent value after)
     (even_ink charset.breaks12 count (39 ∷ []) _ (quote_ink charset.breaks12, tt) inside.begins_unindented)
 
@@ -281,8 +281,8 @@ pub plain_even : (charset : Charset) (flow : Bool) (count : ℕ) (limit : Option
 plain_even charset flow count limit indent value cursor enough allowed =
     let bars = plain_bars charset flow value allowed in
     let each : InksEach charset count indent enough false (λ text. text) = record { inks = λ c ink. (ink, tt); begins = λ c text ink. ink } in
-    let text = (render_steps (λ text. text) limit indent spaces value cursor).text in
-    let lines = lines_even charset count indent enough false (λ text. text) each limit spaces value cursor (plain_is_single charset flow value bars)
+    let text = (render_steps (λ text. text) limit indent Space value cursor).text in
+    let lines = lines_even charset count indent enough false (λ text. text) each limit Space value cursor (plain_is_single charset flow value bars)
     (plain_ends charset flow value bars) in
     rw (runs_by_steps (λ text. text) itself_writes limit indent value cursor) (subst (IsEven charset.breaks12 count) (append-nil text) lines.begins_unindented)
 
@@ -309,21 +309,21 @@ ends_after breaks12 prefix text c rest e h = record {
 }
 
 -- a step of plain text holds a character
-step_some : (folds : Bool) (indent : ℕ) (before kind : Kind) (c : ℕ) (rest : Text)
+step_some : (folds : Bool) (indent : ℕ) (before kind : CharacterKind) (c : ℕ) (rest : Text)
     → (first : ℕ) × (more : Text) × (step_text (λ t. t) folds indent before kind c rest ≡ first ∷ more)
-step_some folds indent before spaces c rest = by (folds && not (is_same_kind before spaces || (is_empty rest || begins_kind spaces rest)))
+step_some folds indent before Space c rest = by (folds && not (is_same_kind before Space || (is_empty rest || begins_kind Space rest)))
   where
     by : (fold : Bool) → (first : ℕ) × (more : Text) × ((if fold then line_feed ∷ indentation indent else c ∷ []) ≡ first ∷ more)
     by true = (line_feed, indentation indent, refl)
     by false = (c, [], refl)
-step_some folds indent before breaks c rest = by (c == line_feed && not (is_same_kind before breaks))
+step_some folds indent before Break c rest = by (c == line_feed && not (is_same_kind before Break))
   where
     by : (twice : Bool)
-        → (first : ℕ) × (more : Text) × (((if twice then line_feed ∷ [] else []) ++ (c ∷ (if begins_kind breaks rest then [] else indentation indent)))
+        → (first : ℕ) × (more : Text) × (((if twice then line_feed ∷ [] else []) ++ (c ∷ (if begins_kind Break rest then [] else indentation indent)))
         ≡ first ∷ more)
-    by true = (line_feed, c ∷ (if begins_kind breaks rest then [] else indentation indent), refl)
-    by false = (c, (if begins_kind breaks rest then [] else indentation indent), refl)
-step_some folds indent before others c rest = (c, [], refl)
+    by true = (line_feed, c ∷ (if begins_kind Break rest then [] else indentation indent), refl)
+    by false = (c, (if begins_kind Break rest then [] else indentation indent), refl)
+step_some folds indent before Other c rest = (c, [], refl)
 
 -- a character of plain text that is no space is no blank and no break
 plain_white : (charset : Charset) (flow : Bool) (c : ℕ) (rest : Text) → bars_plain charset flow c rest ≡ false → is_space c ≡ false
@@ -337,17 +337,17 @@ plain_white charset flow c rest h s =
 plain_last : (charset : Charset) (flow : Bool) (c : ℕ) → bars_plain charset flow c [] ≡ false → is_space c ≡ false
 plain_last charset flow c h = sym (and-true (is_space c)) ∙ (or_parts _ _ (or_parts _ _ (or_parts _ _ h).0).0).1
 
-kind_others : (s b : Bool) → s ≡ false → b ≡ false → (if s then spaces else if b then breaks else others) ≡ others
+kind_others : (s b : Bool) → s ≡ false → b ≡ false → (if s then Space else if b then Break else Other) ≡ Other
 kind_others true b e f = absurd (true≢false e)
 kind_others false true e f = absurd (true≢false f)
 kind_others false false e f = refl
 
-plain_kind : (charset : Charset) (flow : Bool) (c : ℕ) (rest : Text) → bars_plain charset flow c rest ≡ false → is_space c ≡ false → kind_of c ≡ others
+plain_kind : (charset : Charset) (flow : Bool) (c : ℕ) (rest : Text) → bars_plain charset flow c rest ≡ false → is_space c ≡ false → kind_of c ≡ Other
 plain_kind charset flow c rest h s =
     kind_others (is_space c) (is_break c) s (or_parts _ _ (or_parts _ _ (or_parts _ _ (or_parts _ _ h).0).0).0).1
 
 -- a value's lines end as the value does
-lines_end_ink : (charset : Charset) (flow : Bool) (limit : Option ℕ) (indent : ℕ) (before : Kind) (c : ℕ) (rest : Text) (cursor : Cursor)
+lines_end_ink : (charset : Charset) (flow : Bool) (limit : Option ℕ) (indent : ℕ) (before : CharacterKind) (c : ℕ) (rest : Text) (cursor : Cursor)
     → somewhere (bars_plain charset flow) (c ∷ rest) ≡ false → EndsInk charset.breaks12 (render_steps (λ t. t) limit indent before (c ∷ rest) cursor).text
 lines_end_ink charset flow limit indent before c [] cursor h =
     let bars = (or_parts _ _ h).0 in
@@ -368,14 +368,14 @@ edges_of breaks12 c rest h k = and_from _ _ (ap not h) (ap not k)
 
 lines_edges : (charset : Charset) (flow : Bool) (limit : Option ℕ) (indent : ℕ) (value : Text) (cursor : Cursor)
     → somewhere (bars_plain charset flow) value ≡ false
-    → begins_unlike_plain value ≡ false → has_clean_edges charset.breaks12 (render_steps (λ t. t) limit indent spaces value cursor).text ≡ true
+    → begins_unlike_plain value ≡ false → has_clean_edges charset.breaks12 (render_steps (λ t. t) limit indent Space value cursor).text ≡ true
 lines_edges charset flow limit indent [] cursor h begins = refl
 lines_edges charset flow limit indent (c ∷ rest) cursor h begins =
     let bars = (or_parts _ _ h).0 in
     let s : is_space c ≡ false = (or_parts _ _ (or_parts _ _ (or_parts _ _ begins).0).0).0 in
     let k = plain_kind charset flow c rest bars s in
-    let ends = (lines_end_ink charset flow limit indent spaces c rest cursor h).ends in
-    let more = (render_steps (λ t. t) limit indent others rest (render_text (c ∷ []) cursor).cursor).text in
+    let ends = (lines_end_ink charset flow limit indent Space c rest cursor h).ends in
+    let more = (render_steps (λ t. t) limit indent Other rest (render_text (c ∷ []) cursor).cursor).text in
     rw k (edges_of charset.breaks12 c more (plain_white charset flow c rest bars s) (rw k at ends))
 
 -- a plain body has no blank and no break at its edges

@@ -6,27 +6,8 @@ use Rattle.yaml_base.specs.scalars.Analysis.{is_special, somewhere}
 use Rattle.yaml_base.specs.Characters.{Text, is_among, is_between, is_break, is_space, space, tab}
 use Rattle.yaml_scalar.specs.declared.analysis.BarredStyles.{BarredStyles}
 
--- for each kind of text, whether some character bars it; and whether there is a break
-pub record Barred : Type 0 where
-  pub multiline : Bool
-  pub flow_plain : Bool
-  pub block_plain : Bool
-  pub single_quoted : Bool
-  pub block : Bool
-
--- the result of a loop, as the definitions see it
-abbrev pub seen_barred : BarredStyles → Barred
-seen_barred found =
-    record {
-      multiline = found.multiline;
-      flow_plain = found.flow_plain;
-      block_plain = found.block_plain;
-      single_quoted = found.single_quoted;
-      block = found.block;
-    }
-
 -- the styles that one character bars before the rest
-abbrev pub barred_by : Charset → ℕ → Text → Barred
+abbrev pub barred_by : Charset → ℕ → Text → BarredStyles
 barred_by charset c rest =
     record {
       multiline = is_break c;
@@ -37,7 +18,7 @@ barred_by charset c rest =
     }
 
 -- the styles that all characters of a value bar
-abbrev pub barred_in : Charset → Text → Barred
+abbrev pub barred_in : Charset → Text → BarredStyles
 barred_in charset value =
     record {
       multiline = list_any is_break value;
@@ -48,11 +29,11 @@ barred_in charset value =
     }
 
 -- nothing is barred
-abbrev pub none_barred : Barred
+abbrev pub none_barred : BarredStyles
 none_barred = record { multiline = false; flow_plain = false; block_plain = false; single_quoted = false; block = false }
 
 -- the styles that one of two results bars
-abbrev pub either : Barred → Barred → Barred
+abbrev pub either : BarredStyles → BarredStyles → BarredStyles
 either a b =
     record {
       multiline = a.multiline || b.multiline;
@@ -63,7 +44,7 @@ either a b =
     }
 
 -- a result with one of the characters that no plain text in flow holds, or a `:` that ends a word, which bars plain in a block, too
-abbrev pub with_indicator : Barred → ℕ → Text → Barred
+abbrev pub with_indicator : BarredStyles → ℕ → Text → BarredStyles
 with_indicator found c rest = record found { flow_plain = true; block_plain = found.block_plain || (c == 58 && ends_word rest) }
 
 -- true for a letter or a digit of ASCII
@@ -76,20 +57,20 @@ is_quiet charset c =
     not (is_special charset c || is_break c || c == tab || c == 0 || c == 35 || is_among (codes ",?:[]{}") c)
 
 -- the styles that a character bars before the rest if it is a space
-abbrev pub barred_by_space : Charset → ℕ → Text → Barred
+abbrev pub barred_by_space : Charset → ℕ → Text → BarredStyles
 barred_by_space charset c rest = if is_space c then barred_by charset space rest else none_barred
 
 -- true if no style but double quotes is left
-abbrev pub all_styles : Barred → Bool
+abbrev pub all_styles : BarredStyles → Bool
 all_styles found = found.flow_plain && found.block_plain && found.single_quoted && found.block
 
 -- the styles that a value allows, by those that its characters bar
-abbrev pub allowed_by : Barred → Text → Allowances
+abbrev pub allowed_by : BarredStyles → Text → Allowances
 allowed_by found value =
     record {
       multiline = found.multiline;
-      flow_plain = not (is_empty value) && not (begins_unlike_plain value || found.flow_plain);
-      block_plain = not (begins_unlike_plain value || found.block_plain);
-      single_quoted = not found.single_quoted;
-      block = not (is_empty value || found.block);
+      flow_plain_allowed = not (is_empty value) && not (begins_unlike_plain value || found.flow_plain);
+      block_plain_allowed = not (begins_unlike_plain value || found.block_plain);
+      single_quoted_allowed = not found.single_quoted;
+      block_allowed = not (is_empty value || found.block);
     }

@@ -13,7 +13,7 @@ use Rattle.yaml_base.specs.Tags.{last_from}
 
 -- one line, which every style may hold
 abbrev pub all_allowed : Allowances
-all_allowed = record { multiline = false; flow_plain = true; block_plain = true; single_quoted = true; block = true }
+all_allowed = record { multiline = false; flow_plain_allowed = true; block_plain_allowed = true; single_quoted_allowed = true; block_allowed = true }
 
 -- a short text of ASCII that is one line, and allowed in every style under every character set
 pub record IsSimpleAscii (text : List ℕ) : Type 0 where

@@ -5,36 +5,13 @@ ghost use Rattle.std.specs.Str.{IsUtf8, chars};
 ghost use Rattle.yaml_base.specs.scalars.Analysis as spec;
 ghost use Rattle.yaml_base.specs.Characters as class;
 ghost use Rattle.yaml_scalar.specs.Barred.{all_styles, allowed_by, barred_by, barred_in, either, is_quiet};
-ghost use Rattle.yaml_scalar.specs.Barred.{seen_barred};
 ghost use Rattle.yaml_scalar.specs.ByteClasses.{ImpliesTest};
-ghost use Rattle.yaml_scalar.specs.ScalarData.{ChooseAlike, is_flow, seen_charset, seen_data};
+ghost use Rattle.yaml_scalar.specs.ScalarData.{ChooseAlike, is_flow};
 
 use crate::characters::{is_flow_indicator, is_gap, is_indicator, is_ordinary};
 use crate::classes::{BREAK, INDICATOR, UNPRINTABLE, WIDE, free_length, last_of};
 use crate::clean_ascii::is_clean_ascii;
-use yaml_base::{is_ascii, is_break, is_printable, is_space};
-
-/// The styles that a scalar's value allows.
-#[derive(Clone, Copy, PartialEq, Eq, Debug)]
-pub struct scalar_data_t {
-    /// The value holds a break.
-    pub multiline: bool,
-    /// It may be plain in a flow collection.
-    pub flow_plain_allowed: bool,
-    /// It may be plain in a block collection or as a root.
-    pub block_plain_allowed: bool,
-    /// It may be single-quoted.
-    pub single_quoted_allowed: bool,
-    /// It may be literal or folded.
-    pub block_allowed: bool,
-}
-
-/// The characters that may be written unescaped.
-#[derive(Clone, Copy)]
-pub(crate) struct CharacterSet {
-    pub(crate) unicode: bool,
-    pub(crate) breaks12: bool,
-}
+use yaml_base::{Charset, is_ascii, is_break, is_printable, is_space, scalar_data_t};
 
 /// The styles ruled out so far, and whether a line break was read.
 #[derive(Clone, Copy)]
@@ -66,9 +43,9 @@ enum Context {
 /// Analyses a scalar's value. With `unicode` all printable characters may be written unescaped, else only those of ASCII;
 /// with `breaks12` U+2028 and U+2029 may not, since they aren't line breaks in YAML 1.2.
 pub fn analyze_scalar(value: &str, unicode: bool, breaks12: bool) -> scalar_data_t
-    ensures { seen_data result ≡ spec.allowances (record { unicode = unicode; breaks12 = breaks12 }) (chars value.now) }
+    ensures { result ≡ spec.allowances (record { unicode = unicode; breaks12 = breaks12 }) (chars value.now) }
 {
-    let (barred, rest) = barred_before(value, CharacterSet { unicode, breaks12 });
+    let (barred, rest) = barred_before(value, Charset { unicode, breaks12 });
     let all = BarredStyles {
         multiline: barred.multiline | holds_break(rest),
         ..barred
@@ -79,15 +56,15 @@ pub fn analyze_scalar(value: &str, unicode: bool, breaks12: bool) -> scalar_data
 /// Analyses a scalar's value as `analyze_scalar`, but `multiline` may be wrong if only double quotes fit:
 /// `select_scalar_style` chooses the same by either result.
 pub fn analyze_for_style(value: &str, unicode: bool, breaks12: bool) -> scalar_data_t
-    ensures { ChooseAlike (seen_data result) (spec.allowances (record { unicode = unicode; breaks12 = breaks12 }) (chars value.now)) }
+    ensures { ChooseAlike result (spec.allowances (record { unicode = unicode; breaks12 = breaks12 }) (chars value.now)) }
 {
-    let (barred, _) = barred_before(value, CharacterSet { unicode, breaks12 });
+    let (barred, _) = barred_before(value, Charset { unicode, breaks12 });
     data_of(value, barred)
 }
 
 /// Returns the styles that a value allows, by those that its characters bar.
 fn data_of(value: &str, barred: BarredStyles) -> scalar_data_t
-    ensures { seen_data result ≡ allowed_by (seen_barred barred) (chars value.now) }
+    ensures { result ≡ allowed_by barred (chars value.now) }
 {
     let is_empty = is_at_end(value);
     let unlike_plain = begins_unlike_plain(value);
@@ -108,8 +85,8 @@ fn ends_word(rest: &str) -> bool
 }
 
 /// Returns whether a character can't be written unescaped, so that the value must be double-quoted.
-pub(crate) fn is_special(c: char, charset: CharacterSet) -> bool
-    ensures { result ≡ spec.is_special (seen_charset charset) c }
+pub(crate) fn is_special(c: char, charset: Charset) -> bool
+    ensures { result ≡ spec.is_special charset c }
 {
     !is_printable(c)
         || (!charset.unicode && !is_ascii(c))
@@ -182,8 +159,8 @@ pub(crate) fn begins_with_space(rest: &str) -> bool
 }
 
 /// Returns whether no plain text holds this character before the rest.
-fn bars_plain(c: char, rest: &str, charset: CharacterSet, context: Context) -> bool
-    ensures { result ≡ spec.bars_plain (seen_charset charset) (is_flow context) c (chars rest.now) }
+fn bars_plain(c: char, rest: &str, charset: Charset, context: Context) -> bool
+    ensures { result ≡ spec.bars_plain charset (is_flow context) c (chars rest.now) }
 {
     is_special(c, charset)
         || is_break(c)
@@ -204,23 +181,23 @@ fn is_trailing_space(c: char, rest: &str) -> bool
 }
 
 /// Returns whether no single-quoted text holds this character before the rest.
-fn bars_single_quoted(c: char, rest: &str, charset: CharacterSet) -> bool
-    ensures { result ≡ spec.bars_single_quoted (seen_charset charset) c (chars rest.now) }
+fn bars_single_quoted(c: char, rest: &str, charset: Charset) -> bool
+    ensures { result ≡ spec.bars_single_quoted charset c (chars rest.now) }
 {
     is_special(c, charset) || is_trailing_space(c, rest) || (is_break(c) && begins_with_space(rest))
 }
 
 /// Returns whether no block text holds this character before the rest.
-fn bars_block(c: char, rest: &str, charset: CharacterSet) -> bool
-    ensures { result ≡ spec.bars_block (seen_charset charset) c (chars rest.now) }
+fn bars_block(c: char, rest: &str, charset: Charset) -> bool
+    ensures { result ≡ spec.bars_block charset c (chars rest.now) }
 {
     is_special(c, charset) || is_trailing_space(c, rest) || (is_space(c) && is_at_end(rest))
 }
 
 /// Returns the styles barred so far, with those that the next character bars before the rest.
 #[inline(always)]
-fn with_next(barred: BarredStyles, c: char, rest: &str, charset: CharacterSet) -> BarredStyles
-    ensures { seen_barred result ≡ either (seen_barred barred) (barred_by (seen_charset charset) c (chars rest.now)) }
+fn with_next(barred: BarredStyles, c: char, rest: &str, charset: Charset) -> BarredStyles
+    ensures { result ≡ either barred (barred_by charset c (chars rest.now)) }
 {
     if is_ordinary(c) {
         return barred;
@@ -243,8 +220,8 @@ fn with_next(barred: BarredStyles, c: char, rest: &str, charset: CharacterSet) -
 }
 
 /// Returns the classes of bytes at which a value is looked at closely.
-fn significant_classes(charset: CharacterSet) -> u8
-    ensures { ImpliesTest result (is_quiet (seen_charset charset)) }
+fn significant_classes(charset: Charset) -> u8
+    ensures { ImpliesTest result (is_quiet charset) }
 {
     if charset.unicode {
         BREAK | UNPRINTABLE | INDICATOR
@@ -255,9 +232,9 @@ fn significant_classes(charset: CharacterSet) -> u8
 
 /// Skips ordinary characters. Returns the result, in which a space at their end counts, and the rest.
 #[inline(always)]
-fn skip_quiet(barred: BarredStyles, text: &str, charset: CharacterSet) -> (BarredStyles, &str)
-    ensures same { either (seen_barred barred) (barred_in (seen_charset charset) (chars text.now))
-        ≡ either (seen_barred result.0) (barred_in (seen_charset charset) (chars result.1.now)) }
+fn skip_quiet(barred: BarredStyles, text: &str, charset: Charset) -> (BarredStyles, &str)
+    ensures same { either barred (barred_in charset (chars text.now))
+        ≡ either result.0 (barred_in charset (chars result.1.now)) }
     ensures is_text { IsUtf8 result.1.now }
     ensures shorter { length result.1.now ≤ length text.now }
 {
@@ -296,10 +273,10 @@ pub fn holds_break(text: &str) -> bool
 }
 
 /// Returns the styles that the characters of a value bar, as far as it was read, and the rest, which is empty unless all are barred.
-fn barred_before(value: &str, charset: CharacterSet) -> (BarredStyles, &str)
-    ensures same { record (seen_barred result.0) { multiline = result.0.multiline || list_any class.is_break (chars result.1.now) }
-        ≡ barred_in (seen_charset charset) (chars value.now) }
-    ensures rest { all_styles (seen_barred result.0) ≡ false → chars result.1.now ≡ [] }
+fn barred_before(value: &str, charset: Charset) -> (BarredStyles, &str)
+    ensures same { record result.0 { multiline = result.0.multiline || list_any class.is_break (chars result.1.now) }
+        ≡ barred_in charset (chars value.now) }
+    ensures rest { all_styles result.0 ≡ false → chars result.1.now ≡ [] }
 {
     let (mut barred, first) = skip_quiet(NOTHING_BARRED, value, charset);
     let mut chars = first.chars();

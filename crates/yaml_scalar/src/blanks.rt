@@ -2,10 +2,9 @@
 ghost use Rattle.std.specs.Prelude.{◌≡◌, ◌&&◌, not};
 ghost use Rattle.std.specs.Str.{chars};
 ghost use Rattle.yaml_base.specs.scalars.Analysis as spec;
-ghost use Rattle.yaml_scalar.specs.ScalarData.{seen_charset};
 
-use crate::analysis::{CharacterSet, is_at_end, is_special};
-use yaml_base::{is_blank, is_break};
+use crate::analysis::{is_at_end, is_special};
+use yaml_base::{Charset, is_blank, is_break};
 
 /// Returns whether a value may be literal if blanks are literal: it isn't empty, its characters may be written unescaped or
 /// are tabs, and no nonempty line is of blanks alone. With `unicode` all printable characters may be written unescaped, else
@@ -13,7 +12,7 @@ use yaml_base::{is_blank, is_break};
 pub fn allows_literal(value: &str, unicode: bool, breaks12: bool) -> bool
     ensures { result ≡ spec.allows_literal (record { unicode = unicode; breaks12 = breaks12 }) (chars value.now) }
 {
-    let charset = CharacterSet { unicode, breaks12 };
+    let charset = Charset { unicode, breaks12 };
     !(is_at_end(value) || begins_with_blanks_alone(value) || is_barred(value, charset))
 }
 
@@ -45,15 +44,15 @@ fn begins_with_blanks_alone(text: &str) -> bool
 }
 
 /// Returns whether no literal text holds this character before the rest.
-fn bars_literal(c: char, rest: &str, charset: CharacterSet) -> bool
-    ensures { result ≡ spec.bars_literal (seen_charset charset) c (chars rest.now) }
+fn bars_literal(c: char, rest: &str, charset: Charset) -> bool
+    ensures { result ≡ spec.bars_literal charset c (chars rest.now) }
 {
     (c != '\t' && is_special(c, charset)) || (is_break(c) && begins_with_blanks_alone(rest))
 }
 
 /// Returns whether some character of a value bars it from literal text.
-fn is_barred(value: &str, charset: CharacterSet) -> bool
-    ensures { result ≡ spec.somewhere (spec.bars_literal (seen_charset charset)) (chars value.now) }
+fn is_barred(value: &str, charset: Charset) -> bool
+    ensures { result ≡ spec.somewhere (spec.bars_literal charset) (chars value.now) }
 {
     let mut chars = value.chars();
     while let Some(c) = chars.next() {

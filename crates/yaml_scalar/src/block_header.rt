@@ -5,11 +5,11 @@ ghost use Rattle.yaml_base.specs.scalars.BlockHeader as layout;
 ghost use Rattle.yaml_base.specs.Characters as class;
 ghost use Rattle.yaml_pen.specs.Page.{IsReady, natural};
 ghost use Rattle.yaml_pen.specs.Wrote.{Wrote};
-ghost use Rattle.yaml_scalar.specs.BlockCode.{is_folded, seen_ending, without_open_ended};
+ghost use Rattle.yaml_scalar.specs.BlockCode.{is_folded, without_open_ended};
 ghost use Rattle.yaml_scalar.specs.BlockSteps as step;
 
 use std::alloc::Allocator;
-use yaml_base::{is_blank, is_break, yaml_error_t};
+use yaml_base::{Ending, is_blank, is_break, yaml_error_t};
 use yaml_pen::{Indicator, Pen};
 
 /// The style of the lines of a block scalar.
@@ -19,14 +19,6 @@ pub(crate) enum BlockStyle {
     Literal,
     /// Folded past the width.
     Folded,
-}
-
-/// The ending of a value.
-#[derive(Clone, Copy)]
-enum Ending {
-    WithoutBreak,
-    OneBreak,
-    MoreBreaks,
 }
 
 /// Writes the hints of a block scalar's header: the digit of the indent, 2 to 9, if the value begins with a blank or a break;
@@ -152,7 +144,7 @@ pub fn begins_blank(value: &str) -> bool
 
 /// Returns the ending of a value: no break, exactly one break after another character, or any other.
 fn value_ending(value: &str) -> Ending
-    ensures { seen_ending result ≡ layout.ending (chars value.now) }
+    ensures { result ≡ layout.ending (chars value.now) }
 {
     let mut characters = value.chars();
     match characters.next_back() {
@@ -162,7 +154,7 @@ fn value_ending(value: &str) -> Ending
 }
 
 fn last_ending(prefix: &str, last: char) -> Ending
-    ensures { seen_ending result ≡ layout.ending (chars (prefix.now ++ encode_utf8 last)) }
+    ensures { result ≡ layout.ending (chars (prefix.now ++ encode_utf8 last)) }
 {
     if !is_break(last) {
         return Ending::WithoutBreak;
@@ -176,7 +168,7 @@ fn last_ending(prefix: &str, last: char) -> Ending
 
 fn break_ending(prefix: &str, before: char, last: char) -> Ending
     requires { class.is_break last ≡ true }
-    ensures { seen_ending result ≡ layout.ending (chars (prefix.now ++ encode_utf8 before ++ encode_utf8 last)) }
+    ensures { result ≡ layout.ending (chars (prefix.now ++ encode_utf8 before ++ encode_utf8 last)) }
 {
     if is_break(before) {
         Ending::MoreBreaks

@@ -22,7 +22,7 @@ mod simple_ascii;
 mod single_quoted;
 mod style;
 
-pub use analysis::{analyze_for_style, analyze_scalar, holds_break, scalar_data_t};
+pub use analysis::{analyze_for_style, analyze_scalar, holds_break};
 pub use blanks::allows_literal;
 pub use block_header::{begins_blank, write_block_scalar_hints};
 pub use double_quoted::write_double_quoted_scalar;
@@ -32,3 +32,4 @@ pub use plain::write_plain_scalar;
 pub use simple_ascii::{is_simple_ascii, write_simple_ascii_scalar};
 pub use single_quoted::write_single_quoted_scalar;
 pub use style::select_scalar_style;
+pub use yaml_base::scalar_data_t;

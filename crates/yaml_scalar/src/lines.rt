@@ -18,16 +18,8 @@ use crate::runs::{Run, RunEnds, ending_classes, line_run_after, run_up_to, short
 use crate::shared::may_fold_here;
 use crate::short_runs::{is_short_run, write_short_run};
 use std::alloc::Allocator;
-use yaml_base::{is_break, is_space, yaml_error_t};
+use yaml_base::{CharacterKind, is_break, is_space, yaml_error_t};
 use yaml_pen::Pen;
-
-/// The kind of the characters of a run.
-#[derive(Clone, Copy)]
-pub(crate) enum CharacterKind {
-    Space,
-    Break,
-    Other,
-}
 
 /// The facts known of a value before it is written: none, or that it is simple ASCII.
 #[derive(Clone, Copy)]
@@ -48,7 +40,7 @@ pub(crate) struct Lines {
 }
 
 fn kind_of(character: char) -> CharacterKind
-    ensures { steps.seen_kind result ≡ layout.kind_of character }
+    ensures { result ≡ layout.kind_of character }
 {
     if is_space(character) {
         CharacterKind::Space
@@ -60,7 +52,7 @@ fn kind_of(character: char) -> CharacterKind
 }
 
 fn is_same_kind(one: CharacterKind, other: CharacterKind) -> bool
-    ensures { result ≡ layout.is_same_kind (steps.seen_kind one) (steps.seen_kind other) }
+    ensures { result ≡ layout.is_same_kind one other }
 {
     matches!(
         (one, other),
@@ -71,7 +63,7 @@ fn is_same_kind(one: CharacterKind, other: CharacterKind) -> bool
 }
 
 fn begins_kind(kind: CharacterKind, rest: &str) -> bool
-    ensures { result ≡ steps.begins_kind (steps.seen_kind kind) (chars rest.now) }
+    ensures { result ≡ steps.begins_kind kind (chars rest.now) }
 {
     match rest.chars().next() {
         Some(c) => is_same_kind(kind, kind_of(c)),
@@ -145,8 +137,8 @@ fn write_other<A: Allocator>(
 // Whether a run is one space, neither first nor last, past the width.
 fn is_fold<A: Allocator>(pen: &Pen<A>, lines: Lines, before: CharacterKind, rest: &str) -> bool
     ensures { result ≡ cursor.is_past_width (limit_where lines.allow_breaks lines.width) pen.now.cursor
-        && not (layout.is_same_kind (steps.seen_kind before) layout.spaces
-        || (analysis.is_empty (chars rest.now) || steps.begins_kind layout.spaces (chars rest.now))) }
+        && not (layout.is_same_kind before CharacterKind.Space
+        || (analysis.is_empty (chars rest.now) || steps.begins_kind CharacterKind.Space (chars rest.now))) }
 {
     may_fold_here(pen, lines.allow_breaks, lines.width)
         && !is_same_kind(before, CharacterKind::Space)
@@ -163,7 +155,7 @@ fn write_step<A: Allocator>(
 ) -> Result<(), yaml_error_t>
     requires { IsReady pen.old }
     ensures { Wrote (steps.render_line_step (steps.written_as lines.quoted) (limit_where lines.allow_breaks lines.width) lines.indent
-        (steps.seen_kind before) character (chars rest.now)) pen.old pen.new result }
+        before character (chars rest.now)) pen.old pen.new result }
 {
     match kind_of(character) {
         CharacterKind::Space => {
@@ -274,7 +266,7 @@ fn write_from<A: Allocator>(
     lines: Lines,
 ) -> Result<(), yaml_error_t>
     requires { IsReady pen.old }
-    ensures { Wrote (steps.render_steps (steps.written_as lines.quoted) (limit_where lines.allow_breaks lines.width) lines.indent (steps.seen_kind start)
+    ensures { Wrote (steps.render_steps (steps.written_as lines.quoted) (limit_where lines.allow_breaks lines.width) lines.indent start
         (chars value.now)) pen.old pen.new result }
 {
     let mut before = start;

@@ -2,13 +2,11 @@
 ghost use Rattle.std.specs.Prelude.{◌≡◌, MatchResult, true, false, ◌||◌, ◌&&◌};
 ghost use Rattle.yaml_base.specs.Seen.{seen_scalar_style};
 ghost use Rattle.yaml_base.specs.scalars.Style as spec;
-ghost use Rattle.yaml_scalar.specs.ScalarData.{seen_choice, seen_data};
 
-use crate::analysis::scalar_data_t;
 use yaml_base::{
     YAML_ANY_SCALAR_STYLE, YAML_DOUBLE_QUOTED_SCALAR_STYLE, YAML_FOLDED_SCALAR_STYLE,
     YAML_LITERAL_SCALAR_STYLE, YAML_PLAIN_SCALAR_STYLE, YAML_SINGLE_QUOTED_SCALAR_STYLE,
-    yaml_error_t, yaml_scalar_style_t,
+    scalar_data_t, yaml_error_t, yaml_scalar_style_t,
 };
 
 /// The context of a scalar.
@@ -41,7 +39,7 @@ pub fn select_scalar_style(
 ) -> Result<(yaml_scalar_style_t, bool), yaml_error_t>
     ensures { MatchResult result
         (λ given. (spec.lacks_tag_and_flags tag_written plain_implicit quoted_implicit ≡ false)
-        × (seen_choice given ≡ spec.chosen (seen_data allowed.now)
+        × (record { style = seen_scalar_style given.0; bare = given.1 } ≡ spec.chosen allowed.now
         (seen_scalar_style style) empty tag_written plain_implicit quoted_implicit flow simple_key canonical))
         (λ error. (spec.lacks_tag_and_flags tag_written plain_implicit quoted_implicit ≡ true)
         × (error ≡ yaml_error_t.NoTagNorImplicit)) }
@@ -69,7 +67,7 @@ fn fits_plain(
     plain_implicit: bool,
     context: Context,
 ) -> bool
-    ensures { result ≡ spec.fits_plain (seen_data allowed.now) empty tag_written plain_implicit context.flow context.simple_key }
+    ensures { result ≡ spec.fits_plain allowed.now empty tag_written plain_implicit context.flow context.simple_key }
 {
     let fits = if context.flow {
         allowed.flow_plain_allowed
@@ -99,7 +97,7 @@ fn fitting_style(
     block_fits: bool,
     asked: yaml_scalar_style_t,
 ) -> yaml_scalar_style_t
-    ensures { seen_scalar_style result ≡ spec.fitting_style (seen_data allowed.now) plain_fits block_fits (seen_scalar_style asked) }
+    ensures { seen_scalar_style result ≡ spec.fitting_style allowed.now plain_fits block_fits (seen_scalar_style asked) }
 {
     match asked {
         YAML_PLAIN_SCALAR_STYLE if plain_fits => YAML_PLAIN_SCALAR_STYLE,

@@ -15,7 +15,7 @@ unicode12 = record { unicode = true; breaks12 = true }
 -- in the order of the record: a break, plain in flow, plain in block, single quotes, block styles
 abbrev answer : (multiline in_flow in_block quoted as_block : Bool) → Allowances
 answer multiline in_flow in_block quoted as_block =
-    record { multiline = multiline; flow_plain = in_flow; block_plain = in_block; single_quoted = quoted; block = as_block }
+    record { multiline = multiline; flow_plain_allowed = in_flow; block_plain_allowed = in_block; single_quoted_allowed = quoted; block_allowed = as_block }
 
 what_is_allowed : GivesOfTwo allowances (
     (ascii, codes "foo", answer false true true true true)  -- word

@@ -21,7 +21,7 @@ is_flow_style _ = true
 
 -- if no block style fits, the style is one of flow
 style_in_flow : (allowed : Allowances) (fits x : Bool) (asked : ScalarStyle)
-    → is_flow_style (fitting_style allowed fits (allowed.block && not true && not x) asked) ≡ true
+    → is_flow_style (fitting_style allowed fits (allowed.block_allowed && not true && not x) asked) ≡ true
 style_in_flow allowed fits x asked = grind (arith, nat_tests)
 
 -- so is the style that is chosen in flow

@@ -6,7 +6,7 @@ use Rattle.yaml_base.proofs.Common.{after_digit, chomping_first, Charset, Allowa
 use Rattle.yaml_base.specs.{Cursor.next_column, scalars.Analysis.begins_with, scalars.Folded.cut_line, scalars.Folded.next_line_unindented, scalars.Lines.Part}
 use Rattle.yaml_base.specs.{scalars.Lines.line, scalars.Lines.line_break, scalars.Lines.begun, scalars.Literal.indented}
 use Rattle.yaml_base.proofs.Common.{indentation_hint, ending_hint, render_hint, ends_in_break, folded_parts, parts, is_block, fitting_style}
-use Rattle.yaml_base.specs.scalars.BlockHeader.{without_break, one_break, more_breaks}
+use Rattle.yaml_base.specs.declared.scalars.Ending.TheVariants.{WithoutBreak, OneBreak, MoreBreaks}
 
 -- Values that end in a break
 
@@ -22,12 +22,12 @@ pub ending_breaks : (value : Text) → ends_in_break (ending value) ≡ true →
 ending_breaks [] h = absurd (false≢true h)
 ending_breaks (c ∷ []) h = by (is_break c) refl h
   where
-    by : (x : Bool) → is_break c ≡ x → ends_in_break (if x then more_breaks else without_break) ≡ true → EndsBreak (c ∷ [])
+    by : (x : Bool) → is_break c ≡ x → ends_in_break (if x then MoreBreaks else WithoutBreak) ≡ true → EndsBreak (c ∷ [])
     by true e h = record { prefix = []; last = c; is = refl; breaks = e }
     by false e h = absurd (false≢true h)
 ending_breaks (c ∷ d ∷ []) h = by (is_break d) refl h
   where
-    by : (x : Bool) → is_break d ≡ x → ends_in_break (if x then (if is_break c then more_breaks else one_break) else without_break) ≡ true
+    by : (x : Bool) → is_break d ≡ x → ends_in_break (if x then (if is_break c then MoreBreaks else OneBreak) else WithoutBreak) ≡ true
         → EndsBreak (c ∷ d ∷ [])
     by true e h = record { prefix = c ∷ []; last = d; is = refl; breaks = e }
     by false e h = absurd (false≢true h)

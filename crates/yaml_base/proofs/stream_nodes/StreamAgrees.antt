@@ -106,12 +106,13 @@ tagging_is s place simple content None e flags =
 
     style : Option Text → ScalarStyle
     style t =
-        fitting_style allowed (fit t) (allowed.block && not place.in_flow && not simple)
+        fitting_style allowed (fit t) (allowed.block_allowed && not place.in_flow && not simple)
         (requested_style (s.canonical || (simple && allowed.multiline)) (style_asked_at s place content))
 
     fits : is_plain (style None) ≡ true → content.plain_implicit ≡ true
     fits h =
-        (and_parts ((if place.in_flow then allowed.flow_plain else allowed.block_plain) && not (is_empty content.value && (place.in_flow || simple)))
+        (and_parts
+        ((if place.in_flow then allowed.flow_plain_allowed else allowed.block_plain_allowed) && not (is_empty content.value && (place.in_flow || simple)))
         (false || content.plain_implicit) (plain_fits allowed _ _ _ h)).1
 
 -- the tree of a node agrees with it

@@ -40,8 +40,8 @@ scalars_fit s own directives low high content role column cursor complex stands 
     (λ h. bare_not_plain (is_some tag) content.quoted_implicit (is_plain choice.style) h)
     (λ h. literal_still s.unicode s.breaks12 s.portable content.value
     (literal_allowed s content
-    (and_parts allowed.block true
-    (and_parts (allowed.block && true) (not simple)
-    (block_fitting allowed (fits_plain allowed (is_empty content.value) (is_some tag) content.plain_implicit false simple) (allowed.block && true && not simple)
-    (requested_style (s.canonical || (simple && allowed.multiline)) (style_asked_at s place content)) h)).0).0))
+    (and_parts allowed.block_allowed true
+    (and_parts (allowed.block_allowed && true) (not simple)
+    (block_fitting allowed (fits_plain allowed (is_empty content.value) (is_some tag) content.plain_implicit false simple)
+    (allowed.block_allowed && true && not simple) (requested_style (s.canonical || (simple && allowed.multiline)) (style_asked_at s place content)) h)).0).0))
     body.tidy body.reads

@@ -3,21 +3,16 @@
 use Rattle.std.specs.Prelude.{ℕ, Bool, true, false, [], ◌∷◌, ◌==◌, ◌||◌, ◌&&◌, not, codes}
 use Rattle.std.specs.List.{list_any}
 use Rattle.yaml_base.specs.Characters.{Text, is_among, is_ascii, is_blank, is_break, is_printable, is_space, line_separator, paragraph_separator, tab}
+use Rattle.yaml_base.specs.declared.scalars.Charset as declared
+use Rattle.yaml_base.specs.declared.scalars.scalar_data_t.{scalar_data_t}
 
--- the characters that may be written as themselves: all printable ones or ASCII alone; and whether U+2028 and U+2029 are ordinary
--- characters, as in YAML 1.2 (libyaml's emitter; `breaks12` is this project's)
-pub record Charset : Type 0 where
-  pub unicode : Bool
-  pub breaks12 : Bool
+-- the characters that may be written as themselves (libyaml's emitter; `breaks12` is this project's)
+abbrev pub Charset : Type 0
+Charset = declared.Charset
 
--- the styles that a value allows: plain in flow and in block, single quotes, the two block styles;
--- and whether it holds a break
-pub record Allowances : Type 0 where
-  pub multiline : Bool
-  pub flow_plain : Bool
-  pub block_plain : Bool
-  pub single_quoted : Bool
-  pub block : Bool
+-- the styles that a value allows, and whether it holds a break
+abbrev pub Allowances : Type 0
+Allowances = scalar_data_t
 
 -- true if some character, seen together with the text after it, meets the test
 abbrev pub somewhere : (ℕ → Text → Bool) → Text → Bool
@@ -142,8 +137,8 @@ abbrev pub allowances : Charset → Text → Allowances
 allowances charset value =
     record {
       multiline = list_any is_break value;
-      flow_plain = allows_plain charset true value;
-      block_plain = allows_plain charset false value;
-      single_quoted = allows_single_quoted charset value;
-      block = allows_block charset value;
+      flow_plain_allowed = allows_plain charset true value;
+      block_plain_allowed = allows_plain charset false value;
+      single_quoted_allowed = allows_single_quoted charset value;
+      block_allowed = allows_block charset value;
     }

@@ -4,18 +4,14 @@ use Rattle.std.specs.Prelude.{ℕ, Bool, true, false, Option, None, Some, [], �
 use Rattle.yaml_base.specs.Characters.{Text, is_blank, is_break, line_feed}
 use Rattle.yaml_base.specs.scalars.Analysis.{begins_with}
 use Rattle.yaml_base.specs.Cursor.{Cursor, Rendered, render_nothing, render_then, render_text, with_flags, indicator}
-
--- the ending of a text: not in a break, in exactly one break after another character, or any other
-pub data Ending : Type 0 where
-  without_break : Ending
-  one_break : Ending
-  more_breaks : Ending
+use Rattle.yaml_base.specs.declared.scalars.Ending.{Ending}
+use Rattle.yaml_base.specs.declared.scalars.Ending.TheVariants.{WithoutBreak, OneBreak, MoreBreaks}
 
 -- the ending of a text; its last two characters show it
 abbrev pub ending : Text → Ending
-ending [] = without_break
-ending (c ∷ []) = if is_break c then more_breaks else without_break
-ending (c ∷ d ∷ []) = if is_break d then (if is_break c then more_breaks else one_break) else without_break
+ending [] = WithoutBreak
+ending (c ∷ []) = if is_break c then MoreBreaks else WithoutBreak
+ending (c ∷ d ∷ []) = if is_break d then (if is_break c then MoreBreaks else OneBreak) else WithoutBreak
 ending (c ∷ d ∷ e ∷ rest) = ending (d ∷ e ∷ rest)
 
 -- true if the text's first character is a blank or a break
@@ -29,9 +25,9 @@ indentation_hint best_indent value = if begins_blank value then (48 + best_inden
 
 -- `-`, nothing or `+`: the treatment of the final breaks (YAML 1.1, section 9.2.3 Block Chomping Indicator, c-chomping-indicator(t))
 abbrev pub ending_hint : Ending → Text
-ending_hint without_break = 45 ∷ []
-ending_hint one_break = []
-ending_hint more_breaks = 43 ∷ []
+ending_hint WithoutBreak = 45 ∷ []
+ending_hint OneBreak = []
+ending_hint MoreBreaks = 43 ∷ []
 
 -- a hint, if there is one
 abbrev pub render_hint : Text → Cursor → Rendered
@@ -52,9 +48,9 @@ render_header symbol best_indent value cursor =
 
 -- the open-ended state after a header: 2 if `+` keeps all final breaks, so that the document's end must be written
 abbrev pub ending_open_ended : Ending → ℕ
-ending_open_ended without_break = 0
-ending_open_ended one_break = 0
-ending_open_ended more_breaks = 2
+ending_open_ended WithoutBreak = 0
+ending_open_ended OneBreak = 0
+ending_open_ended MoreBreaks = 2
 
 -- the open-ended state after a value's header
 abbrev pub header_open_ended : Text → ℕ
@@ -62,9 +58,9 @@ header_open_ended value = ending_open_ended (ending value)
 
 -- true if the value's last character is a break
 abbrev pub ends_in_break : Ending → Bool
-ends_in_break without_break = false
-ends_in_break one_break = true
-ends_in_break more_breaks = true
+ends_in_break WithoutBreak = false
+ends_in_break OneBreak = true
+ends_in_break MoreBreaks = true
 
 -- lines as they are rendered under a value's header: after them the cursor is in white space, and in indentation if the value ends in a
 -- break

@@ -4,27 +4,23 @@ use Rattle.std.specs.Prelude.{ℕ, Bool, true, false, Option, List, [], ◌∷�
 use Rattle.yaml_base.specs.Characters.{Text, is_break, is_space, line_feed, space}
 use Rattle.yaml_base.specs.scalars.Analysis.{begins_with, is_empty}
 use Rattle.yaml_base.specs.Cursor.{Cursor, Rendered, render_nothing, render_then, render_text, with_flags, space_if, is_past_width}
-
--- spaces, line breaks, or any other characters
-pub data Kind : Type 0 where
-  spaces : Kind
-  breaks : Kind
-  others : Kind
+use Rattle.yaml_base.specs.declared.scalars.CharacterKind.{CharacterKind}
+use Rattle.yaml_base.specs.declared.scalars.CharacterKind.TheVariants.{Space, Break, Other}
 
 -- the kind of a character
-abbrev pub kind_of : ℕ → Kind
-kind_of c = if is_space c then spaces else if is_break c then breaks else others
+abbrev pub kind_of : ℕ → CharacterKind
+kind_of c = if is_space c then Space else if is_break c then Break else Other
 
 -- true if two kinds are the same
-abbrev pub is_same_kind : Kind → Kind → Bool
-is_same_kind spaces spaces = true
-is_same_kind breaks breaks = true
-is_same_kind others others = true
+abbrev pub is_same_kind : CharacterKind → CharacterKind → Bool
+is_same_kind Space Space = true
+is_same_kind Break Break = true
+is_same_kind Other Other = true
 is_same_kind _ _ = false
 
 -- a longest stretch of characters of one kind
 pub record Run : Type 0 where
-  pub kind : Kind
+  pub kind : CharacterKind
   pub text : Text
 
 -- a character before runs: it joins the first of them if that is of its kind
@@ -51,12 +47,12 @@ indentation indent = replicate indent space
 -- a run's text: a lone space past the limit, neither first nor last, becomes a break and the indentation; the first break of a run is
 -- written twice if it is LF, and the indentation follows; other characters are written as they are (YAML 1.1, section 6.5 Line Folding,
 -- b-l-folded-any(n,s); which space folds is libyaml's rule)
-abbrev pub run_text : (written : Text → Text) (folds : Bool) (indent : ℕ) → Kind → Text → Text
-run_text written folds indent spaces text =
+abbrev pub run_text : (written : Text → Text) (folds : Bool) (indent : ℕ) → CharacterKind → Text → Text
+run_text written folds indent Space text =
     if folds && is_single_character text then line_feed ∷ indentation indent else text
-run_text written folds indent breaks text =
+run_text written folds indent Break text =
     (if begins_with (λ c. c == line_feed) text then line_feed ∷ [] else []) ++ (text ++ indentation indent)
-run_text written folds indent others text = written text
+run_text written folds indent Other text = written text
 
 -- true if no run follows
 abbrev pub is_last : List Run → Bool

@@ -38,7 +38,7 @@ requested_style false style = style
 
 -- single quotes if the value allows them, else double quotes
 abbrev pub quoted_style : Allowances → ScalarStyle
-quoted_style allowed = if allowed.single_quoted then single_quoted else double_quoted
+quoted_style allowed = if allowed.single_quoted_allowed then single_quoted else double_quoted
 
 -- the requested style if it fits; quotes in place of plain, double quotes in place of a block style
 abbrev pub fitting_style : Allowances → (plain_fits block_fits : Bool) → ScalarStyle → ScalarStyle
@@ -52,7 +52,7 @@ fitting_style allowed plain_fits block_fits _ = double_quoted
 -- the scalar from a quoted one
 abbrev pub fits_plain : Allowances → (empty tag_written plain_implicit flow simple_key : Bool) → Bool
 fits_plain allowed empty tag_written plain_implicit flow simple_key =
-    (if flow then allowed.flow_plain else allowed.block_plain)
+    (if flow then allowed.flow_plain_allowed else allowed.block_plain_allowed)
     && not (empty && (flow || simple_key))
     && (tag_written || plain_implicit)
 
@@ -65,6 +65,6 @@ chosen allowed asked empty tag_written plain_implicit quoted_implicit flow simpl
     let style =
     fitting_style allowed
     (fits_plain allowed empty tag_written plain_implicit flow simple_key)
-    (allowed.block && not flow && not simple_key)
+    (allowed.block_allowed && not flow && not simple_key)
     (requested_style (canonical || (simple_key && allowed.multiline)) asked) in
     record { style = style; bare = not tag_written && not quoted_implicit && not (is_plain style) }

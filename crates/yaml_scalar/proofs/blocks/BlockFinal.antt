@@ -1,7 +1,7 @@
 -- The breaks at a block scalar's end: the header's indicator says what chomping needs to keep them.
 use Rattle.yaml_scalar.proofs.Common.{arith, ℕ, if◌then◌else◌, ◌==◌, Bool, false, true, ◌&&◌, List, [], ◌++◌, ◌∷◌, refl, ◌≡◌, append_assoc, inl, inr, ap, sym}
 use Rattle.yaml_scalar.proofs.Common.{◌∙◌, cases_Bool, false≢true, Text, line_feed, is_break, Element, content, line_end, has_content, kept_lines, final_ends}
-use Rattle.yaml_scalar.proofs.Common.{joined, begins_unindented, next_content_unindented, unfolded, chomped, Ending, without_break, one_break, more_breaks}
+use Rattle.yaml_scalar.proofs.Common.{joined, begins_unindented, next_content_unindented, unfolded, chomped, Ending, WithoutBreak, OneBreak, MoreBreaks}
 use Rattle.yaml_scalar.proofs.Common.{ending, Part, line, line_break, begun, parts}
 use Rattle.yaml_base.specs.reading.ReadBlock.{fold_read, Chomping, strip, clip, keep}
 use Rattle.yaml_scalar.proofs.blocks.BlockParts.{bare}
@@ -51,35 +51,35 @@ unfolded-kept after_even (line_end b ∷ rest) =
 
 -- the final breaks, by an ending
 abbrev pub Ends : Ending → List Element → Type 0
-Ends without_break es = (has_content es ≡ true) × (final_ends es ≡ [])
-Ends one_break es = (has_content es ≡ true) × ((b : ℕ) × (final_ends es ≡ b ∷ []))
-Ends more_breaks es = Unit {0}
+Ends WithoutBreak es = (has_content es ≡ true) × (final_ends es ≡ [])
+Ends OneBreak es = (has_content es ≡ true) × ((b : ℕ) × (final_ends es ≡ b ∷ []))
+Ends MoreBreaks es = Unit {0}
 
 ends-begun : (e : Ending) (c : ℕ) (ps : List Part) → Ends e (bare ps) → Ends e (bare (begun c ps))
-ends-begun without_break c [] h = (refl, refl)
-ends-begun without_break c (line text ∷ rest) h = h
-ends-begun without_break c (line_break b ∷ rest) h = (refl, h.1)
-ends-begun one_break c [] h = absurd (false≢true h.0)
-ends-begun one_break c (line text ∷ rest) h = h
-ends-begun one_break c (line_break b ∷ rest) h = (refl, h.1)
-ends-begun more_breaks c ps h = tt
+ends-begun WithoutBreak c [] h = (refl, refl)
+ends-begun WithoutBreak c (line text ∷ rest) h = h
+ends-begun WithoutBreak c (line_break b ∷ rest) h = (refl, h.1)
+ends-begun OneBreak c [] h = absurd (false≢true h.0)
+ends-begun OneBreak c (line text ∷ rest) h = h
+ends-begun OneBreak c (line_break b ∷ rest) h = (refl, h.1)
+ends-begun MoreBreaks c ps h = tt
 
 ends-broken : (e : Ending) (c : ℕ) (es : List Element) → Ends e es → Ends e (line_end c ∷ es)
-ends-broken without_break c es h = (h.0, rw h.0 (h.1))
-ends-broken one_break c es h = (h.0, (h.1.0, rw h.0 (h.1.1)))
-ends-broken more_breaks c es h = tt
+ends-broken WithoutBreak c es h = (h.0, rw h.0 (h.1))
+ends-broken OneBreak c es h = (h.0, (h.1.0, rw h.0 (h.1.1)))
+ends-broken MoreBreaks c es h = tt
 
 ends-before : (e : Ending) (c : ℕ) (ps : List Part) (b : Bool) → Ends e (bare ps) → Ends e (bare (if b then line_break c ∷ ps else begun c ps))
 ends-before e c ps true h = ends-broken e c (bare ps) h
 ends-before e c ps false h = ends-begun e c ps h
 
 -- a value of one character
-ends-one : (c : ℕ) (b : Bool) → Ends (if b then more_breaks else without_break) (bare (if b then line_break c ∷ [] else begun c []))
+ends-one : (c : ℕ) (b : Bool) → Ends (if b then MoreBreaks else WithoutBreak) (bare (if b then line_break c ∷ [] else begun c []))
 ends-one c true = tt
 ends-one c false = (refl, refl)
 
 -- of two characters
-ends-two : (c d : ℕ) (a b : Bool) → Ends (if b then (if a then more_breaks else one_break) else without_break)
+ends-two : (c d : ℕ) (a b : Bool) → Ends (if b then (if a then MoreBreaks else OneBreak) else WithoutBreak)
     (bare (if a then line_break c ∷ (if b then line_break d ∷ [] else begun d []) else begun c (if b then line_break d ∷ [] else begun d [])))
 ends-two c d true true = tt
 ends-two c d true false = (refl, refl)
@@ -94,11 +94,11 @@ ends-parts c (d ∷ e ∷ rest) = ends-before (ending (d ∷ e ∷ rest)) c (par
 
 -- the chomping that the header's indicator asks for
 abbrev pub chomping_of : Ending → Chomping
-chomping_of without_break = strip
-chomping_of one_break = clip
-chomping_of more_breaks = keep
+chomping_of WithoutBreak = strip
+chomping_of OneBreak = clip
+chomping_of MoreBreaks = keep
 
 pub chomped-ends : (e : Ending) (es : List Element) → Ends e es → chomped (chomping_of e) (has_content es) (final_ends es) ≡ final_ends es
-chomped-ends without_break es h = sym (h.1)
-chomped-ends one_break es h = rw (h.0, h.1.1) refl
-chomped-ends more_breaks es h = refl
+chomped-ends WithoutBreak es h = sym (h.1)
+chomped-ends OneBreak es h = rw (h.0, h.1.1) refl
+chomped-ends MoreBreaks es h = refl

@@ -4,7 +4,7 @@ use Rattle.yaml_scalar.proofs.Common.{suc, zero, ℕ, ◌+◌, ◌≤◌, ◌==�
 use Rattle.yaml_scalar.proofs.Common.{append_assoc, arith, and_from, or_from, or_left, or_right, not_from_false, breaks-round, rendered-append}
 use Rattle.yaml_scalar.proofs.Common.{indented-written, Text, line_feed, carriage_return, next_line, space, is_break}
 use Rattle.yaml_scalar.proofs.Common.{Cursor, with_breaks_written, with_line_breaks_read, is_rendered_text, begins_indented, is_indented_text, LineBreak}
-use Rattle.yaml_scalar.proofs.Common.{read_block, Charset, allows_block, allows_literal, Ending, without_break, one_break, more_breaks, ending_hint}
+use Rattle.yaml_scalar.proofs.Common.{read_block, Charset, allows_block, allows_literal, Ending, WithoutBreak, OneBreak, MoreBreaks, ending_hint}
 use Rattle.yaml_scalar.proofs.Common.{block_body, Encloses, folded_parts, folded_body, Part, line, line_break, parts, indented, literal_body}
 use Rattle.yaml_base.proofs.Common.{ne_eqb}
 use Rattle.yaml_scalar.proofs.blocks.{BlockFolds.folded-clean, BlockParts.Ordinary, BlockParts.IsLine, BlockParts.Clean, BlockParts.parts-clean}
@@ -64,9 +64,9 @@ digit-unbroken : (n : ℕ) → n ≤ 9 → is_break (48 + n) ≡ false
 digit-unbroken n high = grind (arith, or_from, ne_eqb)
 
 hint-rendered : (e : Ending) → is_rendered_text (ending_hint e) ≡ true
-hint-rendered without_break = refl
-hint-rendered one_break = refl
-hint-rendered more_breaks = refl
+hint-rendered WithoutBreak = refl
+hint-rendered OneBreak = refl
+hint-rendered MoreBreaks = refl
 
 digit-text-rendered : (blank : Bool) (n : ℕ) → n ≤ 9 → is_rendered_text (digit_text blank n) ≡ true
 digit-text-rendered true n high = and_from _ _ (digit-rendered n high) refl
@@ -82,9 +82,9 @@ header-rendered false blank e n lines high h = rendered-append (digit_text blank
 
 -- the header's break is the first, so the lines after it begin with two spaces
 hint-indented : (e : Ending) (rest : Text) → is_indented_text rest ≡ true → is_indented_text (ending_hint e ++ rest) ≡ true
-hint-indented without_break rest h = h
-hint-indented one_break rest h = h
-hint-indented more_breaks rest h = h
+hint-indented WithoutBreak rest h = h
+hint-indented OneBreak rest h = h
+hint-indented MoreBreaks rest h = h
 
 digit-indented : (blank : Bool) (n : ℕ) (rest : Text) → n ≤ 9 → is_indented_text rest ≡ true → is_indented_text (digit_text blank n ++ rest) ≡ true
 digit-indented true n rest high h = rw (digit-unbroken n high) h

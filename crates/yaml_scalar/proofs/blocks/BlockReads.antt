@@ -4,7 +4,7 @@ use Rattle.yaml_scalar.proofs.Common.{is_special_but_tab, begins_with_blanks_alo
 use Rattle.yaml_scalar.proofs.Common.{refl, ◌≡◌, eqb-true, le-leb, append_assoc, ap, sym, ◌∙◌, arith, and_from, or_parts, false_from_ne_true, not-false}
 use Rattle.yaml_scalar.proofs.Common.{not-true, false≢true, Text, is_between, line_feed, is_space, is_printable, Cursor, elements, all_unindented, has_content}
 use Rattle.yaml_scalar.proofs.Common.{kept_lines, final_ends, unfolded, chomped, read_block, Charset, somewhere, is_empty, is_special, is_trailing_space}
-use Rattle.yaml_scalar.proofs.Common.{bars_block, allows_block, Ending, without_break, one_break, more_breaks, ending, begins_blank, indentation_hint}
+use Rattle.yaml_scalar.proofs.Common.{bars_block, allows_block, Ending, WithoutBreak, OneBreak, MoreBreaks, ending, begins_blank, indentation_hint}
 use Rattle.yaml_scalar.proofs.Common.{ending_hint, render_hint, block_body, Encloses, folded_parts, folded_body, Part, parts, indented, literal_body}
 use Rattle.yaml_base.specs.reading.ReadBlock.{read_indentation, lines_read, digit_first, after_digit, read_lines}
 use Rattle.yaml_base.proofs.Charsets.{special_tab}
@@ -121,24 +121,24 @@ block_indicator_of folded = if folded then 62 else 124
 read-header : (breaks12 folded blank : Bool) (e : Ending) (best_indent : ℕ) (column : Option ℕ) (lines : Text) → 2 ≤ best_indent → best_indent ≤ 9
     → read_block breaks12 column (block_indicator_of folded ∷ ((digit_text blank best_indent ++ ending_hint e) ++ line_feed ∷ lines))
     ≡ read_lines folded (chomping_of e) (digit_of blank best_indent) column (elements breaks12 lines)
-read-header breaks12 true true without_break n column lines low high = rw
+read-header breaks12 true true WithoutBreak n column lines low high = rw
     (digit-read n (45 ∷ line_feed ∷ lines) low high, digit-passed n (45 ∷ line_feed ∷ lines) low high) refl
-read-header breaks12 true true one_break n column lines low high = rw
+read-header breaks12 true true OneBreak n column lines low high = rw
     (digit-read n (line_feed ∷ lines) low high, digit-passed n (line_feed ∷ lines) low high) refl
-read-header breaks12 true true more_breaks n column lines low high = rw
+read-header breaks12 true true MoreBreaks n column lines low high = rw
     (digit-read n (43 ∷ line_feed ∷ lines) low high, digit-passed n (43 ∷ line_feed ∷ lines) low high) refl
-read-header breaks12 false true without_break n column lines low high = rw
+read-header breaks12 false true WithoutBreak n column lines low high = rw
     (digit-read n (45 ∷ line_feed ∷ lines) low high, digit-passed n (45 ∷ line_feed ∷ lines) low high) refl
-read-header breaks12 false true one_break n column lines low high = rw
+read-header breaks12 false true OneBreak n column lines low high = rw
     (digit-read n (line_feed ∷ lines) low high, digit-passed n (line_feed ∷ lines) low high) refl
-read-header breaks12 false true more_breaks n column lines low high = rw
+read-header breaks12 false true MoreBreaks n column lines low high = rw
     (digit-read n (43 ∷ line_feed ∷ lines) low high, digit-passed n (43 ∷ line_feed ∷ lines) low high) refl
-read-header breaks12 true false without_break n column lines low high = refl
-read-header breaks12 true false one_break n column lines low high = refl
-read-header breaks12 true false more_breaks n column lines low high = refl
-read-header breaks12 false false without_break n column lines low high = refl
-read-header breaks12 false false one_break n column lines low high = refl
-read-header breaks12 false false more_breaks n column lines low high = refl
+read-header breaks12 true false WithoutBreak n column lines low high = refl
+read-header breaks12 true false OneBreak n column lines low high = refl
+read-header breaks12 true false MoreBreaks n column lines low high = refl
+read-header breaks12 false false WithoutBreak n column lines low high = refl
+read-header breaks12 false false OneBreak n column lines low high = refl
+read-header breaks12 false false MoreBreaks n column lines low high = refl
 
 -- the indentation that a digit gives, or that the first line shows, is the lines' own
 unindented-lines : (blank : Bool) (indent best_indent : ℕ) (column : Option ℕ) (ps : List Part) → Encloses indent best_indent column

@@ -1,11 +1,11 @@
 use Rattle.yaml_scalar.proofs.Common.{ℕ, List, Bool, ◌||◌, ap, sym, ◌∙◌, nil_from_length, chars-nil, IsUtf8-past_char, chars_past_char, chars_rest}
-use Rattle.yaml_scalar.proofs.Common.{somewhere, bars_literal, seen_charset}
+use Rattle.yaml_scalar.proofs.Common.{somewhere, bars_literal}
 use Rattle.yaml_base.proofs.Common.{chars}
 use Rattle.yaml_scalar.proofs.blanks.is_barred.Goals as goal
 
 pub returns-then-bars_literal : goal.returns-then-bars_literal
 returns-then-bars_literal c =
-    let test = bars_literal (seen_charset c.args.charset) in
+    let test = bars_literal c.args.charset in
     let rest = chars (chars_rest c.next.new.self) in
     sym (c.loop-c.invariant.same
     ∙ ap (somewhere test) (chars_past_char _ (chars_rest c.next.new.self) c.in-Some.c c.loop-c.invariant.is_text c.in-Some.ensures.steps.0)
@@ -14,7 +14,7 @@ returns-then-bars_literal c =
 
 pub loop-c-preserved : goal.loop-c-preserved
 loop-c-preserved c =
-    let test = bars_literal (seen_charset c.args.charset) in
+    let test = bars_literal c.args.charset in
     let rest = chars (chars_rest c.next.new.self) in
     record {
       is_text = IsUtf8-past_char _ _ c.in-Some.c c.loop-c.invariant.is_text c.in-Some.ensures.steps.0;
@@ -26,5 +26,5 @@ loop-c-preserved c =
 
 pub returns : goal.returns
 returns c =
-    let test = bars_literal (seen_charset c.args.charset) in
+    let test = bars_literal c.args.charset in
     sym (c.loop-c.invariant.same ∙ ap (somewhere test) (ap chars (nil_from_length _ c.in_default.ensures.steps.0.0) ∙ chars-nil))

@@ -1,5 +1,5 @@
-use Rattle.yaml_scalar.proofs.Common.{ℕ, chars, IsUtf8, List, ap, subst, sym, ◌∙◌, IsUtf8-drop, IsUtf8-past_char, chars_rest, Kind, kind_of, wrote_exit}
-use Rattle.yaml_scalar.proofs.Common.{seen_kind, written_as, render_steps, limit_where}
+use Rattle.yaml_scalar.proofs.Common.{ℕ, chars, IsUtf8, List, ap, subst, sym, ◌∙◌, IsUtf8-drop, IsUtf8-past_char, chars_rest, CharacterKind, kind_of}
+use Rattle.yaml_scalar.proofs.Common.{wrote_exit, written_as, render_steps, limit_where}
 use Rattle.yaml_scalar.proofs.{LinesWritten.LinesLeft, StaysInLine.stays_unbroken, StaysInLine.lines_after, StaysInLine.line_stands, WholeRuns.run_unbroken}
 use Rattle.yaml_pen.proofs.StillToWrite.{still_all, still_rest, still_failed, still_same, end_still}
 use Rattle.yaml_scalar.proofs.RunsWritten.{character_still, standing_more, standing_failed}
@@ -22,7 +22,7 @@ returns-in_err-write_step g c =
     let limit = limit_where lines.allow_breaks lines.width in
     let rest : List ℕ = c.as_str-rest.result.now in
     let left = render_steps (written_as lines.quoted) limit lines.indent in
-    let first = character_still (left (seen_kind c.loop-character.before)) c.in-Some.character _ _ rest so_far.is_text c.in-Some.ensures.steps.0
+    let first = character_still (left c.loop-character.before) c.in-Some.character _ _ rest so_far.is_text c.in-Some.ensures.steps.0
     c.as_str-rest.ensures so_far.still in
     wrote_exit c.from_residual.ensures (still_failed (left (kind_of c.in-Some.character) (chars rest)) first c.in_err-write_step.ensures)
 
@@ -34,7 +34,7 @@ returns-in_err-write_run g c =
     let rest : List ℕ = c.as_str-rest.result.now in
     let is_text = subst IsUtf8 (sym c.as_str-rest.ensures) (IsUtf8-past_char _ _ c.in-Some.character so_far.is_text c.in-Some.ensures.steps.0) in
     let left = render_steps (written_as lines.quoted) limit lines.indent in
-    let first = character_still (left (seen_kind c.loop-character.before)) c.in-Some.character _ _ rest so_far.is_text c.in-Some.ensures.steps.0
+    let first = character_still (left c.loop-character.before) c.in-Some.character _ _ rest so_far.is_text c.in-Some.ensures.steps.0
     c.as_str-rest.ensures so_far.still in
     wrote_exit c.from_residual-in_err-write_run.ensures
     (standing_failed (lines_after lines.quoted limit lines.indent) c.split_at.result.1.now
@@ -51,12 +51,12 @@ loop-character-preserved g c =
     let rest : List ℕ = c.as_str-rest.result.now in
     let is_text = subst IsUtf8 (sym c.as_str-rest.ensures) (IsUtf8-past_char _ _ c.in-Some.character so_far.is_text c.in-Some.ensures.steps.0) in
     let behind = c.chars-characters-in-Some.ensures.rest ∙ c.split_at.ensures.back in
-    let first = character_still (render_steps written limit lines.indent (seen_kind c.loop-character.before)) c.in-Some.character _ _ rest so_far.is_text
+    let first = character_still (render_steps written limit lines.indent c.loop-character.before) c.in-Some.character _ _ rest so_far.is_text
     c.in-Some.ensures.steps.0 c.as_str-rest.ensures so_far.still in
     record {
       is_text = subst IsUtf8 (sym behind) (IsUtf8-drop _ _ is_text c.leading_verbatim_run-run.ensures.run.boundary);
-      still = subst (λ (kind : Kind).
-          LinesLeft written limit lines.indent (seen_kind c.args.start) (chars c.args.value.now)
+      still = subst (λ (kind : CharacterKind).
+          LinesLeft written limit lines.indent c.args.start (chars c.args.value.now)
           (chars (chars_rest c.chars-characters-in-Some.result)) kind c.args.pen.now c.write_run.new.self)
           (sym c.kind_of-before.ensures)
           (standing_more (lines_after lines.quoted limit lines.indent)
@@ -68,7 +68,7 @@ pub returns : goal.returns
 returns g c =
     let lines = c.args.lines in
     let limit = limit_where lines.allow_breaks lines.width in
-    (end_still (render_steps (written_as lines.quoted) limit lines.indent (seen_kind c.loop-character.before)) _
+    (end_still (render_steps (written_as lines.quoted) limit lines.indent c.loop-character.before) _
     c.in_default.ensures.steps.0.0 c.loop-character.invariant.still).writes _ _ c.write_nothing.ensures
 
 pub loop-character-smaller : goal.loop-character-smaller
@@ -84,7 +84,7 @@ loop-character-init g c =
     let same = sym c.chars-characters.ensures.rest in
     record {
       is_text = subst IsUtf8 same c.utf8.value;
-      still = still_same (render_steps (written_as lines.quoted) (limit_where lines.allow_breaks lines.width) lines.indent (seen_kind c.args.start))
+      still = still_same (render_steps (written_as lines.quoted) (limit_where lines.allow_breaks lines.width) lines.indent c.args.start)
           (ap chars same) (still_all c.requires);
     }
 

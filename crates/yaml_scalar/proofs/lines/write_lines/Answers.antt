@@ -1,4 +1,4 @@
-use Rattle.yaml_scalar.proofs.Common.{◌<◌, ℕ, List, length, false, not, true, ◌≡◌, arith, nat_tests, subst, sym, ◌∙◌, and_parts, not-true, chars, spaces}
+use Rattle.yaml_scalar.proofs.Common.{◌<◌, ℕ, List, length, false, not, true, ◌≡◌, arith, nat_tests, subst, sym, ◌∙◌, and_parts, not-true, chars, Space}
 use Rattle.yaml_scalar.proofs.Common.{wrote_as, written_as, render_steps, limit_where, stays_in_line, IsShortLine}
 use Rattle.yaml_scalar.proofs.{LinesWritten.wrote_runs, ShortRuns.short_line_rendered, StaysInLine.room_less}
 use Rattle.yaml_scalar.proofs.{SimpleAsciiTexts.simple_ascii_some, SimpleAsciiTexts.simple_ascii_line}
@@ -30,7 +30,7 @@ returns-in-SimpleAscii g c =
     (room_less limit cursor.column c.line_room.result (length value) c.if-value-line_room.false
     (c.line_room.ensures (omega (arith, some, c.if-value-line_room.false)))) in
     wrote_runs lines.quoted limit lines.indent (chars value)
-    (wrote_as (render_steps (written_as lines.quoted) limit lines.indent spaces (chars value))
+    (wrote_as (render_steps (written_as lines.quoted) limit lines.indent Space (chars value))
     (short_line_rendered lines.quoted limit lines.indent cursor line) c.write_short_run.ensures)
 
 pub write_short_run-requires-then-short-clause-few : goal.write_short_run-requires-then-short-clause-few
@@ -58,5 +58,5 @@ returns-then-short g c =
           (c.line_room.ensures (omega (arith, some, c.if-value-line_room.false)));
     } in
     wrote_runs lines.quoted limit lines.indent (chars value)
-    (wrote_as (render_steps (written_as lines.quoted) limit lines.indent spaces (chars value))
+    (wrote_as (render_steps (written_as lines.quoted) limit lines.indent Space (chars value))
     (short_line_rendered lines.quoted limit lines.indent cursor line) c.write_short_run-then-short.ensures)

@@ -1,4 +1,4 @@
-use Rattle.yaml_scalar.proofs.Common.{chars, subst, Kind, wrote_exit, Wrote, written_as, render_steps, limit_where}
+use Rattle.yaml_scalar.proofs.Common.{chars, subst, CharacterKind, wrote_exit, Wrote, written_as, render_steps, limit_where}
 use Rattle.yaml_scalar.proofs.{LinesWritten.wrote_runs, RunsWritten.standing_more, RunsWritten.standing_failed, StaysInLine.stays_unbroken}
 use Rattle.yaml_pen.proofs.StillToWrite.{still_all}
 use Rattle.yaml_scalar.proofs.{StaysInLine.lines_after, StaysInLine.line_stands, WholeRuns.run_unbroken}
@@ -32,6 +32,6 @@ returns g c =
     c.utf8.value c.leading_verbatim_run-first.ensures.run c.split_at.ensures.front c.split_at.ensures.back (still_all c.requires) c.in_ok-write_run.ensures.written in
     wrote_runs lines.quoted limit lines.indent (chars c.args.value.now)
     (still.writes _ _
-    (subst (λ (kind : Kind). Wrote (render_steps (written_as lines.quoted) limit lines.indent kind (chars c.split_at.result.1.now)) c.write_run.new.self
+    (subst (λ (kind : CharacterKind). Wrote (render_steps (written_as lines.quoted) limit lines.indent kind (chars c.split_at.result.1.now)) c.write_run.new.self
     c.write_from.new.pen c.write_from.result)
     c.kind_of-before.ensures c.write_from.ensures))
