@@ -70,12 +70,11 @@ wrote_then {first} {next} {before} {between} {after} {answer} one two =
       stopped = λ some. absurd (false≢true (subst (λ (o : Option yaml_error_t). IsSome o) whole.no_error some));
     }
 
--- a call that failed, whatever text was to come after its own
-pub wrote_failed : {first : Cursor → Rendered} (next : Cursor → Rendered) {before after : Page} {error : yaml_error_t}
-    → Wrote first before after (Err error)
-    → Wrote (λ c. render_then (first c) next) before after (Err error)
-wrote_failed {first} next {before} {after} {error} one =
-    let second : Text = with_breaks_written before.line_break (next (first before.cursor).cursor).text in
+-- a call that failed, if the whole text begins with its own
+pub wrote_cut : {render : Cursor → Rendered} (other : Cursor → Rendered) (rest : Text) {before after : Page} {error : yaml_error_t}
+    → (other before.cursor).text ≡ (render before.cursor).text ++ rest → Wrote render before after (Err error) → Wrote other before after (Err error)
+wrote_cut {render} other rest {before} {after} {error} is one =
+    let setting : LineBreak = before.line_break in
     record {
       answered = one.answered;
       ready = one.ready;
@@ -83,15 +82,21 @@ wrote_failed {first} next {before} {after} {error} one =
       sound_output = one.sound_output;
       grew = record {
         prefix = one.grew.prefix;
-        rest = one.grew.rest ++ second;
-        parts = with_breaks_written-append before.line_break (first before.cursor).text (next (first before.cursor).cursor).text
-            ∙ ap (λ l. l ++ second) one.grew.parts ∙ append_assoc one.grew.prefix one.grew.rest second;
+        rest = one.grew.rest ++ with_breaks_written setting rest;
+        parts = ap (with_breaks_written setting) is ∙ with_breaks_written-append setting (render before.cursor).text rest
+            ∙ ap (λ l. l ++ with_breaks_written setting rest) one.grew.parts ∙ append_assoc one.grew.prefix one.grew.rest (with_breaks_written setting rest);
         grown = one.grew.grown;
       };
       output = one.output;
       all = λ none. error_from_result after.error error one.answered none;
       stopped = one.stopped;
     }
+
+-- a call that failed, whatever text was to come after its own
+pub wrote_failed : {first : Cursor → Rendered} (next : Cursor → Rendered) {before after : Page} {error : yaml_error_t}
+    → Wrote first before after (Err error)
+    → Wrote (λ c. render_then (first c) next) before after (Err error)
+wrote_failed {first} next {before} one = wrote_cut (λ c. render_then (first c) next) (next (first before.cursor).cursor).text refl one
 
 -- the written text depends only on the text that the layout puts at the cursor
 pub wrote_as : {render : Cursor → Rendered} (other : Cursor → Rendered) {before after : Page} {answer : Result (Unit {0}) yaml_error_t}
@@ -200,28 +205,6 @@ wrote_exit {render} {before} {after} {error} {answer} is wrote =
     let p = err_from_is_err_and answer is.1 in
     subst (λ (r : Result (Unit {0}) yaml_error_t). Wrote render before after r)
     (sym (p.1 ∙ ap (λ (e : yaml_error_t). let r : Result (Unit {0}) yaml_error_t = Err e in r) p.2)) wrote
-
--- a call that failed, if the whole text begins with its own
-pub wrote_cut : {render : Cursor → Rendered} (other : Cursor → Rendered) (rest : Text) {before after : Page} {error : yaml_error_t}
-    → (other before.cursor).text ≡ (render before.cursor).text ++ rest → Wrote render before after (Err error) → Wrote other before after (Err error)
-wrote_cut {render} other rest {before} {after} {error} is one =
-    let setting : LineBreak = before.line_break in
-    record {
-      answered = one.answered;
-      ready = one.ready;
-      settings = one.settings;
-      sound_output = one.sound_output;
-      grew = record {
-        prefix = one.grew.prefix;
-        rest = one.grew.rest ++ with_breaks_written setting rest;
-        parts = ap (with_breaks_written setting) is ∙ with_breaks_written-append setting (render before.cursor).text rest
-            ∙ ap (λ l. l ++ with_breaks_written setting rest) one.grew.parts ∙ append_assoc one.grew.prefix one.grew.rest (with_breaks_written setting rest);
-        grown = one.grew.grown;
-      };
-      output = one.output;
-      all = λ none. error_from_result after.error error one.answered none;
-      stopped = one.stopped;
-    }
 
 -- for a call that failed the named text alone counts
 pub wrote_failed_as : {render : Cursor → Rendered} (other : Cursor → Rendered) {before after : Page} {error : yaml_error_t}

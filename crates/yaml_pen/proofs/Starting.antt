@@ -42,6 +42,14 @@ IsPen-begun encoding old line_break bytes whitespace indention column due empty 
       marks = λ due. sym is_due ∙ due;
     }
 
+-- the page of a pen without a byte order mark to come, of a text
+abbrev page_with : yaml_encoding_t → yaml_break_t → OutletState → Text → Bool → Bool → Page
+page_with encoding line_break bytes text whitespace indention =
+    record (page_of encoding false line_break bytes whitespace indention) {
+      text = text;
+      cursor = record { column = column_after text 0; whitespace = whitespace; indention = indention };
+    }
+
 -- its page differs from the one before by the settings alone
 pub page-begun : (encoding old : yaml_encoding_t) (line_break old_break : yaml_break_t) (bytes : OutletState)
     (whitespace indention due old_due : Bool) (page : Page)
@@ -61,17 +69,7 @@ page-begun encoding old line_break old_break bytes whitespace indention due old_
       bom_due = has_bom (seen_encoding encoding);
       line_break = unwrap_or (seen_break line_break) line_feed_break;
     } in
-    ap (λ t. record {
-      encoding = seen_encoding encoding;
-      bom_due = due;
-      line_break = unwrap_or (seen_break line_break) line_feed_break;
-      limit = bytes.limit;
-      text = t;
-      cursor = record { column = column_after t 0; whitespace = whitespace; indention = indention };
-      output = bytes.output;
-      taken = bytes.taken;
-      error = bytes.error;
-    }) text
+    ap (λ t. record (page_with encoding line_break bytes t whitespace indention) { bom_due = due }) text
     ∙ ap (λ d. record (page_of old old_due old_break bytes whitespace indention) {
       encoding = seen_encoding encoding;
       bom_due = d;
@@ -90,21 +88,6 @@ unfolding decode
 bom-decoded utf8 marks = absurd (false≢true marks)
 bom-decoded utf16_little _ = refl
 bom-decoded utf16_big _ = refl
-
--- the page after the byte order mark, of a text
-abbrev page_with : yaml_encoding_t → yaml_break_t → OutletState → Text → Bool → Bool → Page
-page_with encoding line_break bytes text whitespace indention =
-    record {
-      encoding = seen_encoding encoding;
-      bom_due = false;
-      line_break = unwrap_or (seen_break line_break) line_feed_break;
-      limit = bytes.limit;
-      text = text;
-      cursor = record { column = column_after text 0; whitespace = whitespace; indention = indention };
-      output = bytes.output;
-      taken = bytes.taken;
-      error = bytes.error;
-    }
 
 -- a pen is one after its byte order mark
 pub IsPen-bom_written : (e : Encoding) (encoding : yaml_encoding_t) (line_break : yaml_break_t) (bytes after : OutletState) (whitespace indention due : Bool)
