@@ -1,7 +1,9 @@
 -- The text of one character of a line, by its kind.
 use Rattle.yaml_scalar.proofs.Common.{ℕ, if◌then◌else◌, ◌==◌, Bool, false, not, true, ◌&&◌, ◌||◌, [], ◌++◌, ◌∷◌, refl, ◌≡◌, eqb-true, ap, sym, ◌∙◌, Text}
-use Rattle.yaml_scalar.proofs.Common.{line_feed, space, is_space, is_break, is_empty, CharacterKind, Space, Break, Other, kind_of, is_same_kind, indentation}
-use Rattle.yaml_scalar.proofs.Common.{begins_kind, step_text}
+use Rattle.yaml_scalar.proofs.Common.{Option, Result, Page, Wrote, wrote_as, is_past_width, render_text, written_as, line_feed, space, is_space, is_break}
+use Rattle.yaml_scalar.proofs.Common.{is_empty, CharacterKind, Space, Break, Other, kind_of, is_same_kind, indentation, begins_kind, step_text}
+use Rattle.yaml_base.specs.declared.errors.yaml_error_t.{yaml_error_t}
+use Rattle.yaml_scalar.specs.LineSteps.{render_line_step}
 
 space_of_kind : (c : ℕ) → Space ≡ kind_of c → space ≡ c
 space_of_kind c kind = by (is_space c) (is_break c) refl kind
@@ -11,27 +13,34 @@ space_of_kind c kind = by (is_space c) (is_break c) refl kind
     by false true e k = cc
     by false false e k = cc
 
--- a space, or a fold in its place
-pub space_text : (written : Text → Text) (past folds : Bool) (indent : ℕ) (before : CharacterKind) (c : ℕ) (rest : Text) → Space ≡ kind_of c
-    → folds ≡ (past && not (is_same_kind before Space || (is_empty rest || begins_kind Space rest)))
-    → (if folds then line_feed ∷ indentation indent else space ∷ []) ≡ step_text written past indent before (kind_of c) c rest
-space_text written past folds indent before c rest kind is =
-    ap (λ (b : Bool). if b then line_feed ∷ indentation indent else space ∷ []) is
-    ∙ ap (λ (d : ℕ). step_text written past indent before Space d rest) (space_of_kind c kind)
-    ∙ ap (λ (k : CharacterKind). step_text written past indent before k c rest) kind
+-- A character's text is written as its step.
+module _ (quoted : Bool) (limit : Option ℕ) (indent : ℕ) (before : CharacterKind) (c : ℕ) (rest : Text) where
+  abbrev Writes : Page → Page → Result (Unit {0}) yaml_error_t → Text → Type 0
+  Writes at to answer text = Wrote (render_text text) at to answer → Wrote (render_line_step (written_as quoted) limit indent before c rest) at to answer
 
--- a break, with the text before and after it
-pub break_text : (written : Text → Text) (past doubled goes_on : Bool) (indent : ℕ) (before : CharacterKind) (c : ℕ) (rest : Text) → Break ≡ kind_of c
-    → doubled ≡ (c == line_feed && not (is_same_kind before Break)) → goes_on ≡ begins_kind Break rest
-    → ((if doubled then line_feed ∷ [] else []) ++ (c ∷ (if goes_on then [] else indentation indent)))
-    ≡ step_text written past indent before (kind_of c) c rest
-break_text written past doubled goes_on indent before c rest kind twice goes =
-    ap (λ (b : Bool). (if b then line_feed ∷ [] else []) ++ (c ∷ (if goes_on then [] else indentation indent))) twice
-    ∙ ap (λ (b : Bool). (if (c == line_feed && not (is_same_kind before Break)) then line_feed ∷ [] else [])
-    ++ (c ∷ (if b then [] else indentation indent))) goes
-    ∙ ap (λ (k : CharacterKind). step_text written past indent before k c rest) kind
+  by_kind : {at to : Page} {answer : Result (Unit {0}) yaml_error_t} {text : Text} (kind : CharacterKind) → kind ≡ kind_of c
+      → text ≡ step_text (written_as quoted) (is_past_width limit at.cursor) indent before kind c rest → Writes at to answer text
+  by_kind {at} kind is same =
+      wrote_as (render_line_step (written_as quoted) limit indent before c rest) (ap (λ (t : Text). render_text t at.cursor)
+      (same ∙ ap (λ (k : CharacterKind). step_text (written_as quoted) (is_past_width limit at.cursor) indent before k c rest) is))
 
--- any other character
-pub other_text : (written : Text → Text) (past : Bool) (indent : ℕ) (before : CharacterKind) (c : ℕ) (rest : Text) → Other ≡ kind_of c
-    → written (c ∷ []) ≡ step_text written past indent before (kind_of c) c rest
-other_text written past indent before c rest kind = ap (λ (k : CharacterKind). step_text written past indent before k c rest) kind
+  -- a space, or a fold in its place
+  pub space_written : {at to : Page} {answer : Result (Unit {0}) yaml_error_t} (folds : Bool) → Space ≡ kind_of c
+      → folds ≡ (is_past_width limit at.cursor && not (is_same_kind before Space || (is_empty rest || begins_kind Space rest)))
+      → Writes at to answer (if folds then line_feed ∷ indentation indent else space ∷ [])
+  space_written {at} folds kind is =
+      by_kind Space kind (ap (λ (b : Bool). if b then line_feed ∷ indentation indent else space ∷ []) is
+      ∙ ap (λ (d : ℕ). step_text (written_as quoted) (is_past_width limit at.cursor) indent before Space d rest) (space_of_kind c kind))
+
+  -- a break, with the text before and after it
+  pub break_written : {at to : Page} {answer : Result (Unit {0}) yaml_error_t} (doubled goes_on : Bool) → Break ≡ kind_of c
+      → doubled ≡ (c == line_feed && not (is_same_kind before Break)) → goes_on ≡ begins_kind Break rest
+      → Writes at to answer ((if doubled then line_feed ∷ [] else []) ++ (c ∷ (if goes_on then [] else indentation indent)))
+  break_written doubled goes_on kind twice goes =
+      by_kind Break kind (ap (λ (b : Bool). (if b then line_feed ∷ [] else []) ++ (c ∷ (if goes_on then [] else indentation indent))) twice
+      ∙ ap (λ (b : Bool). (if (c == line_feed && not (is_same_kind before Break)) then line_feed ∷ [] else [])
+      ++ (c ∷ (if b then [] else indentation indent))) goes)
+
+  -- any other character
+  pub other_written : {at to : Page} {answer : Result (Unit {0}) yaml_error_t} → Other ≡ kind_of c → Writes at to answer (written_as quoted (c ∷ []))
+  other_written kind = by_kind Other kind refl
