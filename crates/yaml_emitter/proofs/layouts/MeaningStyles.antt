@@ -10,16 +10,16 @@ use Rattle.yaml_base.specs.{Places.is_root, scalars.BlockHeader.begins_blank}
 -- the condition of a style on a value
 abbrev pub Allows : Allowances → (flow : Bool) → ScalarStyle → Type 0
 Allows allowed flow any_style = ⊥
-Allows allowed flow plain = (if flow then allowed.flow_plain else allowed.block_plain) ≡ true
-Allows allowed flow single_quoted = allowed.single_quoted ≡ true
+Allows allowed flow plain = (if flow then allowed.flow_plain_allowed else allowed.block_plain_allowed) ≡ true
+Allows allowed flow single_quoted = allowed.single_quoted_allowed ≡ true
 Allows allowed flow double_quoted = Unit {0}
-Allows allowed flow literal = allowed.block ≡ true
-Allows allowed flow folded = allowed.block ≡ true
+Allows allowed flow literal = allowed.block_allowed ≡ true
+Allows allowed flow folded = allowed.block_allowed ≡ true
 
 quoted_allowed : (allowed : Allowances) (flow : Bool) → Allows allowed flow (quoted_style allowed)
-quoted_allowed allowed flow = go allowed.single_quoted refl
+quoted_allowed allowed flow = go allowed.single_quoted_allowed refl
   where
-    go : (b : Bool) → allowed.single_quoted ≡ b → Allows allowed flow (if b then single_quoted else double_quoted)
+    go : (b : Bool) → allowed.single_quoted_allowed ≡ b → Allows allowed flow (if b then single_quoted else double_quoted)
     go true e = e
     go false e = tt
 
@@ -34,7 +34,7 @@ plain_allowed allowed flow true h = h refl
 plain_allowed allowed flow false h = quoted_allowed allowed flow
 
 fitting_allowed : (allowed : Allowances) (flow plain_fits block_fits : Bool) (style : ScalarStyle)
-    → (plain_fits ≡ true → Allows allowed flow plain) → (block_fits ≡ true → allowed.block ≡ true)
+    → (plain_fits ≡ true → Allows allowed flow plain) → (block_fits ≡ true → allowed.block_allowed ≡ true)
     → Allows allowed flow (fitting_style allowed plain_fits block_fits style)
 fitting_allowed allowed flow plain_fits block_fits any_style p b = tt
 fitting_allowed allowed flow plain_fits block_fits plain p b = plain_allowed allowed flow plain_fits p
@@ -49,7 +49,7 @@ pub chosen_allowed : (allowed : Allowances) (asked : ScalarStyle) (empty tag_wri
 chosen_allowed allowed asked empty tag_written plain_implicit quoted_implicit flow simple canonical =
     fitting_allowed allowed flow
     (fits_plain allowed empty tag_written plain_implicit flow simple)
-    (allowed.block && not flow && not simple)
+    (allowed.block_allowed && not flow && not simple)
     (requested_style (canonical || (simple && allowed.multiline)) asked)
     (λ e. (and_parts _ _ (and_parts _ _ e).0).0)
     (λ e. (and_parts _ _ (and_parts _ _ e).0).0)
@@ -59,7 +59,7 @@ pub allowed_with_single : (double_quotes : Bool) (allowed : Allowances) (flow : 
     → Allows (allowed_by_quotes double_quotes allowed) flow style → Allows allowed flow style
 allowed_with_single double_quotes allowed flow any_style h = h
 allowed_with_single double_quotes allowed flow plain h = h
-allowed_with_single double_quotes allowed flow single_quoted h = (and_parts (not double_quotes) allowed.single_quoted h).1
+allowed_with_single double_quotes allowed flow single_quoted h = (and_parts (not double_quotes) allowed.single_quoted_allowed h).1
 allowed_with_single double_quotes allowed flow double_quoted h = h
 allowed_with_single double_quotes allowed flow literal h = h
 allowed_with_single double_quotes allowed flow folded h = h
@@ -148,9 +148,10 @@ choice_allowed s place simple content = by (is_literal content.style && s.litera
         let both = and_parts (is_literal content.style) s.literal_blanks e in
         literal_under s place.in_flow content.value (allowed true)
         (fits_plain (allowed true) (is_empty content.value) tag content.plain_implicit place.in_flow simple)
-        (s.canonical || (simple && (allowed true).multiline)) ((allowed true).block && not place.in_flow && not simple) asked
+        (s.canonical || (simple && (allowed true).multiline)) ((allowed true).block_allowed && not place.in_flow && not simple) asked
         (asked_literal (is_root place) s.portable (begins_blank content.value) content.style both.0)
         (λ fits. record {
-          literal = (and_parts (allowed true).block (not place.in_flow) (and_parts ((allowed true).block && not place.in_flow) (not simple) fits).0).0;
+          literal = (and_parts (allowed true).block_allowed (not place.in_flow)
+              (and_parts ((allowed true).block_allowed && not place.in_flow) (not simple) fits).0).0;
           block = λ off. absurd (true≢false (sym both.1 ∙ off));
         })

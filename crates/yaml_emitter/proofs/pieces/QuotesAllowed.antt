@@ -24,16 +24,16 @@ alike_same found other same asked empty tag_written plain_implicit quoted_implic
 
 -- the allowances that were found, with other single quotes and block styles
 abbrev pub found_with : (single_quoted block : Bool) → Allowances → Allowances
-found_with single_quoted block found = record found { single_quoted = single_quoted; block = block }
+found_with single_quoted block found = record found { single_quoted_allowed = single_quoted; block_allowed = block }
 
 -- they are exactly those of a scalar's value
 pub exact_under : (s : Effective) (found : Allowances) (content : Scalar) (single_quoted block : Bool) → found ≡ allowances (charset_of s) content.value
-    → single_quoted ≡ (not s.double_quotes && found.single_quoted)
-    → block ≡ (if is_literal content.style && s.literal_blanks then allows_literal (charset_of s) content.value else found.block)
+    → single_quoted ≡ (not s.double_quotes && found.single_quoted_allowed)
+    → block ≡ (if is_literal content.style && s.literal_blanks then allows_literal (charset_of s) content.value else found.block_allowed)
     → found_with single_quoted block found ≡ allowed_under s content
 exact_under s found content single_quoted block is quotes blocks =
     let charset : Charset = charset_of s in
     ap (λ (x : Bool). found_with x block found) quotes
-    ∙ ap (λ (x : Bool). found_with (not s.double_quotes && found.single_quoted) x found) blocks
-    ∙ ap (λ (a : Allowances). found_with (not s.double_quotes && a.single_quoted)
-    (if is_literal content.style && s.literal_blanks then allows_literal charset content.value else a.block) a) is
+    ∙ ap (λ (x : Bool). found_with (not s.double_quotes && found.single_quoted_allowed) x found) blocks
+    ∙ ap (λ (a : Allowances). found_with (not s.double_quotes && a.single_quoted_allowed)
+    (if is_literal content.style && s.literal_blanks then allows_literal charset content.value else a.block_allowed) a) is

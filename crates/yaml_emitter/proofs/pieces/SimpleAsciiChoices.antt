@@ -119,7 +119,7 @@ simple_ascii_choice s place simple {content} is =
     (never_literal s seen is.asked)
     ∙ ap (λ (a : Allowances). by (allowed_by_quotes s.double_quotes a) (is_empty seen.value) tag seen.plain_implicit s.canonical) allowed
     ∙ ap (λ (e : Bool). by others e tag seen.plain_implicit s.canonical)
-    (filled seen.value charset (ap (λ (a : Allowances). a.flow_plain) allowed))
+    (filled seen.value charset (ap (λ (a : Allowances). a.flow_plain_allowed) allowed))
     ∙ ap (λ (t : Option Text). by others false (is_some t) seen.plain_implicit s.canonical) (no_tag is)
     ∙ ap (λ (i : Bool). by others false false i s.canonical) is.implicit
     ∙ ap (λ (b : Bool). by others false false true b) is.readable

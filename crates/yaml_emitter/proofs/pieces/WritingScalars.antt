@@ -140,7 +140,8 @@ module _ (settings : EffectiveSettings) (in_flow simple : Bool) (value : Text) {
 
 quoted_fits : (allowed : Allowances) (value : Text) (simple : Bool) → style_fits (quoted_style allowed) value simple ≡ true
 quoted_fits allowed value simple =
-    elim allowed.single_quoted as (λ (b : Bool). style_fits (if b then single_quoted else double_quoted) value simple ≡ true) [ true ↦ refl | false ↦ refl ]
+    elim allowed.single_quoted_allowed as (λ (b : Bool). style_fits (if b then single_quoted else double_quoted) value simple ≡ true)
+    [ true ↦ refl | false ↦ refl ]
 
 block_or_double : (style : ScalarStyle) (fits : Bool) (value : Text) (simple : Bool)
     → style_fits style value simple ≡ (not (is_empty value) && not simple)
@@ -176,7 +177,7 @@ pub chosen_fits : (s : Effective) (place : Place) (simple : Bool) (content : Sca
 chosen_fits s place simple content =
     let allowed = allowed_under s content in
     fitting_fits allowed _ _ _ content.value simple
-    (λ fits. both allowed.block (not place.in_flow) (not simple) (not (is_empty content.value)) fits
+    (λ fits. both allowed.block_allowed (not place.in_flow) (not simple) (not (is_empty content.value)) fits
     (λ block. literal_some (charset_of s) content.value (literal_allowed s content block)))
 
 module _ (s : Effective) (directives : List TagDirective) (place : Place) (simple : Bool) (content : Scalar) where

@@ -1,7 +1,8 @@
 //! Whether the last document that was written is still open.
 
 ghost use Rattle.std.specs.Prelude.{◌≡◌, ◌==◌, pos, not, if◌then◌else◌};
-ghost use Rattle.yaml_base.specs.scalars.BlockHeader.{Ending, ending_open_ended};
+ghost use Rattle.yaml_base.specs.declared.scalars.Ending.{Ending};
+ghost use Rattle.yaml_base.specs.scalars.BlockHeader.{ending_open_ended};
 ghost use Rattle.yaml_emitter.specs.WrittenPieces.{seen_open_ended};
 
 /// The construct that an explicit `...` would have to close.

@@ -9,7 +9,7 @@ ghost use Rattle.yaml_base.specs.Seen.{seen_scalar_style};
 ghost use Rattle.yaml_base.specs.Settings as in_force;
 ghost use Rattle.yaml_base.specs.scalars.Style.{is_literal, lacks_tag_and_flags};
 ghost use Rattle.yaml_pen.specs.Page.{IsReady};
-ghost use Rattle.yaml_scalar.specs.ScalarData.{ChooseAlike, seen_choice, seen_data};
+ghost use Rattle.yaml_scalar.specs.ScalarData.{ChooseAlike};
 ghost use Rattle.yaml_emitter.specs.BorrowedTexts.{seen_scalar};
 ghost use Rattle.yaml_emitter.specs.Given.{seen_effective};
 ghost use Rattle.yaml_emitter.specs.Places.{seen_place};
@@ -64,7 +64,8 @@ fn choose(
     requires flags { lacks_tag_and_flags tag_written content.now.plain_implicit content.now.quoted_implicit ≡ false }
     ensures ok { IsOk result }
     ensures choice { IfOk result (λ given.
-        seen_choice given ≡ choice_of (seen_effective site.now.settings.now) (seen_place site.now.place) site.now.simple (seen_scalar content.now)) }
+        record { style = seen_scalar_style given.0; bare = given.1 }
+        ≡ choice_of (seen_effective site.now.settings.now) (seen_place site.now.place) site.now.simple (seen_scalar content.now)) }
 {
     let settings = site.settings;
     let asked = style_asked(site, content);
@@ -90,7 +91,7 @@ fn choose(
 /// Returns the styles that a value allows, as far as the choice depends on them.
 #[inline(always)]
 fn allowed_styles(settings: &EffectiveSettings, content: &ScalarContent) -> scalar_data_t
-    ensures { ChooseAlike (seen_data result) (allowed_under (seen_effective settings.now) (seen_scalar content.now)) }
+    ensures { ChooseAlike result (allowed_under (seen_effective settings.now) (seen_scalar content.now)) }
 {
     // The settings change the result of an analysis: double quotes replace single ones, or blanks are literal.
     if settings.double_quotes || are_blanks_literal(settings, content.style) {
@@ -106,7 +107,7 @@ fn allowed_styles(settings: &EffectiveSettings, content: &ScalarContent) -> scal
 /// Returns exactly the styles that a value allows: no single quotes if double ones replace them; and if blanks are literal,
 /// block styles if literal takes the value.
 fn exactly_allowed(settings: &EffectiveSettings, content: &ScalarContent) -> scalar_data_t
-    ensures { seen_data result ≡ allowed_under (seen_effective settings.now) (seen_scalar content.now) }
+    ensures { result ≡ allowed_under (seen_effective settings.now) (seen_scalar content.now) }
 {
     let data = analyze_scalar(
         content.value,
