@@ -12,7 +12,7 @@ static int32_t from_json(const char *text, uint8_t *out, size_t capacity, struct
 
 int main(void) {
     static const char text[] = "{\"country\": \"no\", \"ports\": [80, 1e9], \"proxy\": null}";
-    static const struct yaml_c_json_settings in_flow = {.flow = 1, .width = -1};
+    static const struct yaml_c_json_settings in_flow = {.values = {.flow = 1, .width = -1}};
     uint8_t line[80];
     struct yaml_c_result result;
     if (from_json(text, NULL, 0, &result) != YAML_TOO_SMALL) return 1;

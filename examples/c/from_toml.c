@@ -10,7 +10,7 @@ static int32_t from_toml(const char *text, uint8_t *out, size_t capacity, struct
     return yaml_from_toml((const uint8_t *)text, strlen(text), NULL, out, capacity, result);
 }
 
-static void show_refusal(const char *text, const struct yaml_c_toml_settings *settings) {
+static void show_refusal(const char *text, const struct yaml_c_value_settings *settings) {
     struct yaml_c_result result;
     int32_t status = yaml_from_toml((const uint8_t *)text, strlen(text), settings, NULL, 0, &result);
     printf("line %" PRIu64 ", column %" PRIu64 ": %s\n", result.line, result.column, yaml_status_text(status));
@@ -18,7 +18,7 @@ static void show_refusal(const char *text, const struct yaml_c_toml_settings *se
 
 int main(void) {
     static const char text[] = "country = \"no\" # a code\n[server]\nports = [80, 1e9]\nopens = 07:32:00\n";
-    static const struct yaml_c_toml_settings in_flow = {.flow = 1, .no_portable = 1}, one_level = {.depth = 1};
+    static const struct yaml_c_value_settings in_flow = {.flow = 1, .no_portable = 1}, one_level = {.depth = 1};
     uint8_t line[80];
     struct yaml_c_result result;
     if (from_toml(text, NULL, 0, &result) != YAML_TOO_SMALL) return 1;

@@ -35,7 +35,7 @@ static int32_t give_document(const char *text) {
 
 int main(void) {
     static const char *texts[] = {"{\"country\": \"no\", \"ports\": [80]}", "[1e9]", "[1,\n 2 3]"};
-    struct yaml_c_settings settings = yaml_c_value_settings();
+    struct yaml_c_settings settings = yaml_c_settings_for_values();
     int32_t status = YAML_DONE;
     if (yaml_c_emitter_new(&settings, &emitter) != YAML_DONE || !give(YAML_C_STREAM_START)) return 1;
     for (size_t i = 0; status == YAML_DONE && i < sizeof texts / sizeof *texts; i++) status = give_document(texts[i]);

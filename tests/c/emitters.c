@@ -218,7 +218,7 @@ static void nulls(void) {
 static void give_json(const char *text, int32_t status, uint32_t line, uint32_t column) {
     static struct yaml_c_json_settings by;
     int32_t got;
-    by.depth = 2;
+    by.values.depth = 2;
     memset(&result, 0xff, sizeof result);
     got = yaml_c_emitter_emit_json(emitter, (const uint8_t *)text, strlen(text), &by, &result);
     calls++;
@@ -229,7 +229,7 @@ static void give_json(const char *text, int32_t status, uint32_t line, uint32_t 
 
 /* JSON within events: as a value, as an item, in canonical form, and texts that aren't JSON. */
 static void json(void) {
-    settings = yaml_c_value_settings();
+    settings = yaml_c_settings_for_values();
     begin();
     give(YAML_C_MAPPING_START, "", YAML_DONE, 0);
     give(YAML_C_SCALAR, "a", YAML_DONE, 0);

@@ -78,13 +78,13 @@ static int32_t run(size_t capacity) {
 }
 
 static int32_t from_json(size_t capacity) {
-    static const struct yaml_c_json_settings settings = {0, 0, 0, 0, 0, 0, 0, 0};
+    static const struct yaml_c_json_settings settings = {{0, 0, 0, 0, 0, 0, 0, 0, 0, 0, 0}, 0};
     static const char text[] = "{\"first\": [1, {\"a\\tb\": \"" LETTERS "\"}], \"second\": \"" LETTERS LETTERS "\"}";
     return yaml_from_json((const uint8_t *)text, sizeof text - 1, &settings, out, capacity, &result);
 }
 
 static int32_t from_toml(size_t capacity) {
-    static const struct yaml_c_toml_settings settings = {0, 0, 0, 0, 0, 0, 0};
+    static const struct yaml_c_value_settings settings = {0, 0, 0, 0, 0, 0, 0, 0, 0, 0, 0};
     static const char text[] = "first = [1, {\"a\\tb\" = \"" LETTERS "\"}]\n[second]\nthird.fourth = \"" LETTERS LETTERS "\"\n";
     return yaml_from_toml((const uint8_t *)text, sizeof text - 1, &settings, out, capacity, &result);
 }
@@ -117,7 +117,7 @@ static int32_t give_kind(struct yaml_c_emitter *kept, uint32_t kind) {
 static int32_t json_in_stream(size_t capacity) {
     static const char text[] = "{\"first\": [1, {\"a\\tb\": \"" LETTERS "\"}], \"second\": \"" LETTERS LETTERS "\"}";
     struct yaml_c_emitter kept;
-    struct yaml_c_settings settings = yaml_c_value_settings();
+    struct yaml_c_settings settings = yaml_c_settings_for_values();
     int32_t status = yaml_c_emitter_new(&settings, &kept);
     memset(&result, 0, sizeof result);
     if (status != YAML_DONE) return status;
@@ -297,7 +297,7 @@ static int end_document(struct yaml_c_emitter *kept, const char *text, int in_li
  * has failed. Counts both. */
 static void refuse_each_of_text(const char *text, int in_list, int *again, int *failed) {
     static uint8_t whole[sizeof out];
-    struct yaml_c_settings settings = yaml_c_value_settings();
+    struct yaml_c_settings settings = yaml_c_settings_for_values();
     struct yaml_c_emitter kept;
     size_t length = 0;
     *again = *failed = 0;

@@ -241,28 +241,43 @@ static void json_settings(void) {
     memset(&given, 0, sizeof given);
     expect_json("the defaults", text, given, YAML_DONE, 0, 0, "---\na:\n  - 1\n  - b: 2\n");
     expect_json("no line is folded", "\"aaaaaaa " EIGHTY " iiii\"", given, YAML_DONE, 0, 0, "--- aaaaaaa " EIGHTY " iiii\n");
-    given.width = 80;
+    given.values.width = 80;
     expect_json("a space in column 80", "\"aaaaaa " EIGHTY " iiii\"", given, YAML_DONE, 0, 0, "--- aaaaaa " EIGHTY " iiii\n");
     expect_json("a space in column 81", "\"aaaaaaa " EIGHTY " iiii\"", given, YAML_DONE, 0, 0, "--- aaaaaaa " EIGHTY "\n  iiii\n");
-    given.width = 0;
-    given.indent = 4;
+    given.values.width = 0;
+    given.values.indent = 4;
     expect_json("an indent of 4", text, given, YAML_DONE, 0, 0, "---\na:\n    - 1\n    -   b: 2\n");
-    given.no_indented_sequences = 1;
+    given.values.no_indented_sequences = 1;
     expect_json("and sequences that aren't indented", text, given, YAML_DONE, 0, 0, "---\na:\n- 1\n-   b: 2\n");
-    given.no_portable = 1;
+    given.values.no_portable = 1;
     expect_json("and not portable", text, given, YAML_DONE, 0, 0, "a:\n- 1\n-   b: 2\n");
-    given.flow = 1;
+    given.values.flow = 1;
     expect_json("and in flow", text, given, YAML_DONE, 0, 0, "{a: [1, {b: 2}]}\n");
     memset(&given, 0, sizeof given);
     expect_json("single quotes", "[\"no\", \"a: b\"]", given, YAML_DONE, 0, 0, "---\n- 'no'\n- 'a: b'\n");
-    given.double_quotes = 1;
+    given.values.double_quotes = 1;
     expect_json("double quotes", "[\"no\", \"a: b\"]", given, YAML_DONE, 0, 0, "---\n- \"no\"\n- \"a: b\"\n");
-    given.double_quotes = 0;
-    given.width = 20;
+    memset(&given, 0, sizeof given);
+    expect_json("characters past ASCII", "\"\xc3\xa9\"", given, YAML_DONE, 0, 0, "--- \xc3\xa9\n");
+    given.values.no_unicode = 1;
+    expect_json("characters past ASCII escaped", "\"\xc3\xa9\"", given, YAML_DONE, 0, 0, "--- \"\\xE9\"\n");
+    memset(&given, 0, sizeof given);
+    given.values.canonical = 1;
+    expect_json("canonical form", "[1]", given, YAML_DONE, 0, 0, "---\n[\n  !!int \"1\",\n]\n");
+    memset(&given, 0, sizeof given);
+    given.values.line_breaks_1_2 = 1;
+    given.values.no_portable = 1;
+    expect_json("line breaks of 1.2", "\"\\u2028\"", given, YAML_DONE, 0, 0, "\"\\L\"\n");
+    memset(&given, 0, sizeof given);
+    expect_json("a blank before a break", "[\"a \\nb\"]", given, YAML_DONE, 0, 0, "---\n- |-\n  a \n  b\n");
+    given.values.no_literal_blanks = 1;
+    expect_json("a blank before a break in quotes", "[\"a \\nb\"]", given, YAML_DONE, 0, 0, "---\n- \"a \\nb\"\n");
+    memset(&given, 0, sizeof given);
+    given.values.width = 20;
     expect_json("a width of 20", words, given, YAML_DONE, 0, 0, "--- aaaa bbbb cccc dddd\n  eeee ffff\n");
     given.allow_duplicates = 1;
     expect_json("a name twice, which is allowed", "{\"a\":1,\"a\":2}", given, YAML_DONE, 0, 0, "---\na: 1\na: 2\n");
-    given.depth = 2;
+    given.values.depth = 2;
     expect_json("as deep as may be", "[[1]]", given, YAML_DONE, 0, 0, "---\n- - 1\n");
 }
 
@@ -279,13 +294,13 @@ static void json_refused(void) {
     expect_json("no UTF-8 after JSON", "1 \xf0", given, YAML_NOT_JSON, 1, 3, "");
     expect_json("no UTF-8 after JSON and a text that is none", "[1] ]\xf0", given, YAML_NOT_JSON, 1, 6, "");
     expect_json("no UTF-8 after a name twice", "{\"a\":1,\"a\":2}\xf0", given, YAML_NOT_JSON, 1, 14, "");
-    given.depth = 1;
+    given.values.depth = 1;
     expect_json("too deep", "[[1]]", given, YAML_TOO_DEEP, 1, 2, "");
     expect_json("too deep in the second line", "[1,\n {}]", given, YAML_TOO_DEEP, 2, 2, "");
 }
 
 /* Checks the results of a call of yaml_from_toml with a buffer of `capacity` bytes, if the whole YAML has `length` bytes. */
-static void expect_toml(const char *name, const char *text, struct yaml_c_toml_settings given, size_t capacity, int32_t status, size_t length,
+static void expect_toml(const char *name, const char *text, struct yaml_c_value_settings given, size_t capacity, int32_t status, size_t length,
                         uint64_t line, uint64_t column, const char *written) {
     size_t i, size = strlen(written);
     int32_t got;
@@ -302,17 +317,17 @@ static void expect_toml(const char *name, const char *text, struct yaml_c_toml_s
            (unsigned long)result.line, (unsigned long)result.column, (int)result.length, (const char *)out);
 }
 
-static void toml_done(const char *name, const char *text, struct yaml_c_toml_settings given, const char *written) {
+static void toml_done(const char *name, const char *text, struct yaml_c_value_settings given, const char *written) {
     expect_toml(name, text, given, sizeof out, YAML_DONE, strlen(written), 0, 0, written);
 }
 
-static void toml_stops(const char *name, const char *text, struct yaml_c_toml_settings given, int32_t status, uint64_t line, uint64_t column) {
+static void toml_stops(const char *name, const char *text, struct yaml_c_value_settings given, int32_t status, uint64_t line, uint64_t column) {
     expect_toml(name, text, given, sizeof out, status, 0, line, column, "");
 }
 
 static void toml_settings(void) {
     static const char text[] = "a = [1, {b = 2}]\n", yaml[] = "---\na:\n  - 1\n  - b: 2\n";
-    struct yaml_c_toml_settings given;
+    struct yaml_c_value_settings given;
     memset(&given, 0, sizeof given);
     toml_done("the defaults", text, given, yaml);
     expect_toml("a buffer of just its length", text, given, sizeof yaml - 1, YAML_DONE, sizeof yaml - 1, 0, 0, yaml);
@@ -338,7 +353,7 @@ static void toml_settings(void) {
 }
 
 static void toml_refused(void) {
-    struct yaml_c_toml_settings given;
+    struct yaml_c_value_settings given;
     memset(&given, 0, sizeof given);
     toml_stops("no TOML", "a = 1\nb c = 1\n", given, YAML_NOT_TOML, 2, 3);
     toml_stops("no UTF-8", "a = \"\xff\"\n", given, YAML_NOT_TOML, 1, 6);
@@ -362,9 +377,9 @@ static void toml_refused(void) {
 static int is_deep_json(size_t levels, uint8_t *text, uint8_t *brackets) {
     struct yaml_c_json_settings given;
     memset(&given, 0, sizeof given);
-    given.flow = 1;
-    given.width = -1;
-    given.depth = levels;
+    given.values.flow = 1;
+    given.values.width = -1;
+    given.values.depth = levels;
     memset(text, '[', levels);
     memset(text + levels, ']', levels);
     return yaml_from_json(text, 2 * levels, &given, brackets, 2 * levels + 5, &result) == YAML_DONE && memcmp(brackets, "--- [[", 6) == 0
@@ -374,7 +389,7 @@ static int is_deep_json(size_t levels, uint8_t *text, uint8_t *brackets) {
 /* Tables in tables, 6,400 deep, by yaml_from_toml: 80 in braces, each after a key of 80 parts. */
 static int is_deep_toml(uint8_t *text, uint8_t *written) {
     const size_t tables = 80, parts = 80, levels = 6400, length = 5 * levels + 7;
-    struct yaml_c_toml_settings given;
+    struct yaml_c_value_settings given;
     uint8_t *end = text;
     size_t i;
     memset(&given, 0, sizeof given);
@@ -498,8 +513,8 @@ static void null_json(void) {
 
 static void null_toml(void) {
     static const uint8_t text[] = "a = 1\n";
-    static const struct yaml_c_toml_settings zeros = {0, 0, 0, 0, 0, 0, 0};
-    const struct yaml_c_toml_settings *defaults = NULL;
+    static const struct yaml_c_value_settings zeros = {0, 0, 0, 0, 0, 0, 0, 0, 0, 0, 0};
+    const struct yaml_c_value_settings *defaults = NULL;
     expect_null("no TOML", yaml_from_toml(NULL, 0, defaults, out, sizeof out, &result), YAML_DONE, "--- {}\n");
     expect_null("no settings of TOML", yaml_from_toml(text, 6, NULL, out, sizeof out, &result), YAML_DONE, "---\na: 1\n");
     expect_null("no room for TOML's YAML", yaml_from_toml(text, 6, defaults, NULL, 0, &result), YAML_TOO_SMALL, "---\na: 1\n");

@@ -103,7 +103,7 @@ none_open canonical in_flow taken now levels some none =
 over_emitter : (settings : JsonSettings) (text : List ℕ) (before : State) (now : WriterState) (result : Result (Unit {0}) JsonError) → IsUtf8 text
     → before.error ≡ None → before.closed ≡ false → WritesText settings text (writer_over before) result now
     → (is_writers_error result ≡ true → now.emitter.error ≡ None → length now.levels ≢ 0)
-    → GaveJson settings.depth settings.unique_names settings.flow text (Answered result) before (closed_after result now.emitter)
+    → GaveJson settings.values.depth settings.unique_names settings.values.flow text (Answered result) before (closed_after result now.emitter)
 over_emitter settings text before now (Ok done) utf8 none unclosed writes some =
     let wrote = writes.written in
     record {
@@ -133,7 +133,7 @@ over_emitter settings text before now (Err error) utf8 none unclosed writes some
       closes = refl;
       lasts = lasts (writer_over before) now error none still writes.sound;
       begun = λ closed. let by = closed_by (Err error) now.emitter still closed in
-          none_open before.given.canonical settings.flow stops.taken now.levels stops.usable.levels (some by.0 by.1);
+          none_open before.given.canonical settings.values.flow stops.taken now.levels stops.usable.levels (some by.0 by.1);
     })
 
 -- Nothing changed, since memory ran out before an event was given.
@@ -142,20 +142,20 @@ same_emitter : (settings : JsonSettings) (text : List ℕ) (before : State) (now
     → now.emitter ≡ before
 same_emitter settings text before now (Err (errors.Emitter code)) writes is sound none =
     ap (λ (w : WriterState). w.emitter) (writes.unopened refl sound (omega (arith, none)))
-same_emitter settings text before now (Err (errors.NotJson line column says)) writes is sound none = absurd (true≢false (sym is))
-same_emitter settings text before now (Err (errors.Marked line column)) writes is sound none = absurd (true≢false (sym is))
-same_emitter settings text before now (Err (errors.TooDeep line column)) writes is sound none = absurd (true≢false (sym is))
-same_emitter settings text before now (Err (errors.DuplicateName line column)) writes is sound none = absurd (true≢false (sym is))
+same_emitter settings text before now (Err (errors.NotJson position says)) writes is sound none = absurd (true≢false (sym is))
+same_emitter settings text before now (Err (errors.Marked position)) writes is sound none = absurd (true≢false (sym is))
+same_emitter settings text before now (Err (errors.TooDeep position)) writes is sound none = absurd (true≢false (sym is))
+same_emitter settings text before now (Err (errors.DuplicateName position)) writes is sound none = absurd (true≢false (sym is))
 same_emitter settings text before now (Ok done) writes is sound none = absurd (true≢false (sym is))
 
 by_outcome : (settings : JsonSettings) (text : List ℕ) (before after : State) (now : WriterState) (result : Result (Unit {0}) JsonError) (outcome : TextGiving)
     → IsUtf8 text → before.error ≡ None → before.closed ≡ false → WritesText settings text (writer_over before) result now
     → SettlesAs result (length now.levels) outcome now.emitter after
-    → GaveJson settings.depth settings.unique_names settings.flow text outcome before after
+    → GaveJson settings.values.depth settings.unique_names settings.values.flow text outcome before after
 by_outcome settings text before after now result (Answered same) utf8 none unclosed writes settles =
-    subst (λ (e : State). GaveJson settings.depth settings.unique_names settings.flow text (Answered same) before e) (sym settles.1)
+    subst (λ (e : State). GaveJson settings.values.depth settings.unique_names settings.values.flow text (Answered same) before e) (sym settles.1)
     (subst (λ (r : Result (Unit {0}) JsonError).
-    GaveJson settings.depth settings.unique_names settings.flow text (Answered r) before (closed_after result now.emitter))
+    GaveJson settings.values.depth settings.unique_names settings.values.flow text (Answered r) before (closed_after result now.emitter))
     (sym settles.0) (over_emitter settings text before now result utf8 none unclosed writes settles.2))
 by_outcome settings text before after now result NoMemory utf8 none unclosed writes settles =
     settles.3 ∙ same_emitter settings text before now result writes settles.0 settles.1 settles.2
@@ -164,7 +164,7 @@ by_outcome settings text before after now result NoMemory utf8 none unclosed wri
 pub gave_json : (settings : JsonSettings) (text : List ℕ) (before stopped after : State) (was now : WriterState) (result : Result (Unit {0}) JsonError)
     (levels : ℕ) (outcome : TextGiving) → was ≡ writer_over before → now.emitter ≡ stopped → levels ≡ length now.levels
     → SettlesAs result levels outcome stopped after → IsUtf8 text → before.error ≡ None → before.closed ≡ false → WritesText settings text was result now
-    → GaveJson settings.depth settings.unique_names settings.flow text outcome before after
+    → GaveJson settings.values.depth settings.unique_names settings.values.flow text outcome before after
 gave_json settings text before stopped after was now result levels outcome over back depth settles utf8 none unclosed writes =
     by_outcome settings text before after now result outcome utf8 none unclosed
     (subst (λ (w : WriterState). WritesText settings text w result now) over writes)

@@ -7,6 +7,6 @@ use Rattle.yaml_json.specs.{WritingCalls.ReturnsYaml, declared.error.JsonError.J
 
 pub right_answer : {A : Type 0} (settings : JsonSettings) (text : List ℕ) (result : Result (Vec ℕ A) JsonError) → IsUtf8 text
     → ReturnsYaml settings text result
-    → IsAnswer (seen_settings settings.writer) settings.flow settings.depth settings.unique_names text (answer_of result)
+    → IsAnswer (seen_settings settings.values.emitter) settings.values.flow settings.values.depth settings.unique_names text (answer_of result)
 right_answer settings text (Ok bytes) utf8 returned = (utf8, returned)
 right_answer settings text (Err error) utf8 returned = (utf8, returned)

@@ -35,9 +35,9 @@ IsReading mode bytes (Some error) =
 -- too deep, and 7 if a map has a key twice, all three with the place; 3 if memory ran out.
 abbrev pub IsTold : Option ReadError → (status : ℤ) → CallResult → Type 0
 IsTold None status report = (status ≡ pos 0) × (report ≡ nothing_reported)
-IsTold (Some (errors.NotCanonical line column)) status report = (status ≡ pos 10) × (report ≡ at_place line column)
-IsTold (Some (errors.TooDeep line column)) status report = (status ≡ pos 6) × (report ≡ at_place line column)
-IsTold (Some (errors.DuplicateKey line column)) status report = (status ≡ pos 7) × (report ≡ at_place line column)
+IsTold (Some (errors.NotCanonical position)) status report = (status ≡ pos 10) × (report ≡ at_place position)
+IsTold (Some (errors.TooDeep position)) status report = (status ≡ pos 6) × (report ≡ at_place position)
+IsTold (Some (errors.DuplicateKey position)) status report = (status ≡ pos 7) × (report ≡ at_place position)
 IsTold (Some errors.NotNumbered) status report = ⊥
 IsTold (Some errors.Memory) status report = (status ≡ pos 3) × (report ≡ nothing_reported)
 

@@ -4,6 +4,7 @@ use Rattle.yaml_value.specs.declared.keys.Keys.{Keys}
 use Rattle.yaml_json_value.specs.Typed.{ExplainsValueError, IsCanonicalOf}
 use Rattle.yaml_json_value.specs.declared.error.ValueError.{ValueError}
 use Rattle.yaml_json_value.specs.declared.error.ValueError.TheVariants as errors
+use Rattle.yaml_base.specs.declared.places.Position.{Position}
 use Rattle.yaml_c.specs.Answers.{CallResults, CopiesToCaller, at_place, results_done, results_failed}
 use Rattle.yaml_c.specs.CanonicalAnswers.{keys_given}
 use Rattle.yaml_c.specs.JsonAnswers.{IsNoText, error_results}
@@ -13,13 +14,13 @@ use Rattle.yaml_c.specs.declared.results.CallResult.{CallResult}
 -- An answer: the canonical bytes of a text; the place at which the text stops to be UTF-8; or the error of a text that has none.
 pub data Found : Type 0 where
   has_bytes : (bytes : List ℕ) → Found
-  is_no_text : (line column : ℕ) → Found
+  is_no_text : Position → Found
   has_none : ValueError → Found
 
 -- True if the answer is right for the text. If the text is UTF-8, it is what `canonical_from_json` promises.
 abbrev pub IsFound : Keys → (text : List ℕ) → Found → Type 0
 IsFound mode text (has_bytes bytes) = IsUtf8 text × IsCanonicalOf mode text bytes
-IsFound mode text (is_no_text line column) = IsNoText text line column
+IsFound mode text (is_no_text position) = IsNoText text position
 IsFound mode text (has_none error) = IsUtf8 text × ExplainsValueError mode text error
 
 -- The answer of a call.
@@ -31,9 +32,9 @@ found_of (Err error) = has_none error
 -- name twice, unless that is allowed, 12 if a number isn't an integer of 64 bits, all four with the place; 3 if memory ran out.
 abbrev pub canonical_results : Found → (out : List ℕ) → CallResults
 canonical_results (has_bytes bytes) out = results_done bytes 0 out
-canonical_results (is_no_text line column) out = results_failed 5 (at_place line column) out
+canonical_results (is_no_text position) out = results_failed 5 (at_place position) out
 canonical_results (has_none (errors.Json error)) out = error_results error out
-canonical_results (has_none (errors.NotInteger line column)) out = results_failed 12 (at_place line column) out
+canonical_results (has_none (errors.NotInteger position)) out = results_failed 12 (at_place position) out
 
 -- True if these results are those of an answer that is right for the text by these options.
 abbrev pub IsCanonicalRun : CanonicalOptions → (text old : List ℕ) → (status : ℤ) → (new : List ℕ) → CallResult → Type 0

@@ -5,7 +5,8 @@ use Rattle.json.specs.Json.{Json, value}
 use Rattle.json.specs.Lex.{tokens}
 use Rattle.json.specs.Token.{Token}
 use Rattle.yaml_base.specs.declared.errors.yaml_error_t.{yaml_error_t}
-use Rattle.yaml_base.specs.values.LinesAndColumns.{column_of, line_of}
+use Rattle.yaml_base.specs.Positions.{IsPositionOf}
+use Rattle.yaml_base.specs.declared.places.Position.{Position}
 use Rattle.yaml_emitter.specs.Emits.{Emits}
 use Rattle.yaml_emitter.specs.State.{State}
 use Rattle.yaml_pen.specs.Page.{result_of_error}
@@ -49,7 +50,9 @@ pub record IsNoUtf8 (text : List ℕ) (error : JsonError) : Type 0 where
   pub refused : IsUtf8 text → ⊥
   pub offset : ℕ
   pub valid : IsValidUpTo text offset
-  pub place : error ≡ errors.NotJson (line_of text offset) (column_of text offset) Utf8
+  pub position : Position
+  pub is : IsPositionOf text offset position
+  pub place : error ≡ errors.NotJson position Utf8
 
 -- True if the error is the one that the emitter had before.
 abbrev pub HadError : State → JsonError → Type 0
@@ -96,10 +99,10 @@ GaveJson depth unique in_flow text NoMemory before after = after ≡ before
 -- an object gives a name twice; 3 or 1 by the emitter's error; 3 and no error if memory ran out before an event was given.
 abbrev pub TellsJson : TextGiving → (status : ℤ) → CallResult → Type 0
 TellsJson (Answered (Ok done)) status report = (status ≡ pos 0) × (report ≡ nothing_reported)
-TellsJson (Answered (Err (errors.NotJson line column says))) status report = (status ≡ pos 5) × (report ≡ at_place line column)
-TellsJson (Answered (Err (errors.Marked line column))) status report = (status ≡ pos 5) × (report ≡ at_place line column)
-TellsJson (Answered (Err (errors.TooDeep line column))) status report = (status ≡ pos 6) × (report ≡ at_place line column)
-TellsJson (Answered (Err (errors.DuplicateName line column))) status report = (status ≡ pos 7) × (report ≡ at_place line column)
+TellsJson (Answered (Err (errors.NotJson position says))) status report = (status ≡ pos 5) × (report ≡ at_place position)
+TellsJson (Answered (Err (errors.Marked position))) status report = (status ≡ pos 5) × (report ≡ at_place position)
+TellsJson (Answered (Err (errors.TooDeep position))) status report = (status ≡ pos 6) × (report ≡ at_place position)
+TellsJson (Answered (Err (errors.DuplicateName position))) status report = (status ≡ pos 7) × (report ≡ at_place position)
 TellsJson (Answered (Err (errors.Emitter error))) status report = TellsError (Some error) status report
 TellsJson NoMemory status report = (status ≡ pos 3) × (report ≡ nothing_reported)
 

@@ -37,16 +37,16 @@ pub extern "C" fn yaml_is_canonical(
     *report = CallResult::nothing();
     match read_canonical_with(alloc, bytes, keys_from(options)) {
         Ok(_value) => DONE,
-        Err(ReadError::NotCanonical { line, column }) => {
-            *report = CallResult::at_place(line, column);
+        Err(ReadError::NotCanonical { position }) => {
+            *report = CallResult::at_place(position);
             NOT_CANONICAL
         }
-        Err(ReadError::TooDeep { line, column }) => {
-            *report = CallResult::at_place(line, column);
+        Err(ReadError::TooDeep { position }) => {
+            *report = CallResult::at_place(position);
             TOO_DEEP
         }
-        Err(ReadError::DuplicateKey { line, column }) => {
-            *report = CallResult::at_place(line, column);
+        Err(ReadError::DuplicateKey { position }) => {
+            *report = CallResult::at_place(position);
             DUPLICATE_NAME
         }
         // `read_canonical_with` doesn't return it.

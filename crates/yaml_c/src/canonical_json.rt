@@ -7,7 +7,7 @@ use crate::json_texts::move_json;
 use crate::results::{CallResult, move_to_caller};
 use crate::statuses::{NOT_INTEGER, NOT_JSON};
 use std::alloc::Global;
-use yaml_json::place_of;
+use yaml_base::position_of;
 use yaml_json_value::{ValueError, canonical_from_json};
 
 /// Writes the canonical bytes of the value of a JSON text to `out`. See the header.
@@ -25,8 +25,8 @@ pub extern "C" fn yaml_canonical_from_json(
     let content = match std::str::from_utf8(text) {
         Ok(content) => content,
         Err(error) => {
-            let (line, column) = place_of(text, error.valid_up_to());
-            *report = CallResult::at_place(line, column);
+            let position = position_of(text, error.valid_up_to());
+            *report = CallResult::at_place(position);
             return NOT_JSON;
         }
     };
@@ -44,8 +44,8 @@ fn move_canonical(
     match answer {
         Ok(bytes) => move_to_caller(bytes, 0, out, report),
         Err(ValueError::Json(error)) => move_json(Err(error), out, report),
-        Err(ValueError::NotInteger { line, column }) => {
-            *report = CallResult::at_place(line, column);
+        Err(ValueError::NotInteger { position }) => {
+            *report = CallResult::at_place(position);
             NOT_INTEGER
         }
     }

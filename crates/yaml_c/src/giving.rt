@@ -6,7 +6,7 @@ ghost use Rattle.yaml_c.specs.Giving.{GaveRecord, given_event};
 use crate::records::{DirectiveRecord, EventRecord, GivenEvent, event_of};
 use std::alloc::Allocator;
 use yaml_base::yaml_error_t;
-use yaml_emitter::{ScalarAnswer, yaml_emitter_emit, yaml_emitter_emit_scalar, yaml_emitter_t};
+use yaml_emitter::{yaml_emitter_emit, yaml_emitter_emit_scalar, yaml_emitter_t};
 
 /// The outcome of giving a record to an emitter.
 #[derive(Clone, Copy)]
@@ -49,9 +49,11 @@ fn give_event<A: Allocator + Copy>(
     match event {
         GivenEvent::Owned(event) => Giving::Emitted(yaml_emitter_emit(emitter, event)),
         GivenEvent::Scalar(content) => {
-            match yaml_emitter_emit_scalar(emitter, &content) {
-                ScalarAnswer::Taken(answer) => Giving::Emitted(answer),
-                ScalarAnswer::NotTaken => Giving::NoMemory,
+            let answer = yaml_emitter_emit_scalar(emitter, &content);
+            if emitter.has_taken(answer) {
+                Giving::Emitted(answer)
+            } else {
+                Giving::NoMemory
             }
         }
     }

@@ -1,6 +1,6 @@
 //! JSON texts as events for an emitter that a C program keeps.
 ghost use Rattle.std.specs.Prelude.{◌≡◌, false, true};
-ghost use Rattle.yaml_c.specs.JsonAnswers.{depth_given};
+ghost use Rattle.yaml_c.specs.GivenSettings.{depth_given};
 ghost use Rattle.yaml_c.specs.Arena.{is_off, is_on};
 ghost use Rattle.yaml_c.specs.Kept.{Changes, IsOpenEmitter, UnlessClosed};
 ghost use Rattle.yaml_c.specs.JsonEvents.{GaveJson, GivesJson, SettlesAs, TellsJson};
@@ -14,8 +14,9 @@ use crate::results::CallResult;
 use crate::statuses::{DONE, DUPLICATE_NAME, NO_MEMORY, NOT_JSON, TOO_DEEP};
 use std::alloc::{Allocator, Global};
 use std::mem::replace;
+use yaml_base::position_of;
 use yaml_emitter::{yaml_emitter_initialize, yaml_emitter_t};
-use yaml_json::{Expected, JsonError, JsonSettings, Writer, place_of, write_json};
+use yaml_json::{Expected, JsonError, JsonSettings, Writer, write_json};
 
 /// The outcome of giving a JSON text to an emitter.
 #[derive(Clone, Copy)]
@@ -36,7 +37,7 @@ pub extern "C" fn yaml_c_emitter_emit_json(
     report: &mut CallResult,
 ) -> i32
     requires is_open { IsOpenEmitter emitter.old.state }
-    ensures { Changes (UnlessClosed result report.new (GivesJson (depth_given options.now.depth) (is_off options.now.allow_duplicates) (is_on options.now.flow)
+    ensures { Changes (UnlessClosed result report.new (GivesJson (depth_given options.now.values.depth) (is_off options.now.allow_duplicates) (is_on options.now.values.flow)
         text.now result report.new)) emitter.old.state emitter.new.state }
 {
     let mut boxed = emitter.take(alloc);
@@ -55,7 +56,7 @@ fn give_and_tell<A: Allocator + Copy>(
     report: &mut CallResult,
 ) -> i32
     requires output { emitter.old.has_output ≡ true }
-    ensures gave { UnlessClosed result report.new (GivesJson (depth_given options.now.depth) (is_off options.now.allow_duplicates) (is_on options.now.flow)
+    ensures gave { UnlessClosed result report.new (GivesJson (depth_given options.now.values.depth) (is_off options.now.allow_duplicates) (is_on options.now.values.flow)
         text.now result report.new) emitter.old emitter.new }
     ensures output { emitter.new.has_output ≡ true }
 {
@@ -75,7 +76,7 @@ fn give_bytes<A: Allocator + Copy>(
 ) -> TextGiving
     requires output { emitter.old.has_output ≡ true }
     requires unclosed { emitter.old.closed ≡ false }
-    ensures gave { GaveJson settings.depth settings.unique_names settings.flow text.now result emitter.old emitter.new }
+    ensures gave { GaveJson settings.values.depth settings.unique_names settings.values.flow text.now result emitter.old emitter.new }
     ensures output { emitter.new.has_output ≡ true }
 {
     match emitter.error() {
@@ -85,10 +86,9 @@ fn give_bytes<A: Allocator + Copy>(
     match std::str::from_utf8(text) {
         Ok(content) => give_text(alloc, emitter, content, settings),
         Err(error) => {
-            let (line, column) = place_of(text, error.valid_up_to());
+            let position = position_of(text, error.valid_up_to());
             TextGiving::Answered(Err(JsonError::NotJson {
-                line,
-                column,
+                position,
                 expected: Expected::Utf8,
             }))
         }
@@ -105,7 +105,7 @@ fn give_text<A: Allocator + Copy>(
     requires output { emitter.old.has_output ≡ true }
     requires unclosed { emitter.old.closed ≡ false }
     requires sound { emitter.old.error ≡ None }
-    ensures gave { GaveJson settings.depth settings.unique_names settings.flow text.now result emitter.old emitter.new }
+    ensures gave { GaveJson settings.values.depth settings.unique_names settings.values.flow text.now result emitter.old emitter.new }
     ensures output { emitter.new.has_output ≡ true }
 {
     let Ok(spare) = yaml_emitter_initialize(alloc) else {
@@ -158,17 +158,17 @@ fn tell_json(giving: &TextGiving, report: &mut CallResult) -> i32
     match *giving {
         TextGiving::Answered(Ok(())) => DONE,
         TextGiving::Answered(
-            Err(JsonError::NotJson { line, column, .. } | JsonError::Marked { line, column }),
+            Err(JsonError::NotJson { position, .. } | JsonError::Marked { position }),
         ) => {
-            *report = CallResult::at_place(line, column);
+            *report = CallResult::at_place(position);
             NOT_JSON
         }
-        TextGiving::Answered(Err(JsonError::TooDeep { line, column })) => {
-            *report = CallResult::at_place(line, column);
+        TextGiving::Answered(Err(JsonError::TooDeep { position })) => {
+            *report = CallResult::at_place(position);
             TOO_DEEP
         }
-        TextGiving::Answered(Err(JsonError::DuplicateName { line, column })) => {
-            *report = CallResult::at_place(line, column);
+        TextGiving::Answered(Err(JsonError::DuplicateName { position })) => {
+            *report = CallResult::at_place(position);
             DUPLICATE_NAME
         }
         TextGiving::Answered(Err(JsonError::Emitter(error))) => {

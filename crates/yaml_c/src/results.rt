@@ -5,6 +5,7 @@ ghost use Rattle.yaml_c.specs.Answers.{CopiesToCaller, at_place, nothing_reporte
 use crate::buffers::move_out;
 use crate::statuses::{DONE, TOO_SMALL};
 use std::alloc::Allocator;
+use yaml_base::Position;
 
 /// The result of a call, beside its status. See the header.
 #[repr(C)]
@@ -30,12 +31,12 @@ impl CallResult {
         }
     }
 
-    pub(crate) fn at_place(line: usize, column: usize) -> CallResult
-        ensures { result ≡ at_place line column }
+    pub(crate) fn at_place(position: Position) -> CallResult
+        ensures { result ≡ at_place position }
     {
         let mut place = CallResult::nothing();
-        place.line = line as u64;
-        place.column = column as u64;
+        place.line = position.line as u64;
+        place.column = position.column as u64;
         place
     }
 }

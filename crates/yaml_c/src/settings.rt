@@ -2,10 +2,11 @@
 ghost use Rattle.std.specs.Prelude.{◌≡◌, option_map};
 ghost use Rattle.yaml_emitter.specs.Given.{is_double, seen_settings};
 ghost use Rattle.yaml_c.specs.Arena.{is_on};
-ghost use Rattle.yaml_c.specs.GivenSettings.{limit_given, settings_given};
+ghost use Rattle.yaml_c.specs.GivenSettings.{depth_given, limit_given, settings_given, values_given, width_given};
 
 use crate::styles::{encoding, line_break};
 use yaml_emitter::{Quotes, Settings};
+use yaml_writer::{ValueSettings, value_settings};
 
 /// The settings of an emitter, and the number of bytes of its output that the caller has. Zeros are the settings of a new emitter. See
 /// the header.
@@ -27,8 +28,25 @@ pub struct EmitterSettings {
     pub skip: usize,
 }
 
+/// The settings by which values are written, those of JSON and of TOML. Zeros are the defaults. See the header.
+#[repr(C)]
+#[derive(Clone, Copy)]
+pub struct ValueOptions {
+    pub flow: u32,
+    pub canonical: u32,
+    pub no_unicode: u32,
+    pub line_breaks_1_2: u32,
+    pub no_portable: u32,
+    pub no_indented_sequences: u32,
+    pub no_literal_blanks: u32,
+    pub double_quotes: u32,
+    pub indent: i32,
+    pub width: i32,
+    pub depth: usize,
+}
+
 /// Returns double quotes if the flag is on, and single ones if it isn't.
-pub(crate) fn quotes_from(double_quotes: u32) -> Quotes
+fn quotes_from(double_quotes: u32) -> Quotes
     ensures { is_double result ≡ is_on double_quotes }
 {
     if double_quotes == 0 {
@@ -62,4 +80,45 @@ pub(crate) fn settings_from(given: &EmitterSettings) -> Option<Settings>
         encoding: encoding(given.encoding)?,
         limit: limit_from(given.limit),
     })
+}
+
+fn depth_from(depth: usize) -> usize
+    ensures { result ≡ depth_given depth }
+{
+    if depth == 0 { 1_000 } else { depth }
+}
+
+fn width_from(width: i32) -> i32
+    ensures { result ≡ width_given width }
+{
+    if width == 0 { -1 } else { width }
+}
+
+/// Returns the settings of the emitter that writes values.
+fn emitter_settings_from(given: &ValueOptions) -> Settings
+    ensures { seen_settings result ≡ values_given given.now }
+{
+    let mut settings = value_settings();
+    settings.canonical = given.canonical != 0;
+    settings.unicode = given.no_unicode == 0;
+    settings.line_breaks_1_2 = given.line_breaks_1_2 != 0;
+    settings.portable = given.no_portable == 0;
+    settings.indented_sequences = given.no_indented_sequences == 0;
+    settings.literal_blanks = given.no_literal_blanks == 0;
+    settings.quotes = quotes_from(given.double_quotes);
+    settings.indent = Some(given.indent);
+    settings.width = Some(width_from(given.width));
+    settings
+}
+
+pub(crate) fn value_settings_from(given: &ValueOptions) -> ValueSettings
+    ensures emitter { seen_settings result.emitter ≡ values_given given.now }
+    ensures flow { result.flow ≡ is_on given.now.flow }
+    ensures depth { result.depth ≡ depth_given given.now.depth }
+{
+    ValueSettings {
+        emitter: emitter_settings_from(given),
+        flow: given.flow != 0,
+        depth: depth_from(given.depth),
+    }
 }

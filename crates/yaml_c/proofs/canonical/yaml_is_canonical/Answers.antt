@@ -15,7 +15,7 @@ returns-in-Ok c =
 pub returns-in-Err-NotCanonical : goal.returns-in-Err-NotCanonical
 returns-in-Err-NotCanonical c =
     let refused = c.in-Err-NotCanonical in
-    let error = errors.NotCanonical refused.line refused.column in
+    let error = errors.NotCanonical refused.position in
     let is : refused.field-0 ≡ error = search rules in
     let reading =
     right_error c.keys_from.result (keys_given c.args.options.now) c.args.bytes.now refused.field-0 error c.keys_from.ensures is
@@ -25,7 +25,7 @@ returns-in-Err-NotCanonical c =
 pub returns-in-Err-TooDeep : goal.returns-in-Err-TooDeep
 returns-in-Err-TooDeep c =
     let refused = c.in-Err-TooDeep in
-    let error = errors.TooDeep refused.line refused.column in
+    let error = errors.TooDeep refused.position in
     let is : refused.field-0 ≡ error = search rules in
     let reading =
     right_error c.keys_from.result (keys_given c.args.options.now) c.args.bytes.now refused.field-0 error c.keys_from.ensures is
@@ -35,7 +35,7 @@ returns-in-Err-TooDeep c =
 pub returns-in-Err-DuplicateKey : goal.returns-in-Err-DuplicateKey
 returns-in-Err-DuplicateKey c =
     let refused = c.in-Err-DuplicateKey in
-    let error = errors.DuplicateKey refused.line refused.column in
+    let error = errors.DuplicateKey refused.position in
     let is : refused.field-0 ≡ error = search rules in
     let reading =
     right_error c.keys_from.result (keys_given c.args.options.now) c.args.bytes.now refused.field-0 error c.keys_from.ensures is

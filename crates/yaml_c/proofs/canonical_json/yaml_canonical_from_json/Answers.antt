@@ -24,15 +24,8 @@ returns c =
 
 pub returns-in-Err : goal.returns-in-Err
 returns-in-Err c =
-    let at = c.valid_up_to.result in
-    let place = c.place_of-line in (
-      is_no_text place.result.0 place.result.1,
-      record {
-        refused = c.in-Err.ensures.cases.0;
-        at = at;
-        valid = search rules;
-        line_is = place.ensures.line;
-        column_is = place.ensures.column;
-      },
+    let place = c.position_of-position in (
+      is_no_text place.result,
+      record { refused = c.in-Err.ensures.cases.0; at = c.valid_up_to.result; valid = search rules; is = place.ensures },
       ap (λ (report : CallResult). results_failed 5 report c.args.out.now) c.at_place.ensures,
     )

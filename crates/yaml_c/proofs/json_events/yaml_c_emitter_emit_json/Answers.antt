@@ -1,7 +1,7 @@
 use Rattle.yaml_c.proofs.Common.{ℤ, Some, ◌≡◌, rules, subst, sym, w32, of_z, to_z}
 use Rattle.yaml_c.proofs.KeptLemmas.{changed}
 use Rattle.yaml_c.specs.{Arena.is_off, Arena.is_on}
-use Rattle.yaml_c.specs.JsonAnswers.{depth_given}
+use Rattle.yaml_c.specs.GivenSettings.{depth_given}
 use Rattle.yaml_c.specs.JsonEvents.{GivesJson}
 use Rattle.yaml_c.specs.Kept.{UnlessClosed}
 use Rattle.yaml_c.proofs.json_events.yaml_c_emitter_emit_json.Goals as goal
@@ -10,9 +10,9 @@ pub returns : goal.returns
 returns c =
     let given = c.args.options.now in
     let text = c.args.text.now in
-    let depth = depth_given given.depth in
+    let depth = depth_given given.values.depth in
     let unique = is_off given.allow_duplicates in
-    let flow = is_on given.flow in
+    let flow = is_on given.values.flow in
     let before = c.deref_mut.result.now in
     let after = c.give_and_tell-status.new.emitter in
     let report = c.give_and_tell-status.new.report in
