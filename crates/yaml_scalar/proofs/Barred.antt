@@ -3,19 +3,12 @@ use Rattle.yaml_scalar.proofs.Common.{arith, ℕ, if◌then◌else◌, ◌==◌,
 use Rattle.yaml_scalar.proofs.Common.{refl, eqb-true, ap, sym, ◌∙◌, and_parts, and_right, or_parts, or_from, not-true, nil_from_length, chars-nil, encode_utf8}
 use Rattle.yaml_scalar.proofs.Common.{chars_past_char, list_all, Text, is_among, line_separator, paragraph_separator, space, tab, is_ascii, is_space, is_break}
 use Rattle.yaml_scalar.proofs.Common.{is_printable, Charset, begins_with, is_empty, is_gap, ends_word, is_special, is_trailing_space, BarredStyles, barred_by}
-use Rattle.yaml_scalar.proofs.Common.{either, barred_in, none_barred, is_quiet, barred_by_space, last_from, ◌≤◌, nat_tests, and_from, or_left, le-leb}
+use Rattle.yaml_scalar.proofs.Common.{either, barred_in, none_barred, is_quiet, barred_by_space, last_from, ◌≤◌, nat_tests, and_from, or_left, or_right, le-leb}
 use Rattle.yaml_scalar.proofs.Common.{false≢true, false_from_ne_true, line_feed, carriage_return, next_line, is_ordinary}
 use Rattle.yaml_base.proofs.Common.{and_left}
+use Rattle.std.proofs.Math.Bool.{or-false, or_assoc}
 use Rattle.yaml_base.specs.scalars.Analysis.{is_key_or_comment}
 use Rattle.yaml_scalar.specs.Barred.{with_indicator}
-
-pub or_none : (b : Bool) → (b || false) ≡ b
-or_none true = refl
-or_none false = refl
-
-or_more : (a b c : Bool) → (a || (b || c)) ≡ (a || b || c)
-or_more true b c = refl
-or_more false b c = refl
 
 same : {a b : BarredStyles} → a.multiline ≡ b.multiline → a.flow_plain ≡ b.flow_plain → a.block_plain ≡ b.block_plain
     → a.single_quoted ≡ b.single_quoted → a.block ≡ b.block → a ≡ b
@@ -29,10 +22,10 @@ same {a} {b} m f p s k =
     ∙ ap (λ x. whole b.multiline b.flow_plain b.block_plain b.single_quoted x) k
 
 pub either_none : (a : BarredStyles) → either a none_barred ≡ a
-either_none a = same (or_none a.multiline) (or_none a.flow_plain) (or_none a.block_plain) (or_none a.single_quoted) (or_none a.block)
+either_none a = same (or-false a.multiline) (or-false a.flow_plain) (or-false a.block_plain) (or-false a.single_quoted) (or-false a.block)
 
 pub either_more : (a b c : BarredStyles) → either a (either b c) ≡ either (either a b) c
-either_more a b c = grind (arith, same, or_more)
+either_more a b c = grind (arith, same, or_assoc)
 
 -- one more character was read
 pub barred_more : (charset : Charset) (whole found : BarredStyles) {after : BarredStyles} (old new rest : List ℕ) (c : ℕ)
@@ -113,10 +106,6 @@ each_member (k ∷ set) test c all is = by (c == k) refl (λ rest. each_member s
     by true e later = ap test (eqb-true c k e) ∙ (and_parts (test k) (list_all test set) all).0
     by false e later = later (sym (ap (λ b. b || is_among set c) e) ∙ is)
 
-or_last : (a b : Bool) → b ≡ true → (a || b) ≡ true
-or_last true b h = refl
-or_last false b h = h
-
 -- A letter or a digit bars nothing.
 apart : (c : ℕ) → is_ordinary c ≡ true → (k : ℕ) → is_ordinary k ≡ false → (c == k) ≡ false
 apart c h k e = false_from_ne_true (c == k) (λ same. false≢true (sym e ∙ sym (ap is_ordinary (eqb-true c k same)) ∙ h))
@@ -131,7 +120,7 @@ ordinary_quiet charset c h =
     let low : 0x20 ≤ c = omega (arith, range.0) in
     let high : c ≤ 0x7E = omega (arith, range.1) in
     let printable : is_printable c ≡ true =
-    or_left _ _ (or_left _ _ (or_left _ _ (or_last (c == line_feed) _ (and_from _ _ (le-leb 0x20 c low) (le-leb c 0x7E high))))) in
+    or_left _ _ (or_left _ _ (or_left _ _ (or_right (c == line_feed) _ (and_from _ _ (le-leb 0x20 c low) (le-leb c 0x7E high))))) in
     let ascii : is_ascii c ≡ true = le-leb c 0x7F (omega (arith, high)) in
     let separated : (c == line_separator || c == paragraph_separator) ≡ false = or_from _ _ (other line_separator refl) (other paragraph_separator refl) in
     record {
@@ -166,16 +155,16 @@ indicator_bars charset c rest is =
     or_from _ _ (or_from _ _ (ap not (every is_printable refl)) (and_right (not charset.unicode) (not (is_ascii c)) (ap not (every is_ascii refl))))
     (and_right charset.breaks12 (c == line_separator || c == paragraph_separator) (none (λ d. d == line_separator || d == paragraph_separator) refl)) in
     let key : is_key_or_comment c rest ≡ (c == 58 && ends_word rest) =
-    ap (λ b. (c == 58 && ends_word rest) || b) (and_left _ (begins_with (λ d. d == 35) rest) gap) ∙ or_none _ in
+    ap (λ b. (c == 58 && ends_word rest) || b) (and_left _ (begins_with (λ d. d == 35) rest) gap) ∙ or-false _ in
     let ends : (is_space c && is_empty rest) ≡ false = and_left _ (is_empty rest) spaced in
     let plain : (is_special charset c || is_break c || (is_space c && is_empty rest) || is_key_or_comment c rest) ≡ (c == 58 && ends_word rest) =
     ap (λ b. b || is_key_or_comment c rest) (or_from _ _ (or_from _ _ special broken) ends) ∙ key in
     let trailing : (is_special charset c || is_trailing_space c rest) ≡ false = or_from _ _ special (and_left _ (begins_with is_break rest) spaced) in
-    same broken (or_last _ _ is) (or_none _ ∙ plain) (or_from _ _ trailing (and_left _ (begins_with is_space rest) broken)) (or_from _ _ trailing ends)
+    same broken (or_right _ _ is) (or-false _ ∙ plain) (or_from _ _ trailing (and_left _ (begins_with is_space rest) broken)) (or_from _ _ trailing ends)
 
 pub indicator_seen : (charset : Charset) (found : BarredStyles) (c : ℕ) (rest : Text) → is_among (codes ",?:[]{}") c ≡ true
     → with_indicator found c rest ≡ either found (barred_by charset c rest)
-indicator_seen charset found c rest is = grind (arith, indicator_bars, same, or_none, or_last)
+indicator_seen charset found c rest is = grind (arith, indicator_bars, same, or-false, or_right)
 
 -- if all styles are barred, only breaks matter
 pub all_barred : (found more : BarredStyles) → found.flow_plain ≡ true → found.block_plain ≡ true → found.single_quoted ≡ true → found.block ≡ true

@@ -1,7 +1,7 @@
 -- Runs of bytes of no class are runs of characters that pass a test.
-use Rattle.yaml_scalar.proofs.Common.{ℕ, ◌%◌, ◌+◌, ◌-◌, ◌/◌, ◌<◌, ◌≤◌, ◌==◌, slice_index, IsUtf8, codes, length, take, encode_utf8_all as encodes, Bool}
-use Rattle.yaml_scalar.proofs.Common.{false, not, true, ◌&&◌, ◌||◌, List, [], ◌∷◌, ◌⊎◌, refl, ◌≡◌, eqb-true, le-ltb, lt-ltb, take_all, true≢false, inl, inr}
-use Rattle.yaml_scalar.proofs.Common.{ap, subst, sym, ◌∙◌, arith, and-true, and_parts, and_from, agree_below_at, nat_tests, list_all-append, IsUtf8-take}
+use Rattle.yaml_scalar.proofs.Common.{ℕ, ◌%◌, ◌+◌, ◌-◌, ◌/◌, ◌<◌, ◌≤◌, ◌==◌, slice_index, IsUtf8, codes, length, take, encode_utf8_all as encodes, Bool, false}
+use Rattle.yaml_scalar.proofs.Common.{not, true, ◌&&◌, ◌||◌, List, [], ◌∷◌, ◌⊎◌, refl, ◌≡◌, eqb-true, le-ltb, lt-ltb, take_all, true≢false, inl, inr, ap, subst}
+use Rattle.yaml_scalar.proofs.Common.{sym, ◌∙◌, arith, and-false, and-true, and_parts, and_from, agree_below_at, nat_tests, list_all-append, IsUtf8-take}
 use Rattle.yaml_scalar.proofs.Common.{encodes-chars, scalars-chars, list_all, IsCharBoundary, Text, is_among, is_break, is_printable, is_quiet, is_free}
 use Rattle.yaml_scalar.proofs.Common.{IsFreeRun, ImpliesTest, stays_where, stays_in_line, last_from, IsRun}
 use Rattle.std.{proofs.lemmas.Bool.cases_lt, proofs.lemmas.Bool.agree_below, proofs.lemmas.List.Folds.list_all_at}
@@ -192,10 +192,6 @@ tells_by classes test computed past c s free = elim (cases_lt c 128) [
   | inl low ↦ ascii_tells classes test computed c low free
   | inr wide ↦ past c wide s free
 ]
-
-and-false : (b : Bool) → (b && false) ≡ false
-and-false true = refl
-and-false false = refl
 
 other_than : (c k : ℕ) → 128 ≤ c → k < 128 → (c == k) ≡ false
 other_than c k wide below = grind (arith, nat_tests)

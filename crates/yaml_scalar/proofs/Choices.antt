@@ -2,7 +2,8 @@
 use Rattle.yaml_scalar.proofs.Common.{arith, if◌then◌else◌, Bool, false, not, true, ◌&&◌, ◌||◌, [], ◌∷◌, refl, ◌≡◌, ap, sym, ◌∙◌, and_parts, Text, Charset}
 use Rattle.yaml_scalar.proofs.Common.{Allowances, allowances, ChosenStyle, chosen, BarredStyles, barred_in, allowed_by}
 use Rattle.yaml_base.proofs.Common.{ScalarStyle, any_style, plain, single_quoted, double_quoted, literal, folded, is_plain, quoted_style, fitting_style}
-use Rattle.yaml_scalar.{proofs.Barred.or_none, specs.Barred.all_styles, specs.ScalarData.ChooseAlike}
+use Rattle.std.proofs.Math.Bool.{or-false}
+use Rattle.yaml_scalar.{specs.Barred.all_styles, specs.ScalarData.ChooseAlike}
 
 -- a value allows the styles that its characters don't bar
 pub allowed_whole : (charset : Charset) (value : Text) → allowances charset value ≡ allowed_by (barred_in charset value) value
@@ -61,4 +62,4 @@ alike found more value none asked empty tag_written plain_implicit quoted_implic
         barred_double (record found { multiline = found.multiline }) value is asked empty tag_written plain_implicit quoted_implicit flow simple_key canonical
         ∙ sym (barred_double (record found { multiline = found.multiline || more }) value is
         asked empty tag_written plain_implicit quoted_implicit flow simple_key canonical)
-    go false is = ap choice (sym (ap (λ b. found.multiline || b) (none is) ∙ or_none found.multiline))
+    go false is = ap choice (sym (ap (λ b. found.multiline || b) (none is) ∙ or-false found.multiline))

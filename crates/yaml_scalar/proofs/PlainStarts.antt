@@ -288,7 +288,7 @@ lines_three marker is_marker written limit indent before value cursor e =
     ∙ (times_kept marker is_marker 3 written limit indent before value cursor ∙ (sym (three_times marker value) ∙ e))
 
 -- a character that is neither a space nor a break is of the other kind
-kind_of_indicator : (s b : Bool) → s ≡ false → b ≡ false → (if s then Space else if b then Break else Other) ≡ Other
+pub kind_of_indicator : (s b : Bool) → s ≡ false → b ≡ false → (if s then Space else if b then Break else Other) ≡ Other
 kind_of_indicator s b e f = rw (e, f)
 
 -- a value's lines begin with its first character, if that is neither a space nor a break

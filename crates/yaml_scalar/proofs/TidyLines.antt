@@ -7,7 +7,8 @@ use Rattle.yaml_scalar.proofs.Common.{begins_with_break, Charset, somewhere, beg
 use Rattle.yaml_scalar.proofs.Common.{bars_single_quoted, allows_single_quoted, CharacterKind, Space, Break, Other, kind_of, is_same_kind, indentation}
 use Rattle.yaml_scalar.proofs.Common.{plain_body, quotes_doubled, single_quote, single_quoted_body, begins_kind, step_text, render_steps}
 use Rattle.yaml_base.proofs.{Charsets.special_tab, Common.ends_white, Common.has_clean_edges}
-use Rattle.yaml_scalar.proofs.{LineIndents.others_only, LineRuns.runs_by_steps, SingleReads.doubled_writes, blocks.BlockReads.ordinary}
+use Rattle.yaml_scalar.proofs.{LineIndents.others_only, LineRuns.runs_by_steps, PlainStarts.kind_of_indicator, SingleReads.doubled_writes}
+use Rattle.yaml_scalar.proofs.{blocks.BlockReads.ordinary}
 use Rattle.yaml_scalar.proofs.LineFolds.{spaces_only, breaks_only}
 use Rattle.yaml_scalar.proofs.DeepLines.{Ink, BeginsInk, AllInk, space_unbroken, ink_unbroken, deep_break, IsEven, even_ink, even_space, even_break, even_line}
 use Rattle.yaml_scalar.proofs.DeepLines.{even_nothing}
@@ -337,14 +338,9 @@ plain_white charset flow c rest h s =
 plain_last : (charset : Charset) (flow : Bool) (c : ℕ) → bars_plain charset flow c [] ≡ false → is_space c ≡ false
 plain_last charset flow c h = sym (and-true (is_space c)) ∙ (or_parts _ _ (or_parts _ _ (or_parts _ _ h).0).0).1
 
-kind_others : (s b : Bool) → s ≡ false → b ≡ false → (if s then Space else if b then Break else Other) ≡ Other
-kind_others true b e f = absurd (true≢false e)
-kind_others false true e f = absurd (true≢false f)
-kind_others false false e f = refl
-
 plain_kind : (charset : Charset) (flow : Bool) (c : ℕ) (rest : Text) → bars_plain charset flow c rest ≡ false → is_space c ≡ false → kind_of c ≡ Other
 plain_kind charset flow c rest h s =
-    kind_others (is_space c) (is_break c) s (or_parts _ _ (or_parts _ _ (or_parts _ _ (or_parts _ _ h).0).0).0).1
+    kind_of_indicator (is_space c) (is_break c) s (or_parts _ _ (or_parts _ _ (or_parts _ _ (or_parts _ _ h).0).0).0).1
 
 -- a value's lines end as the value does
 lines_end_ink : (charset : Charset) (flow : Bool) (limit : Option ℕ) (indent : ℕ) (before : CharacterKind) (c : ℕ) (rest : Text) (cursor : Cursor)

@@ -1,6 +1,7 @@
 use Rattle.yaml_scalar.proofs.Common.{ℕ, chars, IsUtf8, Bool, ◌&&◌, ◌||◌, List, ap, subst, sym, ◌∙◌, and_parts, chars-nil, list_any, is_break, BarredStyles}
 use Rattle.yaml_scalar.proofs.Common.{barred_in, either}
-use Rattle.yaml_scalar.proofs.Barred.{or_none, barred_more, barred_whole, all_barred}
+use Rattle.yaml_scalar.proofs.Barred.{barred_more, barred_whole, all_barred}
+use Rattle.std.proofs.Math.Bool.{or-false}
 use Rattle.yaml_scalar.proofs.Shorter.{shorter_left}
 use Rattle.yaml_scalar.proofs.analysis.barred_before.Goals as goal
 
@@ -39,7 +40,7 @@ returns-clause-same c =
     let charset = c.args.charset in
     let found = c.loop-c.barred in
     ap (λ (b : Bool). let more : BarredStyles = record found { multiline = b } in more)
-    (ap (λ t. found.multiline || list_any is_break t) chars-nil ∙ or_none found.multiline)
+    (ap (λ t. found.multiline || list_any is_break t) chars-nil ∙ or-false found.multiline)
     ∙ barred_whole charset _ found _ c.in_default.ensures.steps.0.0 c.loop-c.invariant.so_far
 
 pub returns-clause-rest : goal.returns-clause-rest
