@@ -6,7 +6,8 @@ use Rattle.yaml_scalar.proofs.Common.{needs_escape, character_text, may_fold, do
 use Rattle.std.{proofs.Common.IsErrAnd, proofs.Common.IsErr, proofs.lemmas.Result.err_from_is_err_and, specs.Borrow.Bor}
 use Rattle.yaml_base.specs.declared.errors.yaml_error_t.{yaml_error_t}
 use Rattle.yaml_pen.proofs.Writing.{column_after-append}
-use Rattle.yaml_scalar.proofs.{EscapeBytes.escape-plain, Unbroken.unescaped, WholeRuns.last-more}
+use Rattle.yaml_base.proofs.TagForms.{last-append}
+use Rattle.yaml_scalar.proofs.{EscapeBytes.escape-plain, Unbroken.unescaped}
 use Rattle.yaml_pen.proofs.StillToWrite.{StillToWrite, still_rest, still_failed, still_same, still_as}
 use Rattle.yaml_scalar.specs.Batch.{is_batched, characters_text, WroteBatch}
 
@@ -30,7 +31,7 @@ batched_more {unicode} {before} c after are next passes =
       parts = are.parts ∙ ap (λ t. are.prefix ++ t) next ∙ sym (append_assoc are.prefix (c ∷ []) after);
       bytes_are = ap (λ b. b ++ character_text unicode c) are.bytes_are ∙ sym (characters-more unicode are.prefix c);
       all = list_all-append (is_batched unicode) are.prefix (c ∷ []) ∙ and_from _ _ are.all (and_from _ true passes refl);
-      last_is = sym (last-more before are.prefix c);
+      last_is = sym (last-append before are.prefix c);
     }
 
 left_of : (a b : Bool) → b ≡ false → (a || b) ≡ true → a ≡ true

@@ -3,7 +3,7 @@ use Rattle.yaml_scalar.proofs.Common.{arith, ℕ, if◌then◌else◌, length, t
 use Rattle.yaml_scalar.proofs.Common.{sym, ◌∙◌, scalar, IsUtf8-encode, IsUtf8-take, Text, is_break, WithoutBreak, OneBreak, MoreBreaks, ending, last_from}
 use Rattle.yaml_base.proofs.Common.{encode_utf8, chars-encodes, chars}
 use Rattle.std.{proofs.lemmas.List.take_at, proofs.lemmas.Str.IsCharBoundary-at_seam, proofs.lemmas.Str.chars-append, specs.Str.IsUtf8}
-use Rattle.yaml_scalar.proofs.WholeRuns.{last-more}
+use Rattle.yaml_base.proofs.TagForms.{last-append}
 
 -- one more character
 ending-further : (a b c : ℕ) (xs : Text) → ending (a ∷ (xs ++ b ∷ c ∷ [])) ≡ ending (xs ++ b ∷ c ∷ [])
@@ -33,7 +33,7 @@ last-is before text prefix c u s e =
     let seam = IsCharBoundary-at_seam text prefix (encode_utf8 c) e (IsUtf8-encode c s) in
     let taken : take (length prefix) text ≡ prefix = ap (take (length prefix)) e ∙ take_at prefix (encode_utf8 c) (length prefix) refl in
     let is_text : IsUtf8 prefix = subst IsUtf8 taken (IsUtf8-take text (length prefix) u seam) in
-    sym (ap (λ t. last_from before (chars t)) e ∙ ap (last_from before) (chars-last prefix c is_text s) ∙ last-more before (chars prefix) c)
+    sym (ap (λ t. last_from before (chars t)) e ∙ ap (last_from before) (chars-last prefix c is_text s) ∙ last-append before (chars prefix) c)
 
 -- a text that ends in no break
 pub other-ends : (prefix : List ℕ) (c : ℕ) → IsUtf8 prefix → scalar c ≡ true → is_break c ≡ false → ending (chars (prefix ++ encode_utf8 c)) ≡ WithoutBreak

@@ -4,10 +4,6 @@ use Rattle.yaml_scalar.proofs.Common.{length-take-le, ap, subst, sym, ◌∙◌,
 use Rattle.yaml_scalar.proofs.Common.{is_break, has_limit, last_from, IsRun}
 use Rattle.std.{proofs.lemmas.List.take-take, proofs.lemmas.Str.IsCharBoundary-from_take, proofs.lemmas.Str.IsCharBoundary-start, specs.Str.chars}
 
-pub last-more : (before : ℕ) (prefix : Text) (c : ℕ) → last_from before (prefix ++ c ∷ []) ≡ c
-last-more before [] c = refl
-last-more before (d ∷ prefix) c = last-more d prefix c
-
 -- a run holds no break if no character that passes is one
 all_unbroken : (test : ℕ → Bool) → ((c : ℕ) → test c ≡ true → is_break c ≡ false) → (text : Text) → list_all test text ≡ true → list_any is_break text ≡ false
 all_unbroken test none [] h = refl

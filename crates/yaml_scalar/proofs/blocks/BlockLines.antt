@@ -9,6 +9,7 @@ use Rattle.yaml_scalar.proofs.Common.{block_body, Encloses, folded_parts, folded
 use Rattle.yaml_base.proofs.Common.{ne_eqb}
 use Rattle.yaml_scalar.proofs.blocks.{BlockFolds.folded-clean, BlockParts.Ordinary, BlockParts.IsLine, BlockParts.Clean, BlockParts.parts-clean}
 use Rattle.yaml_scalar.proofs.blocks.BlockReads.{allowed-ordinary, literal-ordinary, block-text, digit_text, block_indicator_of, literal-reads, folded-read}
+use Rattle.yaml_base.proofs.BreakLaws.{break-begins}
 
 -- an ordinary character may be in a rendered text
 ordinary-rendered : (tabs breaks12 : Bool) (c : ℕ) → Ordinary tabs breaks12 c → not (c == carriage_return || c == next_line) ≡ true
@@ -40,15 +41,11 @@ spaces-indented : (n : ℕ) (rest : Text) → is_indented_text rest ≡ true →
 spaces-indented zero rest k = k
 spaces-indented (suc n) rest k = spaces-indented n rest k
 
-break-first : (b : ℕ) (rest : Text) → is_break b ≡ true → begins_indented (b ∷ rest) ≡ true
-break-first b [] h = h
-break-first b (c ∷ rest) h = or_left _ _ h
-
 -- lines after at least two spaces each
 lines-begin : (tabs breaks12 : Bool) (less : ℕ) (ps : List Part) → Clean tabs breaks12 ps → begins_indented (indented (suc (suc less)) ps) ≡ true
 lines-begin tabs breaks12 less [] h = refl
 lines-begin tabs breaks12 less (line text ∷ rest) h = refl
-lines-begin tabs breaks12 less (line_break b ∷ rest) h = break-first b (indented (suc (suc less)) rest) h.1
+lines-begin tabs breaks12 less (line_break b ∷ rest) h = break-begins b (indented (suc (suc less)) rest) h.1
 
 lines-indented : (tabs breaks12 : Bool) (less : ℕ) (ps : List Part) → Clean tabs breaks12 ps → is_indented_text (indented (suc (suc less)) ps) ≡ true
 lines-indented tabs breaks12 less [] h = refl
