@@ -8,6 +8,7 @@ use Rattle.std.{proofs.lemmas.Bool.cases_lt, proofs.lemmas.Bool.agree_below, pro
 use Rattle.std.{proofs.lemmas.Str.encode_ascii, proofs.lemmas.Str.chars_from_encodes, specs.Int.Bits.bit_and, specs.Str.chars}
 use lib.Utf8.{encode, next, scalar, scalar_cases, scalars}
 use Rattle.yaml_scalar.specs.declared.classes.TheConstants.{CLASSES}
+use Rattle.yaml_scalar.proofs.Common.{false_from_ne_true}
 
 -- a byte that goes on with a character is of no class
 inside_free : (classes b : ℕ) → 128 ≤ b → b < 192 → is_free classes b ≡ true
@@ -57,17 +58,13 @@ ascii_tells classes test computed c low free =
     sym (ap (λ b. not b || test c) one.0) ∙ agree_below_at (λ b. not (is_free classes b) || test b) (λ b. true) 128 c computed low
 
 -- a character past ASCII by the first of its bytes
-pub false_unless : (b : Bool) → (b ≡ true → ⊥) → b ≡ false
-false_unless true h = absurd (h refl)
-false_unless false h = refl
-
 first_is_free : (classes first : ℕ) (rest : List ℕ) → list_all (is_free classes) (first ∷ rest) ≡ true → is_free classes first ≡ false → ⊥
 first_is_free classes first rest free not_free = true≢false (sym (and_parts _ _ free).0 ∙ not_free)
 
 is_other_than : (classes c k first : ℕ) (rest : List ℕ) → encode k ≡ first ∷ rest → is_free classes first ≡ false → list_all (is_free classes) (encode c) ≡ true
     → (c == k) ≡ false
 is_other_than classes c k first rest is not_free free =
-    false_unless _ (λ same. first_is_free classes first rest
+    false_from_ne_true _ (λ same. first_is_free classes first rest
     (ap (list_all (is_free classes)) (sym is) ∙ ap (λ d. list_all (is_free classes) (encode d)) (sym (eqb-true c k same)) ∙ free) not_free)
 
 -- no break
@@ -165,8 +162,8 @@ free_exactly : (classes : ℕ) (test : ℕ → Bool) → agree_below (is_free cl
 free_exactly classes test computed none ascii c s = elim (cases_lt c 128) [
   | inl low ↦ ap (list_all (is_free classes)) (encode_ascii c low) ∙ and-true (is_free classes c) ∙ agree_below_at (is_free classes) test 128 c computed low
   | inr wide ↦
-      false_unless (list_all (is_free classes) (encode c)) (wide_never classes c none wide s)
-      ∙ sym (false_unless (test c) (λ passes. absurd (omega (arith, wide, ascii c passes))))
+      false_from_ne_true (list_all (is_free classes) (encode c)) (wide_never classes c none wide s)
+      ∙ sym (false_from_ne_true (test c) (λ passes. absurd (omega (arith, wide, ascii c passes))))
 ]
 
 all_free : (classes : ℕ) (test : ℕ → Bool) → ((c : ℕ) → scalar c ≡ true → list_all (is_free classes) (encode c) ≡ test c) → (text : Text)

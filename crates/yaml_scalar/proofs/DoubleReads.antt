@@ -11,29 +11,16 @@ use Rattle.yaml_scalar.proofs.Common.{double_fold, double_inside, render_quote, 
 use Rattle.yaml_base.specs.reading.ReadDouble.{QuotedReading, double_quoted_prefix, value_alone}
 use Rattle.yaml_scalar.proofs.{EscapesRead.escape-reads, Unbroken.is_unbroken, Unbroken.unbroken-replicate, Unbroken.unbroken-column}
 use Rattle.yaml_scalar.proofs.{Unbroken.unbroken-rendered, Unbroken.unbroken-indented, Unbroken.unescaped, Unbroken.character-unbroken, Unbroken.character-long}
+use Rattle.yaml_base.proofs.stream_lines.StreamLineLaws.{break_line}
 
 -- a printable character other than a space is no blank
 no-blank : (c : ℕ) → is_printable c ≡ true → is_space c ≡ false → is_blank c ≡ false
 no-blank c p s = grind (arith, nat_tests)
 
--- a character that is no break is none to a reader
-read-break-parts : (y a b c d e : Bool) → (a || b || c || d || e) ≡ false → (a || (not y && (d || e))) ≡ false
-read-break-parts y true b c d e h = cc
-read-break-parts y false true c d e h = cc
-read-break-parts y false false true d e h = cc
-read-break-parts y false false false true e h = cc
-read-break-parts y false false false false true h = cc
-read-break-parts true false false false false false h = refl
-read-break-parts false false false false false false h = refl
-
-pub no-read-break : (breaks12 : Bool) (c : ℕ) → is_break c ≡ false → is_read_break breaks12 c ≡ false
-no-read-break breaks12 c h =
-    read-break-parts breaks12 (c == line_feed) (c == carriage_return) (c == next_line) (c == line_separator) (c == paragraph_separator) h
-
 -- a character that needs no escape and is no space reads as itself
 other-reads : (breaks12 unicode : Bool) (c : ℕ) (rest : Text) → needs_escape unicode c ≡ false → is_space c ≡ false
     → quoted_from breaks12 between (c ∷ rest) ≡ with_unit (itself c) (quoted_from breaks12 between rest)
-other-reads breaks12 unicode c rest h s = grind (arith, unescaped, no-blank, no-read-break)
+other-reads breaks12 unicode c rest h s = grind (arith, unescaped, no-blank, break_line)
 
 -- a character that is no space reads as itself, as an escape or not
 character-reads : (breaks12 unicode : Bool) (c : ℕ) (rest : Text) → scalar c ≡ true → is_space c ≡ false

@@ -1,11 +1,8 @@
 -- A text's first characters, as they are taken one after another.
 use Rattle.yaml_scalar.proofs.Common.{arith, ℕ, ◌==◌, chars, IsUtf8, length, false, true, ◌&&◌, ◌||◌, List, [], ◌++◌, ◌∷◌, refl, ◌≡◌, eqb-true, true≢false, ap}
 use Rattle.yaml_scalar.proofs.Common.{sym, ◌∙◌, chars-nil, IsUtf8-past_char, chars_past_char, encode_utf8, Text, begins_like_marker, begins_unlike_plain}
-use Rattle.yaml_scalar.proofs.{Common.is_ordinary, ByteRuns.false_unless}
-
-no-characters : (bs : List ℕ) → length bs ≡ 0 → chars bs ≡ []
-no-characters [] e = chars-nil
-no-characters (b ∷ bs) e = cc
+use Rattle.yaml_scalar.proofs.Common.{is_ordinary, false_from_ne_true}
+use Rattle.std.proofs.StrCases.{chars_of_empty}
 
 pub marker-of-three : (bs r₁ r₂ r₃ : List ℕ) (a b c : ℕ) → IsUtf8 bs
     → bs ≡ encode_utf8 a ++ r₁ → r₁ ≡ encode_utf8 b ++ r₂ → r₂ ≡ encode_utf8 c ++ r₃
@@ -20,15 +17,15 @@ pub marker-of-two : (bs r₁ r₂ : List ℕ) (a b : ℕ) → IsUtf8 bs
     → false ≡ begins_like_marker (chars bs)
 marker-of-two bs r₁ r₂ a b u e₁ e₂ e₃ =
     let u₁ = IsUtf8-past_char bs r₁ a u e₁ in
-    rw (chars_past_char bs r₁ a u e₁, chars_past_char r₁ r₂ b u₁ e₂, no-characters r₂ e₃)
+    rw (chars_past_char bs r₁ a u e₁, chars_past_char r₁ r₂ b u₁ e₂, chars_of_empty r₂ e₃)
 
 pub marker-of-one : (bs r₁ : List ℕ) (a : ℕ) → IsUtf8 bs → bs ≡ encode_utf8 a ++ r₁ → length r₁ ≡ 0
     → false ≡ begins_like_marker (chars bs)
-marker-of-one bs r₁ a u e₁ e₂ = rw (chars_past_char bs r₁ a u e₁, no-characters r₁ e₂)
+marker-of-one bs r₁ a u e₁ e₂ = rw (chars_past_char bs r₁ a u e₁, chars_of_empty r₁ e₂)
 
 -- a letter or a digit is no other character
 other_than : (c k : ℕ) → is_ordinary c ≡ true → is_ordinary k ≡ false → (c == k) ≡ false
-other_than c k h e = false_unless (c == k) (λ same. true≢false (sym h ∙ ap is_ordinary (eqb-true c k same) ∙ e))
+other_than c k h e = false_from_ne_true (c == k) (λ same. true≢false (sym h ∙ ap is_ordinary (eqb-true c k same) ∙ e))
 
 no_exclamation : (c : ℕ) (rest : Text) → (c == 45) ≡ false → (c == 46) ≡ false → begins_like_marker (c ∷ rest) ≡ false
 no_exclamation c [] e f = refl

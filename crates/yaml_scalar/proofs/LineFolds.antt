@@ -7,6 +7,7 @@ use Rattle.yaml_scalar.proofs.Common.{fold_state_of, folding_read, Charset, some
 use Rattle.yaml_scalar.proofs.Common.{Space, Break, Other, kind_of, is_same_kind, indentation, begins_kind, step_text}
 use Rattle.yaml_base.specs.reading.ReadFolding.{run_read}
 use Rattle.yaml_scalar.proofs.LineTexts.{bare_steps}
+use Rattle.yaml_scalar.proofs.Common.{false_from_ne_true, false≢true}
 
 -- the unit that a reader finds in a character of a kind
 abbrev pub unit_of_kind : CharacterKind → ℕ → FoldUnit
@@ -14,14 +15,9 @@ unit_of_kind Space c = literal_blank c
 unit_of_kind Break c = literal_break c
 unit_of_kind Other c = itself c
 
--- two characters differ if one is printable and the other isn't
-unlike_by : (c d : ℕ) (same : Bool) → (c == d) ≡ same → is_printable c ≡ true → is_printable d ≡ false → same ≡ false
-unlike_by c d false e p q = refl
-unlike_by c d true e p q = sym p ∙ (ap is_printable (eqb-true c d e) ∙ q)
-
 -- a printable character is none that is not
 pub unlike : (c d : ℕ) → is_printable c ≡ true → is_printable d ≡ false → (c == d) ≡ false
-unlike c d p q = unlike_by c d _ refl p q
+unlike c d p q = false_from_ne_true (c == d) (λ e. false≢true (sym q ∙ rw (eqb-true c d e) at p))
 
 -- the tests of a reader and of a writer, on each character that both tell apart
 same_unit :

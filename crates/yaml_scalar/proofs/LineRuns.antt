@@ -6,6 +6,7 @@ use Rattle.std.proofs.Math.Bool.{and-false, and-true, or-false}
 use Rattle.yaml_base.specs.Cursor.{render_text}
 use Rattle.yaml_base.specs.scalars.Plain.{kind_of, is_same_kind, Run, cons_run, indentation, run_text, is_last}
 use Rattle.yaml_scalar.{proofs.Unbroken.is_unbroken, specs.LineSteps.begins_kind, specs.LineSteps.step_text, specs.LineSteps.render_steps}
+use Rattle.yaml_pen.proofs.Writing.{column_after-append}
 
 -- texts are written character by character, and each but `'` as itself
 pub record WritesEach (written : Text → Text) : Type 0 where
@@ -35,11 +36,6 @@ continued written limit indent before (run ∷ more) cursor =
     (first_text written (is_past_width limit cursor && not (is_last more)) indent (is_same_kind before run.kind) run.kind run.text)
     cursor)
     (render_runs written limit indent false more)
-
--- columns count on
-column_after-append : (a b : Text) (column : ℕ) → column_after (a ++ b) column ≡ column_after b (column_after a column)
-column_after-append [] b column = refl
-column_after-append (c ∷ a) b column = column_after-append a b _
 
 -- two texts rendered one after another are one text
 two_texts :

@@ -10,6 +10,7 @@ use Rattle.yaml_scalar.proofs.{Sparing.is_graph, SparingBlocks.one_digit, TidyQu
 use Rattle.yaml_scalar.proofs.DeepLines.{Unbroken, unblank_line, space_unbroken, enough_spaces, deep_break, deep_unbroken, spaces_unbroken, deep_after}
 use Rattle.yaml_base.proofs.Charsets.{special_tab}
 use Rattle.yaml_scalar.proofs.blocks.BlockReads.{ordinary, ordinary-or-tab, block-text, digit_text, block_indicator_of}
+use Rattle.yaml_scalar.proofs.blocks.FoldedSteps.{BeginsLine, begun-line}
 
 module _ (breaks12 : Bool) where
   -- some character of a text is no blank
@@ -113,18 +114,6 @@ module _ (breaks12 : Bool) where
   ended_ink [] h = absurd h
   ended_ink (c ∷ []) h = inl h
   ended_ink (c ∷ d ∷ rest) h = inr (ended_ink (d ∷ rest) h.1)
-
-  -- parts that begin with a line
-  abbrev BeginsLine : List Part → Type 0
-  BeginsLine [] = ⊥
-  BeginsLine (line text ∷ rest) = Unit {0}
-  BeginsLine (line_break b ∷ rest) = ⊥
-
-  -- a character before parts begins a line
-  begun_line : (c : ℕ) (ps : List Part) → BeginsLine (begun c ps)
-  begun_line c [] = tt
-  begun_line c (line text ∷ rest) = tt
-  begun_line c (line_break b ∷ rest) = tt
 
   -- one more character before such a text
   ended_more : (c : ℕ) (text : Text) → (c == tab) ≡ false → EndsInk text → EndsInk (c ∷ text)
@@ -238,14 +227,14 @@ module _ (breaks12 : Bool) where
 -- A value that block styles may hold.
 module _ (charset : Charset) where
   -- a blank is neither last nor before a break
-  blank_last : (c : ℕ) (rest : Text) → is_special charset c ≡ false → (is_space c ≡ false) ⊎ BeginsLine charset.breaks12 (parts rest)
-      → (is_blank c ≡ false) ⊎ BeginsLine charset.breaks12 (parts rest)
+  blank_last : (c : ℕ) (rest : Text) → is_special charset c ≡ false → (is_space c ≡ false) ⊎ BeginsLine (parts rest)
+      → (is_blank c ≡ false) ⊎ BeginsLine (parts rest)
   blank_last c rest special (inl none) = inl (or_from (is_space c) (c == tab) none (special_tab charset c special))
   blank_last c rest special (inr begins) = inr begins
 
-  space_inside : (c : ℕ) (rest : Text) → bars_block charset c rest ≡ false → (is_space c ≡ false) ⊎ BeginsLine charset.breaks12 (parts rest)
+  space_inside : (c : ℕ) (rest : Text) → bars_block charset c rest ≡ false → (is_space c ≡ false) ⊎ BeginsLine (parts rest)
   space_inside c [] h = grind (arith, or_parts)
-  space_inside c (d ∷ rest) h = grind (arith, or_parts, begun_line)
+  space_inside c (d ∷ rest) h = grind (arith, or_parts, begun-line)
 
   -- such a value's lines end with no blank
   parts_ended : (value : Text) → somewhere (bars_block charset) value ≡ false → AreEnded charset.breaks12 (parts value)

@@ -7,11 +7,12 @@ use Rattle.yaml_scalar.proofs.Common.{begins_with_break, quote, backslash, escap
 use Rattle.yaml_scalar.proofs.Common.{double_fold, double_inside, double_quoted_body}
 use Rattle.yaml_scalar.proofs.{LineFolds.unlike, Sparing.is_graph, Sparing.escape_graph, Unbroken.unescaped}
 use Rattle.yaml_scalar.proofs.DeepLines.{Ink, BeginsInk, AllInk, space_unbroken, ink_unbroken, IsEven, even_ink, even_space, even_line, even_nothing}
-use Rattle.yaml_scalar.proofs.DoubleReads.{no-read-break, space-text, may-fold-other, Fits, fits-breaks, kept-column, fits-character, quoted_cursor}
+use Rattle.yaml_scalar.proofs.DoubleReads.{space-text, may-fold-other, Fits, fits-breaks, kept-column, fits-character, quoted_cursor}
+use Rattle.yaml_base.proofs.stream_lines.StreamLineLaws.{break_line}
 
 -- printable ASCII breaks no line
 pub graph_no_break : (breaks12 : Bool) (c : ℕ) → is_graph c ≡ true → is_read_break breaks12 c ≡ false
-graph_no_break breaks12 c h = no-read-break breaks12 c (grind (arith, nat_tests))
+graph_no_break breaks12 c h = break_line breaks12 c (grind (arith, nat_tests))
 
 -- and but for the space is none
 graph_no_space : (c : ℕ) → is_graph c ≡ true → (c == space) ≡ false
@@ -35,7 +36,7 @@ module _ (breaks12 unicode : Bool) (count indent : ℕ) (enough : count ≤ inde
   raw_ink : (c : ℕ) → is_space c ≡ false → needs_escape unicode c ≡ false → Ink breaks12 c
   raw_ink c s e =
       let raw = unescaped unicode c e in
-      record { no_space = s; no_tab = unlike c tab raw.printable refl; no_break = no-read-break breaks12 c raw.no_break }
+      record { no_space = s; no_tab = unlike c tab raw.printable refl; no_break = break_line breaks12 c raw.no_break }
 
   -- a character that is no space, as an escape or not
   character_inks : (c : ℕ) → is_space c ≡ false → AllInk breaks12 (character_text unicode c)

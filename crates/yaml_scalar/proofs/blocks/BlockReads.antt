@@ -12,10 +12,9 @@ use Rattle.yaml_scalar.proofs.blocks.BlockFinal.{joined-kept, unfolded-kept, end
 use Rattle.yaml_scalar.proofs.blocks.BlockFolds.{folded-clean, folded-content, folded-reads, folded-ends, folded-flush}
 use Rattle.yaml_scalar.proofs.blocks.BlockParts.{Ordinary, AllOrdinary, Clean, parts-clean, bare, shifted, joined-parts, elements-indented, unindented-shifted}
 use Rattle.yaml_scalar.proofs.blocks.BlockParts.{BeginsFlush, detected_indentation-shifted}
-
--- a character that isn't printable isn't among printable characters
-other-than : (c d : ℕ) → is_printable c ≡ true → is_printable d ≡ false → (c == d) ≡ false
-other-than c d p q = false_from_ne_true (c == d) (λ e. false≢true (sym q ∙ rw (eqb-true c d e) at p))
+use Rattle.yaml_base.proofs.stream_lines.StreamBlockEnds.{hint_text}
+use Rattle.yaml_scalar.proofs.LineFolds.{unlike}
+use Rattle.std.proofs.Math.Bool.{or-false}
 
 same-break : (feed separator paragraph breaks12 : Bool) → (breaks12 ≡ true → (separator || paragraph) ≡ false)
     → (feed || (not breaks12 && (separator || paragraph))) ≡ (feed || false || false || separator || paragraph)
@@ -27,23 +26,19 @@ same-break false false true false h = refl
 same-break false false false true h = refl
 same-break false false false false h = refl
 
-or-none : (a : Bool) → (a || false) ≡ a
-or-none true = refl
-or-none false = refl
-
 -- a character that isn't special is ordinary
 pub ordinary : (charset : Charset) (c : ℕ) → is_special charset c ≡ false → Ordinary false charset.breaks12 c
 ordinary charset c h =
     let tests = or_parts _ _ h in
     let printable : is_printable c ≡ true = not-false _ (or_parts _ _ tests.0).0 in
-    let no_return : (c == 13) ≡ false = other-than c 13 printable refl in
-    let no_next_line : (c == 0x85) ≡ false = other-than c 0x85 printable refl in
+    let no_return : (c == 13) ≡ false = unlike c 13 printable refl in
+    let no_next_line : (c == 0x85) ≡ false = unlike c 0x85 printable refl in
     record {
       same_break = same-break (c == line_feed) (c == 0x2028) (c == 0x2029) charset.breaks12
           (λ on. sym (ap (λ b. b && (c == 0x2028 || c == 0x2029)) on) ∙ tests.1)
           ∙ ap (λ b. c == line_feed || b || false || c == 0x2028 || c == 0x2029) (sym no_return)
           ∙ ap (λ b. c == line_feed || c == 13 || b || c == 0x2028 || c == 0x2029) (sym no_next_line);
-      same_blank = λ none. ap (λ x. is_space c || x) (special_tab charset c h) ∙ or-none (is_space c);
+      same_blank = λ none. ap (λ x. is_space c || x) (special_tab charset c h) ∙ or-false (is_space c);
       no_return = no_return;
       no_next_line = no_next_line;
     }
@@ -86,16 +81,11 @@ pub literal-ordinary : (charset : Charset) (value : Text) → allows_literal cha
 literal-ordinary charset value h =
     tabs-somewhere charset value (or_parts (is_empty value || begins_with_blanks_alone value) (somewhere (bars_literal charset) value) (not-true _ h)).1
 
--- the text of a hint
-hint-text : (hint : Text) (cursor : Cursor) → (render_hint hint cursor).text ≡ hint
-hint-text [] cursor = refl
-hint-text (c ∷ rest) cursor = refl
-
 -- the text of a header, and the lines after it
 pub block-text : (symbol best_indent : ℕ) (value lines : Text) (cursor : Cursor)
     → (block_body symbol best_indent value lines cursor).text ≡ symbol ∷ ((indentation_hint best_indent value ++ ending_hint
     (ending value)) ++ line_feed ∷ lines)
-block-text symbol best_indent value lines cursor = grind (arith, hint-text, append_assoc)
+block-text symbol best_indent value lines cursor = grind (arith, hint_text, append_assoc)
 
 -- the digit of an indent of 2 to 9
 is-digit : (n : ℕ) → 2 ≤ n → n ≤ 9 → is_between 49 57 (48 + n) ≡ true

@@ -7,6 +7,7 @@ use Rattle.yaml_base.proofs.Common.{ends_in_break}
 use Rattle.std.proofs.lemmas.Bool.{ltb-false}
 use Rattle.yaml_scalar.specs.{BlockSteps.render_fold_or_content, declared.block_lines.Place.Place}
 use Rattle.yaml_scalar.specs.declared.block_lines.Place.TheVariants.{Fixed, Folding, LineStart}
+use Rattle.yaml_pen.proofs.{NewLines.column_after-spaces, Writing.column_after-append}
 
 -- a new line at the start of a line
 new-line-first : (indent : ℕ) → new_line indent first_cursor
@@ -14,16 +15,8 @@ new-line-first : (indent : ℕ) → new_line indent first_cursor
 new-line-first indent = grind (arith, or_from, le-ltb, and_right)
 
 -- the column after a new line is the one that its text leads to
-column-spaces : (n column : ℕ) → column_after (replicate n space) column ≡ column + n
-column-spaces zero column = omega arith
-column-spaces (suc n) column = column-spaces n (column + 1) ∙ omega arith
-
-column-after-append : (prefix rest : Text) (column : ℕ) → column_after (prefix ++ rest) column ≡ column_after rest (column_after prefix column)
-column-after-append [] rest column = refl
-column-after-append (c ∷ prefix) rest column = column-after-append prefix rest (next_column c column)
-
 column-new-line : (at : ℕ) (cursor : Cursor) → column_after (new_line at cursor).text cursor.column ≡ at
-column-new-line at cursor = grind (arith, column-spaces, or_parts, ltb-false)
+column-new-line at cursor = grind (arith, column_after-spaces, or_parts, ltb-false)
 
 -- the cursor after some text that began at a cursor in white space
 abbrev pub after_text : Text → Bool → ℕ → Cursor
@@ -51,7 +44,7 @@ step-cursor limit indent place c rest column indention = by (is_break c) refl
         ≡ after_text (render_inner limit indent at c rest (spot column indention)).text false column
     inner LineStart = ap (λ n. spot n false)
         (ap (next_column c) (sym (column-new-line indent (spot column indention)))
-        ∙ sym (column-after-append (new_line indent (spot column indention)).text (c ∷ []) column))
+        ∙ sym (column_after-append (new_line indent (spot column indention)).text (c ∷ []) column))
     inner Folding = fold-cursor (folds limit column c rest)
     inner Fixed = refl
 
@@ -83,7 +76,7 @@ lines-cursor folded limit indent place (c ∷ rest) column indention =
     ap (λ (l : Rendered). l.cursor) whole
     ∙ lines-cursor folded limit indent next rest at (is_break c)
     ∙ ap (λ n. spot n (last_broken (is_break c) rest))
-    (sym (column-after-append step.text (lines_from folded limit indent next rest (spot at (is_break c))).text column)
+    (sym (column_after-append step.text (lines_from folded limit indent next rest (spot at (is_break c))).text column)
     ∙ ap (λ (l : Rendered). column_after l.text column) (sym whole))
 
 pub ending-last : (c : ℕ) (rest : Text) → ends_in_break (ending (c ∷ rest)) ≡ last_broken (is_break c) rest

@@ -21,12 +21,12 @@ folding_text limit indent column (line text ∷ rest) = continued indent (cut_fr
 folding_text limit indent column (line_break b ∷ rest) = indented indent (folded_parts limit indent true (line_break b ∷ rest))
 
 -- a line that was cut begins with a line
-abbrev BeginsLine : List Part → Type 0
+abbrev pub BeginsLine : List Part → Type 0
 BeginsLine [] = ⊥
 BeginsLine (line text ∷ rest) = Unit {0}
 BeginsLine (line_break b ∷ rest) = ⊥
 
-begun-line : (c : ℕ) (ps : List Part) → BeginsLine (begun c ps)
+pub begun-line : (c : ℕ) (ps : List Part) → BeginsLine (begun c ps)
 begun-line c [] = tt
 begun-line c (line text ∷ rest) = tt
 begun-line c (line_break b ∷ rest) = tt
