@@ -16,13 +16,6 @@ tenfold : (negative : Bool) (n : ℕ) → signed negative (n * 10 + 0) *ℤ pos 
 tenfold true n = omega (arith, ints)
 tenfold false n = omega (arith, ints)
 
--- the natural number that lies above 0
-abbrev rise : ℤ → ℕ
-rise gap = elim gap as (λ _. ℕ) [
-  | pos n ↦ n
-  | negsuc n ↦ 0
-]
-
 -- the meaning of a number's spelling is the number, by its parts
 keeps : (negative : Bool) (whole : Text) (fraction : Option Text) (exponent : Option JsonExponent)
     → means_number (json_value (record { negative = negative; whole = whole; fraction = fraction; exponent = exponent }))

@@ -1,5 +1,5 @@
 -- A name in a message: both ends of a long one, and all of another.
-use Rattle.std.proofs.Common.{◌≡◌, ◌≤◌, ◌<◌, ◌+◌, ℕ, Bool, true, false, IfSome, List, Option, None, Some, length, nat_lt, sym, subst, ap, ◌∙◌, codes, refl, if◌then◌else◌}
+use Rattle.std.proofs.Common.{◌≡◌, ◌≤◌, ◌+◌, ℕ, Bool, true, false, IfSome, List, Option, None, Some, length, sym, subst, ap, ◌∙◌, codes, refl, if◌then◌else◌}
 use Rattle.std.proofs.lemmas.Bool.{lt-ltb, le-ltb}
 use Rattle.std.specs.Char.{is_ascii}
 use Rattle.std.specs.Fmt.{◌++?◌, debug_str}

@@ -1,7 +1,7 @@
 -- A stage allows and refuses the same events as the partial tree to which it corresponds.
 use Rattle.yaml_base.proofs.Common.{nat_tests, arith, suc, is_none, option_and_then, Option, None, Some, length, Bool, false, true, List, [], ◌∷◌, refl}
 use Rattle.yaml_base.proofs.Common.{◌≡◌, ap, subst, sym, ◌∙◌, TagDirective, DocumentStart, Event, stream_start, stream_end, document_start, document_end, alias}
-use Rattle.yaml_base.proofs.Common.{scalar, sequence_start, sequence_end, mapping_start, mapping_end, Node, nodes_and, pairs_and, Documents, no_documents}
+use Rattle.yaml_base.proofs.Common.{scalar, sequence_start, sequence_end, mapping_start, mapping_end, Node, Documents, no_documents}
 use Rattle.yaml_base.proofs.Common.{documents_and, Level, at_item, at_key, at_value, Partial, before_stream, between_documents, within_document, after_root}
 use Rattle.yaml_base.proofs.Common.{after_stream, with_node, closed, push, pushed, partial_of, first_standing, Standing, Role, as_item, as_key}
 use Rattle.yaml_base.proofs.Common.{as_value, ends_collection, refusal_at, refusal, Encoding, Effective, Frame, Stage, at_stream}
@@ -28,12 +28,6 @@ StandsFor (within_document e d s levels) (at_node t frames) = AllAwait levels fr
 StandsFor (after_root e d s root) at_document_end = Unit {0}
 StandsFor (after_stream t) at_nothing = Unit {0}
 StandsFor p stage = ⊥
-
--- A node more on both sides.
-abbrev level_next : Level → Node → Level
-level_next (at_item c items) n = at_item c (nodes_and items n)
-level_next (at_key c pairs) n = at_value c pairs n
-level_next (at_value c pairs key) n = at_key c (pairs_and pairs key n)
 
 -- the stage after an event corresponds to the tree after it
 abbrev Follows : Partial → Stage → Event → Type 0

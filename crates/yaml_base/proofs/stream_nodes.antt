@@ -1,6 +1,7 @@
 pub mod StreamAgrees
 pub mod StreamTexts
 pub mod StreamFits
+pub mod StreamLaid
 pub mod StreamItems
 pub mod StreamPairs
 pub mod StreamPairReads

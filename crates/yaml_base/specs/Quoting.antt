@@ -1,5 +1,5 @@
 -- The text of a name in a message.
-use Rattle.std.specs.Prelude.{◌≡◌, ◌+◌, ◌-◌, ◌<◌, Bool, Option, None, Some, List, ℕ, codes, drop, if◌then◌else◌, length, nat_lt, take}
+use Rattle.std.specs.Prelude.{◌≡◌, ◌+◌, ◌-◌, ◌<◌, Option, None, Some, List, ℕ, codes, drop, if◌then◌else◌, length, nat_lt, take}
 use Rattle.std.specs.Char.{is_ascii}
 use Rattle.std.specs.Fmt.{◌++?◌, debug_str}
 use Rattle.std.specs.List.{list_all}

@@ -6,11 +6,8 @@ use Rattle.yaml_base.proofs.Common.{has_no_nodes, has_no_pairs, Effective, is_wr
 use Rattle.yaml_base.proofs.Common.{sequence_tree, mapping_tree, stands_at_margin, Line, lines_of, is_spaces, without_blank_lines, past_indentation, blanked}
 use Rattle.yaml_base.proofs.Common.{LinesReader, NodeKind, begins_sequence, begins_mapping, begins_text, kind_of_node, ReadsText, node_by_kind, node_at}
 use Rattle.yaml_base.proofs.{stream_documents.StreamRoots.marker_cursor, stream_lines.StreamClosed.closed, stream_lines.StreamCuts.none_not_some}
-use Rattle.yaml_base.proofs.{stream_nodes.StreamAgrees.node_tree, stream_nodes.StreamPairReads.pairs_lay, stream_nodes.StreamPairs.pairs_text}
+use Rattle.yaml_base.proofs.{stream_nodes.StreamAgrees.node_tree}
 use Rattle.yaml_base.proofs.Common.{begins_properties, text_or_properties, node_read, Rules, no_properties}
-use Rattle.yaml_base.proofs.stream_lines.StreamMarkerless.{items_markerless, pairs_markerless}
-use Rattle.yaml_base.proofs.stream_nodes.StreamCentral.{items_block, pairs_block}
-use Rattle.yaml_base.proofs.stream_nodes.StreamItems.{items_text, items_lay}
 use Rattle.yaml_base.proofs.stream_documents.StreamRootLines.{FirstStands, Stood, begins_stands, block_stands}
 use Rattle.yaml_base.proofs.stream_documents.StreamRootsStand.{rules_of, root_cursor, render_root, is_leaf, PropertiesStand, RootStands}
 use Rattle.yaml_base.proofs.stream_nodes.StreamFits.{size, Opens, Fits, blanked_lines}
@@ -33,24 +30,20 @@ block_stood (sequence_node start items) given s directives on_marker deep block 
     let rules : Rules = record { breaks12 = s.breaks12; directives = given } in
     let begun : Rendered = render_begun s directives start (root_cursor on_marker) in
     let asked : BegunReads rules s directives start (root_cursor on_marker) × ItemLeaves items rules s directives 0 = rw block at leaves in
-    let fit = items_fit rules s directives deep items 0 asked.1 in
+    let laid = items_fit rules s directives deep items 0 begun.cursor asked.1 in
     let some = not_empty s start (has_no_nodes items) block in
-    let reads = items_block rules s directives items 0 fit some in
     rw block
-    (block_stands rules on_marker start.anchor (collection_tag s.canonical start) begun (items_own items s directives false 0 begun.cursor)
-    (items_text items s directives 0) reads.kind asked.0 (items_lay rules s directives items 0 begun.cursor fit some) reads.opened
-    (items_markerless rules s directives items fit) properties)
+    (block_stands rules on_marker start.anchor (collection_tag s.canonical start) begun (items_own items s directives false 0 begun.cursor) laid.text _
+    asked.0 (laid.lays some) (laid.opened some) (laid.reads.markerless refl) properties)
 block_stood (mapping_node start pairs) given s directives on_marker deep block leaves properties =
     let rules : Rules = record { breaks12 = s.breaks12; directives = given } in
     let begun : Rendered = render_begun s directives start (root_cursor on_marker) in
     let asked : BegunReads rules s directives start (root_cursor on_marker) × PairLeaves pairs rules s directives 0 = rw block at leaves in
-    let fit = pairs_fit rules s directives deep pairs 0 asked.1 in
+    let laid = pairs_fit rules s directives deep pairs 0 begun.cursor asked.1 in
     let some = not_empty s start (has_no_pairs pairs) block in
-    let reads = pairs_block rules s directives pairs 0 fit some in
     rw block
-    (block_stands rules on_marker start.anchor (collection_tag s.canonical start) begun (pairs_own pairs s directives false 0 begun.cursor)
-    (pairs_text pairs s directives 0) reads.kind asked.0 (pairs_lay rules s directives pairs 0 begun.cursor fit some) reads.opened
-    (pairs_markerless rules s directives pairs fit) properties)
+    (block_stands rules on_marker start.anchor (collection_tag s.canonical start) begun (pairs_own pairs s directives false 0 begun.cursor) laid.text _
+    asked.0 (laid.lays some) (laid.opened some) (laid.reads.markerless refl) properties)
 
 -- Scalars
 

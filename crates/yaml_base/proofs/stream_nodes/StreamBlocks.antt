@@ -6,26 +6,12 @@ use Rattle.yaml_base.proofs.Common.{first_line_is_blank, ends_indicator, belongs
 use Rattle.yaml_base.proofs.Common.{begins_text, kind_of_node, ReadsText, node_by_kind, node_at, node_lines, begins_properties, after_properties}
 use Rattle.yaml_base.proofs.stream_lines.StreamClosed.{closing, closed, Settled, spaces_line, begins_cons, lines_behind, after_line, lines_broken}
 use Rattle.yaml_base.proofs.{stream_lines.StreamTidyLaws.lines_after_first, stream_lines.StreamClosed.closed_alike, stream_lines.StreamClosed.closed_both}
-use Rattle.yaml_base.proofs.{stream_nodes.StreamFits.WithinColumn, stream_nodes.StreamFits.Opens, stream_nodes.StreamFits.Fits, stream_nodes.StreamItems.Lays}
+use Rattle.yaml_base.proofs.{stream_nodes.StreamFits.WithinColumn, stream_nodes.StreamFits.Opens, stream_nodes.StreamFits.Fits, stream_nodes.StreamLaid.Opened, stream_nodes.StreamLaid.Lays}
 use Rattle.yaml_base.proofs.Common.{text_or_properties, node_read, Rules, Properties, no_properties, PropertiesRead, properties_read, collection_tag_parsed}
 use Rattle.yaml_base.proofs.stream_lines.StreamLineLaws.{is_closed, OneLine, one_line_both}
 use Rattle.yaml_base.proofs.stream_lines.StreamInside.{indented_spaces, not_blank, blank_spaces, AllInside, blank_both}
 
 -- Lines
-
--- some lines, the first of which begins a node at a column
-pub record Opened (rules : Rules) (e : ℕ) (lines : List Line) (kind : NodeKind) : Type 0 where
-  pub head : ℕ
-  pub tail : Text
-  pub ending : Text
-  pub rest : List Line
-  pub is : lines ≡ record { text = spaces e ++ (head ∷ tail); ending = ending } ∷ rest
-  pub shows : (head == space) ≡ false
-  pub begins : kind_of_node rules (head ∷ tail) ≡ kind
-
--- more lines after them
-pub opened_more : (rules : Rules) (e : ℕ) (lines more : List Line) (kind : NodeKind) → Opened rules e lines kind → Opened rules e (lines ++ more) kind
-opened_more rules e lines more kind o = grind (arith)
 
 -- the node that such lines begin is read by its kind
 pub opened_reads : (rules : Rules) (reads : LinesReader) (reads_text : ReadsText) (properties : Properties) (here first : Bool) (e : ℕ) (lines : List Line)
@@ -127,12 +113,12 @@ own_closed begun entries =
 pub record Entries (rules : Rules) (e : ℕ) (place : Place) (begun entries : Rendered) (text : Text) : Type 0 where
   pub settled : Settled entries.cursor
   pub ends : is_closed rules.breaks12 text ≡ true
-  pub lays : Lays e begun.cursor entries text
+  pub lays : Lays e (render_nothing begun.cursor) entries text
   pub inside : (q : Bool) (d : ℕ) → WithinColumn q d place.role place.column → AllInside q d (lines_of rules.breaks12 text)
   pub compact : begun.cursor.indention ≡ true → Compact e begun.cursor
 
 -- on lines below
-pub below : (rules : Rules) (e : ℕ) (cursor : Cursor) (entries : Rendered) (text : Text) → Lays e cursor entries text → cursor.indention ≡ false
+pub below : (rules : Rules) (e : ℕ) (cursor : Cursor) (entries : Rendered) (text : Text) → Lays e (render_nothing cursor) entries text → cursor.indention ≡ false
     → closed entries ≡ line_feed ∷ text
 below rules e cursor entries text lays h =
     lays.lays ∙ ap (λ t. t ++ (lays.head ∷ lays.tail)) (broken e cursor h) ∙ ap (λ t. line_feed ∷ t) (sym lays.is)

@@ -2,17 +2,16 @@
 use Rattle.yaml_base.proofs.Common.{suc, zero, ℕ, ◌+◌, ◌-◌, ◌<◌, ◌≤◌, if◌then◌else◌, ◌==◌, Option, None, Some, nat_lt, Bool, false, not, true, ◌&&◌, ◌||◌}
 use Rattle.yaml_base.proofs.Common.{List, ◌∷◌, refl, ◌≡◌, eqb-true, le-ltb, true≢false, ap, ◌∙◌, arith, or_parts, false≢true, Text, line_feed, Cursor}
 use Rattle.yaml_base.proofs.Common.{Rendered, TagDirective, Collection, collection_tag, Node, alias_node, scalar_node, Nodes, sequence_node, Pairs}
-use Rattle.yaml_base.proofs.Common.{mapping_node, no_nodes, nodes_and, no_pairs, pairs_and, render_properties, asks_flow, is_written_in_flow, Brackets, square}
-use Rattle.yaml_base.proofs.Common.{curly, Role, Place, is_undented, entries_column, has_no_nodes, has_no_pairs, is_simple, Effective, Tree, sequence_tree}
-use Rattle.yaml_base.proofs.Common.{mapping_tree, spaces, Rules}
-use Rattle.yaml_base.proofs.stream_lines.StreamClosed.{Settled, new_line_closes, indicator_cursor, rank}
-use Rattle.yaml_base.proofs.stream_nodes.{StreamAgrees.node_tree, StreamAgrees.nodes_tree, StreamAgrees.pairs_tree, StreamCentral.items_block}
-use Rattle.yaml_base.proofs.stream_nodes.{StreamCentral.pairs_block, StreamPairReads.colon_ends, StreamPairReads.pairs_settled, StreamPairReads.pairs_lay}
-use Rattle.yaml_base.proofs.stream_nodes.StreamBlocks.{Block, Compact, Entries, BegunKind, block_fits}
+use Rattle.yaml_base.proofs.Common.{mapping_node, no_nodes, nodes_and, no_pairs, pairs_and, render_properties, asks_flow, is_written_in_flow, square}
+use Rattle.yaml_base.proofs.Common.{curly, Role, Place, is_undented, entries_column, has_no_nodes, has_no_pairs, is_simple, Effective, spaces, Rules}
+use Rattle.yaml_base.proofs.stream_lines.StreamClosed.{Settled, new_line_closes, indicator_cursor}
+use Rattle.yaml_base.proofs.stream_nodes.{StreamAgrees.node_tree, StreamAgrees.nodes_tree, StreamAgrees.pairs_tree, StreamCentral.laid_block}
+use Rattle.yaml_base.proofs.stream_nodes.{StreamPairReads.colon_ends, StreamPairReads.pair_laid}
+use Rattle.yaml_base.proofs.stream_nodes.StreamBlocks.{Compact, BegunKind, block_fits}
 use Rattle.yaml_base.proofs.stream_nodes.StreamFits.{size, items_size, pairs_size, WithinColumn, Fits}
-use Rattle.yaml_base.proofs.stream_nodes.StreamItems.{item_place, items_text, ItemsFit, items_settled, items_end, items_inside, items_lay}
-use Rattle.yaml_base.proofs.stream_nodes.StreamPairs.{KeyFits, key_place, value_place, colon_cursor, simple_key, pairs_text, PairFits, PairsFit, pairs_end}
-use Rattle.yaml_base.proofs.stream_nodes.StreamPairs.{pairs_inside}
+use Rattle.yaml_base.proofs.stream_nodes.StreamItems.{item_place, item_laid}
+use Rattle.yaml_base.proofs.stream_nodes.StreamLaid.{Content, tree_of, margin, Laid, laid_none}
+use Rattle.yaml_base.proofs.stream_nodes.StreamPairs.{KeyFits, key_place, value_place, colon_cursor, simple_key, PairFits}
 use Rattle.yaml_base.proofs.stream_nodes.StreamTexts.{collection_own, node_own, items_own, pairs_own}
 
 -- Premises
@@ -119,15 +118,10 @@ compact_begun : (rules : Rules) (anchor tag : Option Text) (column : Option ℕ)
     → BegunKind rules anchor tag cursor begun → begun.cursor.indention ≡ true → Compact (entries_column false undented indent column begun.cursor) begun.cursor
 compact_begun rules anchor tag column undented indent cursor begun deep stands h10 h = grind (false≢true, arith, compact_at)
 
--- the items of a sequence in a block are within the columns around
-items_within : (s : Effective) (q : Bool) (d : ℕ) (role : Role) (column : Option ℕ) (cursor : Cursor) → 2 ≤ s.indent → WithinColumn q d role column
-    → d + rank q ≤ entries_column false (is_undented s role) s.indent column cursor
-items_within s q d role column cursor deep within = grind (arith)
-
--- the pairs of a mapping in a block are deeper than the columns around
-pairs_within : (q : Bool) (d : ℕ) (role : Role) (column : Option ℕ) (indent : ℕ) (cursor : Cursor) → 2 ≤ indent → WithinColumn q d role column
-    → d < entries_column false false indent column cursor
-pairs_within q d role column indent cursor deep within = grind (arith)
+-- the entries of a collection in a block are within the columns around
+entries_within : (q : Bool) (s : Effective) (r : Bool) (d : ℕ) (role : Role) (column : Option ℕ) (cursor : Cursor) → 2 ≤ s.indent → WithinColumn r d role column
+    → d + margin q r ≤ entries_column false (q && is_undented s role) s.indent column cursor
+entries_within q s r d role column cursor deep within = grind (arith)
 
 -- The law
 
@@ -135,77 +129,34 @@ pairs_within q d role column indent cursor deep within = grind (arith)
 not_empty : (s : Effective) (place : Place) (start : Collection) (empty : Bool) → is_written_in_flow s place start empty ≡ false → empty ≡ false
 not_empty s place start empty h = (or_parts (place.in_flow || s.canonical || asks_flow start.style) empty h).1
 
--- a collection fits if its entries in a block do, or by itself
-collection_fits : {Read : Type 0} (rules : Rules) (s : Effective) (place : Place) (cursor : Cursor) (brackets : Brackets) (undented empty : Bool)
-    (begun : Rendered) (size : ℕ) (text : Text) (own : Bool → ℕ → Cursor → Rendered) (make : Bool → Option Text → Option Text → Tree)
-    (anchor tag : Option Text) (in_flow x : Bool)
-    → in_flow ≡ x
-    → EitherType x
-    (Fits rules 1 (collection_own s brackets in_flow undented empty place.column begun (own in_flow)) (make in_flow anchor tag) place cursor)
-    (BegunKind rules anchor tag cursor begun × Read)
-    → (in_flow ≡ false → BegunKind rules anchor tag cursor begun × Read
-    → Block rules size (entries_column false undented s.indent place.column begun.cursor) text (make false)
-    × Entries rules (entries_column false undented s.indent place.column begun.cursor) place begun
-    (own false (entries_column false undented s.indent place.column begun.cursor) begun.cursor) text)
-    → Fits rules (suc size) (collection_own s brackets x undented empty place.column begun (own x)) (make x anchor tag) place cursor
-collection_fits rules s place cursor brackets undented empty begun size text own make anchor tag in_flow true h leaf each = grind (arith)
-collection_fits rules s place cursor brackets undented empty begun size text own make anchor tag in_flow false h read each =
-    let e : ℕ = entries_column false undented s.indent place.column begun.cursor in
-    let parts = each h read in
-    block_fits rules size e place cursor begun (own false e begun.cursor) text (make false) anchor tag read.0 parts.0 parts.1
-
--- a sequence fits if its items do, or by itself
-sequence_fits : (start : Collection) (items : Nodes) (rules : Rules) (s : Effective) (directives : List TagDirective) (place : Place) (cursor : Cursor)
-    → 2 ≤ s.indent → Stands place.column cursor
-    → Leaves (sequence_node start items) rules s directives place cursor
-    → ((e : ℕ) → ItemLeaves items rules s directives e → ItemsFit rules s directives items e)
-    → Fits rules (size (sequence_node start items)) (node_own (sequence_node start items) s directives place cursor)
-    (node_tree (sequence_node start items) s directives place) place cursor
-sequence_fits start items rules s directives place cursor deep stands leaves each =
-    let begun : Rendered = render_begun s directives start cursor in
-    let e : ℕ = entries_column false (is_undented s place.role) s.indent place.column begun.cursor in
-    collection_fits rules s place cursor square (is_undented s place.role) (has_no_nodes items) begun (items_size items) (items_text items s directives e)
-    (items_own items s directives) (λ x anchor tag. sequence_tree anchor tag (nodes_tree items s directives x)) start.anchor (collection_tag s.canonical start)
-    (is_written_in_flow s place start (has_no_nodes items)) (is_written_in_flow s place start (has_no_nodes items)) refl leaves
-    (λ h read.
-    let fit = each e read.1 in
-    let some = not_empty s place start (has_no_nodes items) h in (
-      items_block rules s directives items e fit some,
-      record {
-        settled = items_settled rules s directives items e begun.cursor fit some;
-        ends = items_end rules s directives items e fit;
-        lays = items_lay rules s directives items e begun.cursor fit some;
-        inside = λ q d within. items_inside rules s directives items e fit q d (items_within s q d place.role place.column begun.cursor deep within);
-        compact = compact_begun rules start.anchor (collection_tag s.canonical start) place.column
-            (is_undented s place.role) s.indent cursor begun deep stands read.0;
-      },
-    ))
-
--- so does a mapping
-mapping_fits : (start : Collection) (pairs : Pairs) (rules : Rules) (s : Effective) (directives : List TagDirective) (place : Place) (cursor : Cursor)
-    → 2 ≤ s.indent → Stands place.column cursor
-    → Leaves (mapping_node start pairs) rules s directives place cursor
-    → ((e : ℕ) → PairLeaves pairs rules s directives e → PairsFit rules s directives pairs e)
-    → Fits rules (size (mapping_node start pairs)) (node_own (mapping_node start pairs) s directives place cursor)
-    (node_tree (mapping_node start pairs) s directives place) place cursor
-mapping_fits start pairs rules s directives place cursor deep stands leaves each =
-    let begun : Rendered = render_begun s directives start cursor in
-    let e : ℕ = entries_column false false s.indent place.column begun.cursor in
-    collection_fits rules s place cursor curly false (has_no_pairs pairs) begun (pairs_size pairs) (pairs_text pairs s directives e)
-    (pairs_own pairs s directives) (λ x anchor tag. mapping_tree anchor tag (pairs_tree pairs s directives x)) start.anchor (collection_tag s.canonical start)
-    (is_written_in_flow s place start (has_no_pairs pairs)) (is_written_in_flow s place start (has_no_pairs pairs)) refl leaves
-    (λ h read.
-    let fit = each e read.1 in
-    let some = not_empty s place start (has_no_pairs pairs) h in (
-      pairs_block rules s directives pairs e fit some,
-      record {
-        settled = pairs_settled rules s directives pairs e begun.cursor fit some;
-        ends = pairs_end rules s directives pairs e fit;
-        lays = pairs_lay rules s directives pairs e begun.cursor fit some;
-        inside = λ q d within. pairs_inside rules s directives pairs e fit q d (pairs_within q d place.role place.column s.indent begun.cursor deep within);
-        compact = compact_begun rules start.anchor (collection_tag s.canonical start) place.column false s.indent cursor begun deep stands read.0;
-      },
-    ))
+-- a collection fits if its entries in a block are laid out, or by itself
+collection_fits : {Read : Type 0} (q : Bool) (rules : Rules) (s : Effective) (directives : List TagDirective) (start : Collection) (place : Place)
+    (cursor : Cursor) (empty : Bool) (size : ℕ) (own : Bool → ℕ → Cursor → Rendered) (content : Bool → Content q) (x : Bool)
+    → 2 ≤ s.indent → Stands place.column cursor → (x ≡ false → empty ≡ false)
+    → (let begun = render_begun s directives start cursor in
+    let undented = q && is_undented s place.role in
+    let e = entries_column false undented s.indent place.column begun.cursor in
+    let rendered = collection_own s (if q then square else curly) x undented empty place.column begun (own x) in
+    let tree = tree_of q start.anchor (collection_tag s.canonical start) (content x) in
+    EitherType x (Fits rules 1 rendered tree place cursor) (BegunReads rules s directives start cursor × Read)
+    → (Read → Laid q rules e begun.cursor empty (own false e begun.cursor) size (content false))
+    → Fits rules (suc size) rendered tree place cursor)
+collection_fits q rules s directives start place cursor empty size own content true deep stands some leaf each = grind (arith)
+collection_fits q rules s directives start place cursor empty size own content false deep stands some read each =
+    let begun = render_begun s directives start cursor in
+    let tag = collection_tag s.canonical start in
+    let undented = q && is_undented s place.role in
+    let e = entries_column false undented s.indent place.column begun.cursor in
+    let laid = each read.1 in
+    block_fits rules size e place cursor begun (own false e begun.cursor) laid.text (λ anchor tag. tree_of q anchor tag (content false)) start.anchor tag read.0
+    (laid_block q rules e begun.cursor empty _ size (content false) laid (some refl))
+    (record {
+      settled = laid.settled (some refl);
+      ends = laid.reads.ends;
+      lays = laid.lays (some refl);
+      inside = λ r d within. laid.reads.inside r d (entries_within q s r d place.role place.column begun.cursor deep within);
+      compact = compact_begun rules start.anchor tag place.column undented s.indent cursor begun deep stands read.0;
+    })
 
 -- a pair fits if its key and its value do
 pair_fits : (x : Bool) (pairs : Pairs) (key value : Node) (rules : Rules) (s : Effective) (directives : List TagDirective) (e : ℕ)
@@ -232,22 +183,26 @@ module _ (rules : Rules) (s : Effective) (directives : List TagDirective) (deep 
     node_fits (alias_node name) place cursor stands leaves = leaves
     node_fits (scalar_node content) place cursor stands leaves = leaves
     node_fits (sequence_node start items) place cursor stands leaves =
-        sequence_fits start items rules s directives place cursor deep stands leaves (λ e each. items_fit items e each)
+        collection_fits true rules s directives start place cursor (has_no_nodes items) (items_size items) (items_own items s directives)
+        (nodes_tree items s directives) (is_written_in_flow s place start (has_no_nodes items)) deep stands
+        (not_empty s place start (has_no_nodes items)) leaves (λ each. items_fit items _ _ each)
     node_fits (mapping_node start pairs) place cursor stands leaves =
-        mapping_fits start pairs rules s directives place cursor deep stands leaves (λ e each. pairs_fit pairs e each)
+        collection_fits false rules s directives start place cursor (has_no_pairs pairs) (pairs_size pairs) (pairs_own pairs s directives)
+        (pairs_tree pairs s directives) (is_written_in_flow s place start (has_no_pairs pairs)) deep stands
+        (not_empty s place start (has_no_pairs pairs)) leaves (λ each. pairs_fit pairs _ _ each)
 
-    pub items_fit : (items : Nodes) (e : ℕ) → ItemLeaves items rules s directives e → ItemsFit rules s directives items e
-    items_fit no_nodes e leaves = tt
-    items_fit (nodes_and items last) e leaves = (
-      items_fit items e leaves.0,
-      node_fits last (item_place items e) (indicator_cursor e) (refl, λ h. refl) leaves.1,
-    )
+    pub items_fit : (items : Nodes) (e : ℕ) (cursor : Cursor) → ItemLeaves items rules s directives e
+        → Laid true rules e cursor (has_no_nodes items) (items_own items s directives false e cursor) (items_size items) (nodes_tree items s directives false)
+    items_fit no_nodes e cursor leaves = laid_none true rules e cursor
+    items_fit (nodes_and items last) e cursor leaves =
+        item_laid rules s directives items last e cursor (items_fit items e cursor leaves.0)
+        (node_fits last (item_place items e) (indicator_cursor e) (refl, λ h. refl) leaves.1)
 
-    pub pairs_fit : (pairs : Pairs) (e : ℕ) → PairLeaves pairs rules s directives e → PairsFit rules s directives pairs e
-    pairs_fit no_pairs e leaves = tt
-    pairs_fit (pairs_and pairs key value) e leaves = (
-      pairs_fit pairs e leaves.0,
-      pair_fits (is_simple s.canonical directives key) pairs key value rules s directives e leaves.1
-          (λ y cursor stands each. node_fits value (value_place y e) cursor stands each)
-          (λ each. node_fits key (key_place pairs e) (indicator_cursor e) (refl, λ h. refl) each),
-    )
+    pub pairs_fit : (pairs : Pairs) (e : ℕ) (cursor : Cursor) → PairLeaves pairs rules s directives e
+        → Laid false rules e cursor (has_no_pairs pairs) (pairs_own pairs s directives false e cursor) (pairs_size pairs) (pairs_tree pairs s directives false)
+    pairs_fit no_pairs e cursor leaves = laid_none false rules e cursor
+    pairs_fit (pairs_and pairs key value) e cursor leaves =
+        pair_laid rules s directives pairs key value e cursor (pairs_fit pairs e cursor leaves.0)
+        (pair_fits (is_simple s.canonical directives key) pairs key value rules s directives e leaves.1
+        (λ y cursor stands each. node_fits value (value_place y e) cursor stands each)
+        (λ each. node_fits key (key_place pairs e) (indicator_cursor e) (refl, λ h. refl) each))

@@ -1,16 +1,19 @@
 -- The entries of a mapping read as its pairs, if each of them fits; and how a mapping's text is rendered.
-use Rattle.yaml_base.proofs.Common.{suc, ℕ, ◌+◌, ◌≤◌, if◌then◌else◌, fold, option_and_then, Option, None, Some, length, Bool, false, true, List, [], ◌++◌, ◌∷◌}
-use Rattle.yaml_base.proofs.Common.{refl, ◌≡◌, true≢false, append-nil, append_assoc, ap, sym, ◌∙◌, arith, false≢true, Text, Cursor, Rendered, render_then}
-use Rattle.yaml_base.proofs.Common.{new_line, TagDirective, Node, Pairs, no_pairs, pairs_and, entry_place, Role, as_key, has_no_pairs, is_simple, render_place}
-use Rattle.yaml_base.proofs.Common.{Effective, Tree, TreePairs, tree_pairs_and, Line, lines_of, spaces, SimpleKey, key_entry, value_entry, simple_entry}
-use Rattle.yaml_base.proofs.stream_nodes.StreamPairs.{KeyFits, key_place, value_place, colon_cursor, simple_key, indicated_value, pair_text, pairs_text}
-use Rattle.yaml_base.proofs.{Common.node_read, Common.Rules, stream_lines.StreamInside.past_spaces, stream_nodes.StreamAgrees.node_tree}
-use Rattle.yaml_base.proofs.{stream_nodes.StreamAgrees.pairs_tree, stream_nodes.StreamItems.regrouped, stream_nodes.StreamItems.Lays}
-use Rattle.yaml_base.proofs.{stream_nodes.StreamTexts.node_own, stream_nodes.StreamTexts.pairs_own, stream_lines.StreamLineLaws.unbroken_line}
-use Rattle.yaml_base.proofs.stream_lines.StreamClosed.{closing, closed, Settled, new_line_closes, indicator_cursor}
-use Rattle.yaml_base.proofs.stream_nodes.StreamFits.{size, pairs_size, Fits, tree_anywhere, indicated_lines, blanked_lines}
-use Rattle.yaml_base.proofs.stream_nodes.StreamPairs.{entries_of_pair, pair_entries, PairFits, PairsFit, keyed_lines}
-use Rattle.yaml_base.specs.streams.StreamNodes.{HeldPairs, with_key, with_held_value, simple_pair, entry_by_kind, entry_at, entry_read, no_pairs_held}
+use Rattle.yaml_base.proofs.Common.{suc, ℕ, ◌+◌, ◌≤◌, if◌then◌else◌, is_some, ◌||◌, option_and_then, Option, None, Some, length, Bool, false, true, List, [], ◌++◌, ◌∷◌}
+use Rattle.yaml_base.proofs.Common.{refl, ◌≡◌, append-nil, append_assoc, ap, subst, sym, ◌∙◌, arith, false≢true, Text, Cursor, Rendered, render_then, or_right}
+use Rattle.yaml_base.proofs.Common.{TagDirective, Node, Pairs, pairs_and, entry_place, Role, as_key, as_value, has_no_pairs, is_simple, render_place}
+use Rattle.yaml_base.proofs.Common.{Effective, Tree, TreePairs, tree_pairs_and, lines_of, spaces, SimpleKey, key_entry, value_entry, simple_entry}
+use Rattle.yaml_base.proofs.Common.{begins_sequence, begins_mapping, begins_text, kind_of_node, begins_with_indicator, key_of_line, node_read, Rules}
+use Rattle.yaml_base.proofs.stream_nodes.StreamPairs.{KeyFits, key_place, value_place, colon_cursor, simple_key, indicated_key, simple_value, indicated_value}
+use Rattle.yaml_base.proofs.stream_nodes.StreamPairs.{pair_text, PairFits, keyed_lines, keyed_begins}
+use Rattle.yaml_base.proofs.stream_lines.{StreamInside.past_spaces, StreamInside.inside_deeper, StreamMarkerless.question_markerless}
+use Rattle.yaml_base.proofs.stream_lines.{StreamMarkerless.colon_markerless, StreamLineLaws.is_closed, StreamLineLaws.lines_after_break}
+use Rattle.yaml_base.proofs.stream_nodes.{StreamAgrees.node_tree, StreamAgrees.pairs_tree, StreamItems.regrouped, StreamTexts.node_own, StreamTexts.pairs_own}
+use Rattle.yaml_base.proofs.stream_lines.StreamLineLaws.{unbroken_line}
+use Rattle.yaml_base.proofs.stream_lines.StreamClosed.{closed, closed_behind, new_line_closes, indicator_cursor}
+use Rattle.yaml_base.proofs.stream_nodes.StreamFits.{size, pairs_size, Fits, tree_anywhere, indicated_lines, indicated_ends, blanked_lines}
+use Rattle.yaml_base.proofs.stream_nodes.StreamLaid.{Opened, Lays, Reads, reads_both, reads_one, Indicates, rest_inside, indicated_reads, Entry, Laid, laid_and}
+use Rattle.yaml_base.specs.streams.StreamNodes.{HeldPairs, with_key, with_held_value, simple_pair, entry_by_kind, entry_at, entry_read}
 
 -- Reading
 
@@ -72,41 +75,51 @@ keyed rules text key_tree n own tree role e cursor key fit w i depth deep pairs 
 pub colon_ends : (cursor : Cursor) → (colon_cursor cursor).indention ≡ false
 colon_ends cursor = grind (arith)
 
--- the entries of one pair
-pair_reads : (x : Bool) (rules : Rules) (s : Effective) (directives : List TagDirective) (pairs : Pairs) (key value : Node) (e : ℕ)
-    → PairFits x rules s directives pairs key value e
-    → (depth : ℕ) → size key ≤ depth → size value ≤ depth → (before : TreePairs) (rest : List (List Line))
-    → fold (entry_read rules (node_read depth rules) e) (held before None) (entries_of_pair rules.breaks12 x pairs key value s directives e ++ rest)
-    ≡ fold (entry_read rules (node_read depth rules) e)
-    (held (tree_pairs_and before (node_tree key s directives (key_place pairs e)) (node_tree value s directives (value_place x e))) None) rest
-pair_reads true rules s directives pairs key value e fit depth deep_key deep_value before rest =
-    let own = simple_key pairs key s directives e in
-    ap (λ h. fold (entry_read rules (node_read depth rules) e) h rest) (keyed rules own.text _ _ _ _
-    _ e _ fit.0 fit.1 refl (colon_ends own.cursor) depth deep_value before)
-pair_reads false rules s directives pairs key value e fit depth deep_key deep_value before rest =
-    let k = node_tree key s directives (key_place pairs e) in
-    ap (λ h. fold (entry_read rules (node_read depth rules) e)
-    (entry_read rules (node_read depth rules) e h (lines_of rules.breaks12 (spaces e ++ (0x3A ∷ closed (indicated_value value s directives e))))) rest)
-    (question rules _ _ k _ e fit.0 depth deep_key before)
-    ∙ ap (λ h. fold (entry_read rules (node_read depth rules) e) h rest) (colon rules _ _ _ _ e fit.1 depth deep_value before k)
+-- the indicators of a key and of a value
+pub question_mark : Indicates false 0x3F
+question_mark = record {
+  one_line = λ breaks12. unbroken_line breaks12 (0x3F ∷ []) refl;
+  begins = λ t. refl;
+  markerless = λ t h. question_markerless t;
+  inside = λ r d e t h k. inside_deeper r d e (0x3F ∷ t) (omega arith);
+}
 
--- the entries of a mapping read as its pairs, whatever entries follow
-pub pairs_read_back : (rules : Rules) (s : Effective) (directives : List TagDirective) (pairs : Pairs) (e : ℕ) → PairsFit rules s directives pairs e
-    → (depth : ℕ) → pairs_size pairs ≤ depth → (rest : List (List Line))
-    → fold (entry_read rules (node_read depth rules) e) (Some no_pairs_held) (pair_entries rules.breaks12 pairs s directives e ++ rest)
-    ≡ fold (entry_read rules (node_read depth rules) e) (held (pairs_tree pairs s directives false) None) rest
-pairs_read_back rules s directives no_pairs e fit depth deep rest = refl
-pairs_read_back rules s directives (pairs_and pairs key value) e fit depth deep rest =
-    let x = is_simple s.canonical directives key in
-    let own = entries_of_pair rules.breaks12 x pairs key value s directives e in
-    let before = pairs_tree pairs s directives false in
-    ap (fold (entry_read rules (node_read depth rules) e) (Some no_pairs_held)) (append_assoc (pair_entries rules.breaks12 pairs s directives e) own rest)
-    ∙ pairs_read_back rules s directives pairs e fit.0 depth (omega arith) (own ++ rest)
-    ∙ pair_reads x rules s _ pairs key value e fit.1 depth (omega arith) (omega arith) _ rest
-    ∙ ap (λ k. fold (entry_read rules (node_read depth rules) e) (held (tree_pairs_and before k (node_tree value s directives (value_place x e))) None) rest)
-    (tree_anywhere key s _ false _ e 0) ∙ ap (λ v. fold (entry_read rules (node_read depth rules) e)
-    (held (tree_pairs_and before (node_tree key s directives (entry_place false (as_key (has_no_pairs pairs)) 0)) v) None) rest)
-    (tree_anywhere value s _ false _ e 0)
+colon_mark : Indicates false 0x3A
+colon_mark = record {
+  one_line = λ breaks12. unbroken_line breaks12 (0x3A ∷ []) refl;
+  begins = λ t. refl;
+  markerless = λ t h. colon_markerless t;
+  inside = λ r d e t h k. inside_deeper r d e (0x3A ∷ t) (omega arith);
+}
+
+-- the lines of a pair
+pair_reads : (x : Bool) (rules : Rules) (s : Effective) (directives : List TagDirective) (pairs : Pairs) (key value : Node) (e : ℕ) (before : TreePairs)
+    → PairFits x rules s directives pairs key value e
+    → Reads false rules e (pair_text x pairs key value s directives e) (size key + size value) (record { pairs = before; key = None })
+    (record {
+      pairs = tree_pairs_and before (node_tree key s directives (key_place pairs e)) (node_tree value s directives (value_place x e));
+      key = None;
+    })
+pair_reads true rules s directives pairs key value e before fit =
+    let k = simple_key pairs key s directives e in
+    let v = simple_value pairs key value s directives e in
+    let tree = node_tree key s directives (key_place pairs e) in
+    let o = fit.1.opens refl in
+    reads_one false rules e (k.text ++ (0x3A ∷ o.head)) _ o.ending o.rest (size key + size value) _ _
+    (keyed_lines rules k.text (closed v) tree e fit.0 o)
+    (ap (is_closed rules.breaks12) (sym (append_assoc (spaces e) k.text (0x3A ∷ closed v)))
+    ∙ closed_behind rules.breaks12 (spaces e ++ k.text) 0x3A (closed v) (indicated_ends rules.breaks12 0 0x3A (closed v) o fit.1.ends))
+    (keyed_begins rules k.text o.head tree fit.0 o.symbol) (fit.0.markerless o.head o.symbol)
+    (λ r d h. inside_deeper r d e (k.text ++ (0x3A ∷ o.head)) (omega arith))
+    (λ r d h. rest_inside rules (size value) v _ _ _ e fit.1 refl r d h)
+    (λ depth deep. keyed rules k.text tree (size value) v _ _ e _ fit.0 fit.1 refl (colon_ends k.cursor) depth (omega arith) before)
+pair_reads false rules s directives pairs key value e before fit =
+    let tree = node_tree key s directives (key_place pairs e) in
+    reads_both false rules e _ _ (size key) (size value) _ (record { pairs = before; key = Some tree }) _
+    (indicated_reads false 0x3F rules (size key) (indicated_key pairs key s directives e) tree (as_key (has_no_pairs pairs)) (indicator_cursor e) e _ _
+    question_mark refl fit.0 refl (λ depth deep. question rules _ _ tree _ e fit.0 depth deep before))
+    (indicated_reads false 0x3A rules (size value) (indicated_value value s directives e) _ (as_value false) (indicator_cursor e) e _ _
+    colon_mark refl fit.1 refl (λ depth deep. colon rules _ _ _ _ e fit.1 depth deep before tree))
 
 -- Layout
 
@@ -117,58 +130,91 @@ pair_own x pairs key value s directives e before =
     (render_then before (λ after. render_then (render_place s (key_place pairs e) x after) (node_own key s directives (key_place pairs e))))
     (λ after. render_then (render_place s (value_place x e) false after) (node_own value s directives (value_place x e)))
 
--- it leaves off settled
-pair_settled : (x : Bool) (rules : Rules) (s : Effective) (directives : List TagDirective) (pairs : Pairs) (key value : Node) (e : ℕ) (before : Rendered)
-    → PairFits x rules s directives pairs key value e → Settled (pair_own x pairs key value s directives e before).cursor
-pair_settled true rules s directives pairs key value e before fit = fit.1.settled
-pair_settled false rules s directives pairs key value e before fit = fit.1.settled
-
 -- it is a new line and the pair's text without its first spaces
-pub record PairLays (text before : Text) (own : Rendered) (line : Text) (e : ℕ) : Type 0 where
-  pub head : ℕ
-  pub tail : Text
-  pub is : text ≡ spaces e ++ (head ∷ tail)
-  pub lays : closed own ≡ before ++ (line ++ (head ∷ tail))
-
--- so it is for a pair of either kind
 pair_lays : (x : Bool) (rules : Rules) (s : Effective) (directives : List TagDirective) (pairs : Pairs) (key value : Node) (e : ℕ) (before : Rendered)
     → PairFits x rules s directives pairs key value e
-    → PairLays (pair_text x pairs key value s directives e) before.text (pair_own x pairs key value s directives e before) (new_line e before.cursor).text e
+    → Lays e before (pair_own x pairs key value s directives e before) (pair_text x pairs key value s directives e)
 pair_lays true rules s directives pairs key value e before fit = grind (arith, append_assoc, append-nil)
 pair_lays false rules s directives pairs key value e before fit = grind (arith, append_assoc, regrouped, new_line_closes)
 
--- the pairs of a mapping leave off settled
-pub pairs_settled : (rules : Rules) (s : Effective) (directives : List TagDirective) (pairs : Pairs) (e : ℕ) (cursor : Cursor)
-    → PairsFit rules s directives pairs e
-    → has_no_pairs pairs ≡ false → Settled (pairs_own pairs s directives false e cursor).cursor
-pairs_settled rules s directives no_pairs e cursor fit h = absurd (true≢false h)
-pairs_settled rules s directives (pairs_and pairs key value) e cursor fit h =
-    pair_settled (is_simple s.canonical directives key) rules s directives pairs key value e (pairs_own pairs s directives false e cursor) fit.1
+-- a line with a key begins a mapping
+key_begins : (rules : Rules) (t : Text) → (x y z : Bool) → x ≡ false → y || z ≡ true
+    → (if x then begins_sequence else (if y || z then begins_mapping else begins_text)) ≡ begins_mapping
+key_begins rules t x y z h k = ap (λ b. if b then begins_sequence else (if y || z then begins_mapping else begins_text)) h
+    ∙ ap (λ b. if b then begins_mapping else begins_text) k
 
--- the pairs of a mapping are rendered from a new line on
-pub pairs_lay : (rules : Rules) (s : Effective) (directives : List TagDirective) (pairs : Pairs) (e : ℕ) (cursor : Cursor) → PairsFit rules s directives pairs e
-    → has_no_pairs pairs ≡ false → Lays e cursor (pairs_own pairs s directives false e cursor) (pairs_text pairs s directives e)
-pairs_lay rules s directives no_pairs e cursor fit h = absurd (true≢false h)
-pairs_lay rules s directives (pairs_and no_pairs key value) e cursor fit h =
-    let one = pair_lays (is_simple s.canonical directives key) rules s directives no_pairs key value e (pairs_own no_pairs s directives false e cursor) fit.1 in
-    record { head = one.head; tail = one.tail; is = one.is; lays = one.lays }
-pairs_lay rules s directives (pairs_and (pairs_and pairs a b) key value) e cursor fit h =
-    let x = is_simple s.canonical directives key in
-    let before = pairs_own (pairs_and pairs a b) s directives false e cursor in
-    let one = pair_lays x rules s directives (pairs_and pairs a b) key value e before fit.1 in
-    let lays = pairs_lay rules s directives (pairs_and pairs a b) e cursor fit.0 refl in
-    let more = pair_text x (pairs_and pairs a b) key value s directives e in
+-- the lines of a pair begin a mapping
+pair_opens : (x : Bool) (rules : Rules) (s : Effective) (directives : List TagDirective) (pairs : Pairs) (key value : Node) (e : ℕ)
+    → PairFits x rules s directives pairs key value e
+    → Opened rules e (lines_of rules.breaks12 (pair_text x pairs key value s directives e)) begins_mapping
+pair_opens true rules s directives pairs key value e fit =
+    let o = fit.1.opens refl in
+    let k = (simple_key pairs key s directives e).text in
+    let line = fit.0.first ∷ (fit.0.tail ++ (0x3A ∷ o.head)) in
     record {
-      head = lays.head;
-      tail = lays.tail ++ more;
-      is = ap (λ t. t ++ more) lays.is ∙ append_assoc (spaces e) (lays.head ∷ lays.tail) more;
-      lays =
-          one.lays
-          ∙ ap (λ t. before.text ++ (t ++ (one.head ∷ one.tail)))
-          (new_line_closes e before.cursor (pairs_settled rules s directives (pairs_and pairs a b) e cursor fit.0 refl))
-          ∙ ap (λ t. before.text ++ t) (append_assoc (closing before.cursor) (spaces e) (one.head ∷ one.tail)
-          ∙ ap (λ t. closing before.cursor ++ t) (sym one.is))
-          ∙ sym (append_assoc before.text (closing before.cursor) more)
-          ∙ ap (λ t. t ++ more) lays.lays
-          ∙ append_assoc (new_line e cursor).text (lays.head ∷ lays.tail) more;
+      head = fit.0.first;
+      tail = fit.0.tail ++ (0x3A ∷ o.head);
+      ending = o.ending;
+      rest = o.rest;
+      is =
+          keyed_lines rules k (closed (simple_value pairs key value s directives e)) (node_tree key s directives (key_place pairs e)) e fit.0 o
+          ∙ ap (λ t. record { text = spaces e ++ (t ++ (0x3A ∷ o.head)); ending = o.ending } ∷ o.rest) fit.0.is;
+      shows = fit.0.shows;
+      begins =
+          ap (kind_of_node rules) (ap (λ t. t ++ (0x3A ∷ o.head)) (sym fit.0.is))
+          ∙ key_begins rules line (begins_with_indicator 0x2D (k ++ (0x3A ∷ o.head))) (begins_with_indicator 0x3F (k ++ (0x3A ∷ o.head)))
+          (is_some (key_of_line rules (k ++ (0x3A ∷ o.head))))
+          (fit.0.no_dash o.head o.symbol)
+          (or_right (begins_with_indicator 0x3F (k ++ (0x3A ∷ o.head))) (is_some (key_of_line rules (k ++ (0x3A ∷ o.head))))
+          (ap is_some (fit.0.cut o.head o.symbol)));
     }
+pair_opens false rules s directives pairs key value e fit =
+    let o = fit.0.opens refl in
+    let k = closed (indicated_key pairs key s directives e) in
+    let more = lines_of rules.breaks12 (spaces e ++ (0x3A ∷ closed (indicated_value value s directives e))) in
+    record {
+      head = 0x3F;
+      tail = o.head;
+      ending = o.ending;
+      rest = o.rest ++ more;
+      is = lines_after_break rules.breaks12 (spaces e ++ (0x3F ∷ k)) (spaces e ++ (0x3A ∷ closed (indicated_value value s directives e)))
+          (indicated_ends rules.breaks12 e 0x3F k o fit.0.ends)
+          ∙ ap (λ ls. ls ++ more) (indicated_lines rules.breaks12 e 0x3F k o (unbroken_line rules.breaks12 (0x3F ∷ []) refl));
+      shows = refl;
+      begins = ap (λ x. if x || is_some (key_of_line rules (0x3F ∷ o.head)) then begins_mapping else begins_text) o.symbol;
+    }
+
+-- a pair is laid out so
+pair_entry : (x : Bool) (rules : Rules) (s : Effective) (directives : List TagDirective) (pairs : Pairs) (key value : Node) (e : ℕ) (before : Rendered)
+    → PairFits x rules s directives pairs key value e
+    → Entry false rules e before (pair_own x pairs key value s directives e before) (pair_text x pairs key value s directives e)
+pair_entry true rules s directives pairs key value e before fit = record {
+  settled = fit.1.settled;
+  lays = pair_lays true rules s directives pairs key value e before fit;
+  opened = pair_opens true rules s directives pairs key value e fit;
+}
+pair_entry false rules s directives pairs key value e before fit = record {
+  settled = fit.1.settled;
+  lays = pair_lays false rules s directives pairs key value e before fit;
+  opened = pair_opens false rules s directives pairs key value e fit;
+}
+
+-- the pairs of a mapping, and one more
+pub pair_laid : (rules : Rules) (s : Effective) (directives : List TagDirective) (pairs : Pairs) (key value : Node) (e : ℕ) (cursor : Cursor)
+    → Laid false rules e cursor (has_no_pairs pairs) (pairs_own pairs s directives false e cursor) (pairs_size pairs) (pairs_tree pairs s directives false)
+    → PairFits (is_simple s.canonical directives key) rules s directives pairs key value e
+    → Laid false rules e cursor false (pairs_own (pairs_and pairs key value) s directives false e cursor) (pairs_size (pairs_and pairs key value))
+    (pairs_tree (pairs_and pairs key value) s directives false)
+pair_laid rules s directives pairs key value e cursor all fit =
+    let x = is_simple s.canonical directives key in
+    let before = pairs_own pairs s directives false e cursor in
+    let trees = pairs_tree pairs s directives false in
+    laid_and false rules e cursor (has_no_pairs pairs) before (pairs_own (pairs_and pairs key value) s directives false e cursor)
+    (pair_text x pairs key value s directives e) (pairs_size pairs) (size key + size value) trees (pairs_tree (pairs_and pairs key value) s directives false) all
+    (subst (λ k. Reads false rules e (pair_text x pairs key value s directives e) (size key + size value) (record { pairs = trees; key = None })
+    (record { pairs = tree_pairs_and trees k (node_tree value s directives (value_place x 0)); key = None }))
+    (tree_anywhere key s directives false (as_key (has_no_pairs pairs)) e 0)
+    (subst (λ v. Reads false rules e (pair_text x pairs key value s directives e) (size key + size value) (record { pairs = trees; key = None })
+    (record { pairs = tree_pairs_and trees (node_tree key s directives (key_place pairs e)) v; key = None }))
+    (tree_anywhere value s directives false (as_value x) e 0) (pair_reads x rules s directives pairs key value e trees fit)))
+    (pair_entry x rules s directives pairs key value e before fit)

@@ -1,6 +1,5 @@
 use Rattle.std.proofs.Common.{ℕ, drop, take, length, ◌-◌, ◌≤◌, ◌∙◌, ap, subst, arith, le_refl, take_all}
 use Rattle.std.proofs.lemmas.List.{length-drop}
-use Rattle.yaml_base.proofs.AsciiWords.{ascii_of}
 use Rattle.yaml_base.proofs.quoting.ends_of.Goals as goal
 
 pub returns-clause-ends : goal.returns-clause-ends

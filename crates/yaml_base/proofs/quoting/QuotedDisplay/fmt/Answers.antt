@@ -1,4 +1,3 @@
-use Rattle.std.proofs.Common.{◌≡◌}
 use Rattle.std.specs.Fmt.{WritesOnOk}
 use Rattle.yaml_base.proofs.QuotedNames.{shows_halves, shows_name}
 use Rattle.yaml_base.proofs.quoting.QuotedDisplay.fmt.Goals as goal
