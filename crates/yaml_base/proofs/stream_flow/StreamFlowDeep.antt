@@ -15,7 +15,7 @@ use Rattle.yaml_base.proofs.stream_lines.StreamLineLaws.{OneLine, one_line_both,
 use Rattle.yaml_base.proofs.stream_flow.StreamFlowScalars.{rules_of, is_flow_style, chosen_in_flow, separation_in_flow}
 use Rattle.yaml_base.proofs.stream_lines.StreamDeepBreaks.{Deep, deep_both, deep_line, deep_new_line, deep_tidy, ends_as_last, line_prefix, space_line}
 use Rattle.yaml_base.proofs.stream_nodes.StreamStands.{BodiesHold, ItemsHold, PairsHold}
-use Rattle.yaml_base.proofs.stream_nodes.StreamTexts.{node_own, items_own, pairs_own}
+use Rattle.yaml_base.proofs.stream_nodes.StreamTexts.{placed_own, node_own, items_own, pairs_own}
 
 -- Properties
 
@@ -145,6 +145,16 @@ collection_deep : (s : Effective) (own directives : List TagDirective) (count : 
 collection_deep s own directives count brackets anchor tag empty column cursor entries opening closing le named stands deep =
     grind (arith, deep_both, deep_line, properties_line, end_deep)
 
+-- a node after text that is so deep
+placed_deep : (s : Effective) (count column : ℕ) (role : Role) (simple : Bool) (before : Rendered) (own : Cursor → Rendered) → count ≤ column
+    → Deep s.breaks12 count before.text
+    → Deep s.breaks12 count (own (render_place s (entry_place true role column) simple before.cursor).cursor).text
+    → Deep s.breaks12 count (placed_own s (entry_place true role column) simple before own).text
+placed_deep s count column role simple before own le deep node =
+    let symbols = render_place s (entry_place true role column) simple before.cursor in
+    deep_both s.breaks12 count before.text (symbols.text ++ (own symbols.cursor).text) deep
+    (deep_both s.breaks12 count symbols.text (own symbols.cursor).text (place_deep s count column role simple before.cursor le) node)
+
 module _ (s : Effective) (own directives : List TagDirective) (count : ℕ) where
   -- each node in flow at a column, the items of each sequence and the pairs of each mapping have lines as deep as that column
   mutual
@@ -171,13 +181,8 @@ module _ (s : Effective) (own directives : List TagDirective) (count : ℕ) wher
     items_deep no_nodes column cursor le names bodies = refl
     items_deep (nodes_and items last) column cursor le names bodies =
         let role = as_item (has_no_nodes items) in
-        let place = entry_place true role column in
-        let before = items_own items s directives true column cursor in
-        let symbols = render_place s place false before.cursor in
-        let rendered = node_own last s directives place symbols.cursor in
-        deep_both s.breaks12 count before.text (symbols.text ++ rendered.text) (items_deep items column cursor le names.0 bodies.0)
-        (deep_both s.breaks12 count symbols.text rendered.text (place_deep s count column role false before.cursor le)
-        (node_deep last column role symbols.cursor le names.1 bodies.1))
+        placed_deep s count column role false (items_own items s directives true column cursor) (node_own last s directives (entry_place true role column)) le
+        (items_deep items column cursor le names.0 bodies.0) (node_deep last column role _ le names.1 bodies.1)
 
     pub pairs_deep : (pairs : Pairs) (column : ℕ) (cursor : Cursor) → count ≤ column → PairsNamesStand s.portable own s.canonical directives pairs
         → PairsHold (BodyStands s) pairs s directives true column cursor → Deep s.breaks12 count (pairs_own pairs s directives true column cursor).text
@@ -186,16 +191,12 @@ module _ (s : Effective) (own directives : List TagDirective) (count : ℕ) wher
         let key_role = as_key (has_no_pairs pairs) in
         let value_role = as_value (is_simple s.canonical directives key) in
         let before = pairs_own pairs s directives true column cursor in
-        let symbols = render_place s (entry_place true key_role column) (is_simple s.canonical directives key) before.cursor in
-        let key_rendered = node_own key s directives (entry_place true key_role column) symbols.cursor in
-        let value_indicators = render_place s (entry_place true value_role column) false key_rendered.cursor in
-        let value_rendered = node_own value s directives (entry_place true value_role column) value_indicators.cursor in
-        deep_both s.breaks12 count (before.text ++ (symbols.text ++ key_rendered.text)) (value_indicators.text ++ value_rendered.text)
-        (deep_both s.breaks12 count before.text (symbols.text ++ key_rendered.text) (pairs_deep pairs column cursor le names.0 bodies.0)
-        (deep_both s.breaks12 count symbols.text key_rendered.text (place_deep s count column key_role (is_simple s.canonical directives key) before.cursor le)
-        (node_deep key column key_role symbols.cursor le names.1 bodies.1)))
-        (deep_both s.breaks12 count value_indicators.text value_rendered.text (place_deep s count column value_role false key_rendered.cursor le)
-        (node_deep value column value_role value_indicators.cursor le names.2 bodies.2))
+        let key_own = node_own key s directives (entry_place true key_role column) in
+        placed_deep s count column value_role false (placed_own s (entry_place true key_role column) (is_simple s.canonical directives key) before key_own)
+        (node_own value s directives (entry_place true value_role column)) le
+        (placed_deep s count column key_role (is_simple s.canonical directives key) before key_own le
+        (pairs_deep pairs column cursor le names.0 bodies.0) (node_deep key column key_role _ le names.1 bodies.1))
+        (node_deep value column value_role _ le names.2 bodies.2)
 
 -- Collections in a block
 

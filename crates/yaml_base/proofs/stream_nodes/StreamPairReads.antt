@@ -1,14 +1,14 @@
 -- The entries of a mapping read as its pairs, if each of them fits; and how a mapping's text is rendered.
 use Rattle.yaml_base.proofs.Common.{suc, ℕ, ◌+◌, ◌≤◌, if◌then◌else◌, is_some, ◌||◌, option_and_then, Option, None, Some, length, Bool, false, true, List, [], ◌++◌, ◌∷◌}
-use Rattle.yaml_base.proofs.Common.{refl, ◌≡◌, append-nil, append_assoc, ap, subst, sym, ◌∙◌, arith, false≢true, Text, Cursor, Rendered, render_then, or_right}
-use Rattle.yaml_base.proofs.Common.{TagDirective, Node, Pairs, pairs_and, entry_place, Role, as_key, as_value, has_no_pairs, is_simple, render_place}
+use Rattle.yaml_base.proofs.Common.{refl, ◌≡◌, append-nil, append_assoc, ap, subst, sym, ◌∙◌, arith, false≢true, Text, Cursor, Rendered, or_right}
+use Rattle.yaml_base.proofs.Common.{TagDirective, Node, Pairs, pairs_and, entry_place, Role, as_key, as_value, has_no_pairs, is_simple}
 use Rattle.yaml_base.proofs.Common.{Effective, Tree, TreePairs, tree_pairs_and, lines_of, spaces, SimpleKey, key_entry, value_entry, simple_entry}
 use Rattle.yaml_base.proofs.Common.{begins_sequence, begins_mapping, begins_text, kind_of_node, begins_with_indicator, key_of_line, node_read, Rules}
 use Rattle.yaml_base.proofs.stream_nodes.StreamPairs.{KeyFits, key_place, value_place, colon_cursor, simple_key, indicated_key, simple_value, indicated_value}
 use Rattle.yaml_base.proofs.stream_nodes.StreamPairs.{pair_text, PairFits, keyed_lines, keyed_begins}
 use Rattle.yaml_base.proofs.stream_lines.{StreamInside.past_spaces, StreamInside.inside_deeper, StreamMarkerless.question_markerless}
 use Rattle.yaml_base.proofs.stream_lines.{StreamMarkerless.colon_markerless, StreamLineLaws.is_closed, StreamLineLaws.lines_after_break}
-use Rattle.yaml_base.proofs.stream_nodes.{StreamAgrees.node_tree, StreamAgrees.pairs_tree, StreamItems.regrouped, StreamTexts.node_own, StreamTexts.pairs_own}
+use Rattle.yaml_base.proofs.stream_nodes.{StreamAgrees.node_tree, StreamAgrees.pairs_tree, StreamItems.regrouped, StreamTexts.placed_own, StreamTexts.node_own, StreamTexts.pairs_own}
 use Rattle.yaml_base.proofs.stream_lines.StreamLineLaws.{unbroken_line}
 use Rattle.yaml_base.proofs.stream_lines.StreamClosed.{closed, closed_behind, new_line_closes, indicator_cursor}
 use Rattle.yaml_base.proofs.stream_nodes.StreamFits.{size, pairs_size, Fits, tree_anywhere, indicated_lines, indicated_ends, blanked_lines}
@@ -126,9 +126,8 @@ pair_reads false rules s directives pairs key value e before fit =
 -- the rendered text of a pair after other text
 abbrev pair_own : (simple : Bool) → Pairs → Node → Node → Effective → List TagDirective → ℕ → Rendered → Rendered
 pair_own x pairs key value s directives e before =
-    render_then
-    (render_then before (λ after. render_then (render_place s (key_place pairs e) x after) (node_own key s directives (key_place pairs e))))
-    (λ after. render_then (render_place s (value_place x e) false after) (node_own value s directives (value_place x e)))
+    placed_own s (value_place x e) false (placed_own s (key_place pairs e) x before (node_own key s directives (key_place pairs e)))
+    (node_own value s directives (value_place x e))
 
 -- it is a new line and the pair's text without its first spaces
 pair_lays : (x : Bool) (rules : Rules) (s : Effective) (directives : List TagDirective) (pairs : Pairs) (key value : Node) (e : ℕ) (before : Rendered)

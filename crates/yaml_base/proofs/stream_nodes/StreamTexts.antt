@@ -21,6 +21,10 @@ abbrev pub collection_own : Effective → Brackets → (in_flow undented empty :
 collection_own s brackets in_flow undented empty column begun entries =
     render_then (render_then begun (entries (entries_column in_flow undented s.indent column begun.cursor))) (render_end s brackets in_flow empty column)
 
+-- a node after other text: the text that its place puts before it, and its own
+abbrev pub placed_own : Effective → Place → (simple : Bool) → Rendered → (Cursor → Rendered) → Rendered
+placed_own s place simple before own = render_then before (λ after. render_then (render_place s place simple after) own)
+
 -- a node's text after its place's indicators; with it, the items of a sequence and the pairs of a mapping with their indicators
 abbrev mutual
   pub node_own : Node → Effective → List TagDirective → Place → Cursor → Rendered
@@ -40,18 +44,16 @@ abbrev mutual
   items_own no_nodes s directives in_flow column cursor = render_nothing cursor
   items_own (nodes_and items last) s directives in_flow column cursor =
       let place = entry_place in_flow (as_item (has_no_nodes items)) column in
-      render_then (items_own items s directives in_flow column cursor)
-      (λ after. render_then (render_place s place false after) (node_own last s directives place))
+      placed_own s place false (items_own items s directives in_flow column cursor) (node_own last s directives place)
 
   pub pairs_own : Pairs → Effective → List TagDirective → (in_flow : Bool) → ℕ → Cursor → Rendered
   pairs_own no_pairs s directives in_flow column cursor = render_nothing cursor
   pairs_own (pairs_and pairs key value) s directives in_flow column cursor =
       let key_place = entry_place in_flow (as_key (has_no_pairs pairs)) column in
       let value_place = entry_place in_flow (as_value (is_simple s.canonical directives key)) column in
-      render_then
-      (render_then (pairs_own pairs s directives in_flow column cursor)
-      (λ after. render_then (render_place s key_place (is_simple s.canonical directives key) after) (node_own key s directives key_place)))
-      (λ after. render_then (render_place s value_place false after) (node_own value s directives value_place))
+      placed_own s value_place false
+      (placed_own s key_place (is_simple s.canonical directives key) (pairs_own pairs s directives in_flow column cursor) (node_own key s directives key_place))
+      (node_own value s directives value_place)
 
 -- a node's text with the indicators of its place
 abbrev pub node_placed : Node → Effective → List TagDirective → Place → Cursor → Rendered
