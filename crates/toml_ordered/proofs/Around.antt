@@ -236,10 +236,11 @@ inside_refused depth text (Array found) at fault (rest, known, other, is) refuse
           (subst (λ (i : List ℕ). IsBlamed depth i → ⊥) is (unblamed depth at none))) refused.1,
     )
 inside_refused depth text (Braces found) at fault (rest, known, other, named, is) refused =
-    let pair : PairAt depth (drop 1 text) (table_view found.table) (key_view found.key) (length (skip_blank rest)) = record { rest = rest; after = at; ends = known.ends; count = known.count; read = known.read; begins = named; here = refl } in
     let name = key_view found.key in
     let keys = table_view found.table in
-    let here = length (skip_blank rest) in (
+    let here = length (skip_blank rest) in
+    let pair : PairAt depth (drop 1 text) keys name here =
+    record { rest = rest; after = at; ends = known.ends; count = known.count; read = known.read; begins = named; here = refl } in (
       λ real. braces_bad depth text found.table rest known other name at named (refused.0 real),
       reason_in fault (λ key one two. ClashesIn depth key one two at) (λ key one two. ClashesIn (suc depth) key one two text) (λ left. NestsPast depth left at)
           (λ left. NestsPast (suc depth) left text) (λ key one two clash. inr (known.opens, inr (keys, name, here, pair, clash)))

@@ -1,12 +1,14 @@
 -- A value is refused for one reason: if it isn't TOML at a place, no key is defined again in it, and nothing nests too deep.
-use Rattle.std.proofs.Common.{◌≡◌, ◌⊎◌, inl, inr, ℕ, zero, suc, ◌+◌, ◌-◌, ◌<◌, ◌≤◌, ◌==◌, true, false, List, ◌∷◌, [], drop, length, Option, Some, None, option_map}
+use Rattle.std.proofs.Common.{◌≡◌, ◌⊎◌, inl, inr, ℕ, zero, suc, ◌+◌, ◌-◌, ◌<◌, ◌≤◌, ◌==◌, true, false, List, ◌∷◌, [], drop, length, Option, Some, None}
 use Rattle.std.proofs.Common.{refl, sym, ap, subst, ◌∙◌, arith}
 use Rattle.std.proofs.lemmas.Bool.{cases_Bool, cases_lt, eqb-true, false≢true}
+use Rattle.std.proofs.lemmas.Option.{option_and_then_some}
 use Rattle.std.specs.Prelude.{option_and_then}
 use Rattle.toml_parser.specs.Lexical.{Read, first, skip_blank}
 use Rattle.toml_parser.specs.Numbers.{unquoted, word_len}
 use Rattle.toml_parser.specs.Strings.{Key, key_after, simple_key}
 use Rattle.toml.specs.Parse.{after_element, key_equals, read_map}
+use Rattle.toml_ordered.proofs.Options.{option_map_some}
 use Rattle.toml_ordered.proofs.LongKeys.{long_begins, long_nameless, none_some, some_same}
 use Rattle.toml_ordered.proofs.Turns.{items_turn, members_turn, val_array, val_atom, val_deep, val_table}
 use Rattle.toml_ordered.specs.Data.{Items, TomlNode, TomlNodes, array, no_items, no_nodes, push_item, table}
@@ -130,7 +132,13 @@ module _ (depth : ℕ) (start : List ℕ) where
 
   reads_items : (m room : ℕ) (rest : List ℕ) → after_items depth m start ≡ Some rest → ReadsItems room rest
   reads_items zero room rest is = inr (room, no_items, ap (items (val depth) room no_items) (some_same start rest is))
-  reads_items (suc m) room rest is = by_items (λ r at. reads_items m room r at) (after_items depth m start) refl is
+  reads_items (suc m) room rest is =
+      option_and_then_some {P = ReadsItems room rest} (next_item depth) (after_items depth m start) rest is λ r at next.
+      option_and_then_some {P = ReadsItems room rest} (λ v. after_element 93 v.1) (val depth (skip_blank r)) rest next λ v read element.
+      elim (reads_items m room r at) [
+        | inl none ↦ inl none
+        | inr on ↦ by_left r v read element on.0 on.1 on.2 (cases_lt 0 on.0)
+      ]
     where
       by_left : (r : List ℕ) (v : TomlNode × List ℕ) → val depth (skip_blank r) ≡ Some v → after_element 93 v.1 ≡ Some rest → (left : ℕ) (more : Items)
           → items (val depth) room no_items start ≡ items (val depth) left more r → (0 < left) ⊎ (left ≤ 0) → ReadsItems room rest
@@ -139,19 +147,6 @@ module _ (depth : ℕ) (start : List ℕ) where
       by_left r v read element left more same (inr none) =
           let is_zero : left ≡ 0 = omega (arith, none) in
           inl (same ∙ ap (λ (n : ℕ). items (val depth) n more r) is_zero ∙ items_none (val depth) more r)
-
-      by_value : (r : List ℕ) → ReadsItems room r → (o : Read TomlNode) → val depth (skip_blank r) ≡ o
-          → option_and_then (λ v. after_element 93 v.1) o ≡ Some rest → ReadsItems room rest
-      by_value r reads None read next = absurd (none_some next)
-      by_value r reads (Some v) read next = elim reads [
-        | inl none ↦ inl none
-        | inr on ↦ by_left r v read next on.0 on.1 on.2 (cases_lt 0 on.0)
-      ]
-
-      by_items : ((r : List ℕ) → after_items depth m start ≡ Some r → ReadsItems room r) → (o : Option (List ℕ)) → after_items depth m start ≡ o → option_and_then (next_item depth) o ≡ Some rest
-          → ReadsItems room rest
-      by_items reads None at next = absurd (none_some next)
-      by_items reads (Some r) at next = by_value r (reads r at) (val depth (skip_blank r)) refl next
 
   -- a table in braces likewise
   abbrev ReadsPairs : (room : ℕ) (at : TomlNodes × List ℕ) → Type 0
@@ -162,47 +157,29 @@ module _ (depth : ℕ) (start : List ℕ) where
   reads_pairs : (m room : ℕ) (to : TomlNodes × List ℕ) → after_pairs depth m start ≡ Some to → ReadsPairs room to
   reads_pairs zero room to is =
       inr (room, ap (λ (p : TomlNodes × List ℕ). members (val depth) room p.0 p.1) (some_same (no_nodes, start) to is))
-  reads_pairs (suc m) room to is = by_pairs (λ p at. reads_pairs m room p at) (after_pairs depth m start) refl is
+  reads_pairs (suc m) room to is =
+      option_and_then_some {P = ReadsPairs room to} (next_pair depth) (after_pairs depth m start) to is λ p at next.
+      option_and_then_some {P = ReadsPairs room to} _ (keyval (val depth) (skip_blank p.1)) to next λ e read pair.
+      option_and_then_some {P = ReadsPairs room to} _ (put e.0.0 e.0.1 p.0) to pair λ more defined ends.
+      option_map_some {P = ReadsPairs room to} (λ rest. (more, rest)) (after_element 125 e.1) to ends λ r element same.
+      elim (reads_pairs m room p at) [
+        | inl none ↦ inl none
+        | inr on ↦ by_left p e more r read defined element same on.0 on.1 (cases_lt 0 on.0)
+      ]
     where
       by_left : (p : TomlNodes × List ℕ) (e : (Key × TomlNode) × List ℕ) (more : TomlNodes) (r : List ℕ)
-          → keyval (val depth) (skip_blank p.1) ≡ Some e → put e.0.0 e.0.1 p.0 ≡ Some more → after_element 125 e.1 ≡ Some r → Some (more, r) ≡ Some to
+          → keyval (val depth) (skip_blank p.1) ≡ Some e → put e.0.0 e.0.1 p.0 ≡ Some more → after_element 125 e.1 ≡ Some r → (more, r) ≡ to
           → (left : ℕ) → members (val depth) room no_nodes start ≡ members (val depth) left p.0 p.1 → (0 < left) ⊎ (left ≤ 0) → ReadsPairs room to
       by_left p e more r read defined element next left same (inl some) =
           inr (
             left - 1,
             same ∙ members_turn (val depth) left p.0 p.1 some
                 ∙ rw (keyval_begins (val depth) (skip_blank p.1) e read, read, defined, element)
-                (ap (λ (q : TomlNodes × List ℕ). members (val depth) (left - 1) q.0 q.1) (some_same (more, r) to next)),
+                (ap (λ (q : TomlNodes × List ℕ). members (val depth) (left - 1) q.0 q.1) next),
           )
       by_left p e more r read defined element next left same (inr none) =
           let is_zero : left ≡ 0 = omega (arith, none) in
           inl (same ∙ ap (λ (n : ℕ). members (val depth) n p.0 p.1) is_zero ∙ members_none (val depth) p.0 p.1)
-
-      by_element : (p : TomlNodes × List ℕ) → ReadsPairs room p → (e : (Key × TomlNode) × List ℕ) (more : TomlNodes)
-          → keyval (val depth) (skip_blank p.1) ≡ Some e → put e.0.0 e.0.1 p.0 ≡ Some more → (o : Option (List ℕ)) → after_element 125 e.1 ≡ o
-          → option_map (λ rest. (more, rest)) o ≡ Some to → ReadsPairs room to
-      by_element p reads e more read defined None element next = absurd (none_some next)
-      by_element p reads e more read defined (Some r) element next = elim reads [
-        | inl none ↦ inl none
-        | inr on ↦ by_left p e more r read defined element next on.0 on.1 (cases_lt 0 on.0)
-      ]
-
-      by_put : (p : TomlNodes × List ℕ) → ReadsPairs room p → (e : (Key × TomlNode) × List ℕ)
-          → keyval (val depth) (skip_blank p.1) ≡ Some e → (o : Option TomlNodes) → put e.0.0 e.0.1 p.0 ≡ o
-          → option_and_then (λ more. option_map (λ rest. (more, rest)) (after_element 125 e.1)) o ≡ Some to → ReadsPairs room to
-      by_put p reads e read None defined next = absurd (none_some next)
-      by_put p reads e read (Some more) defined next = by_element p reads e more read defined (after_element 125 e.1) refl next
-
-      by_pair : (p : TomlNodes × List ℕ) → ReadsPairs room p → (o : Read (Key × TomlNode)) → keyval (val depth) (skip_blank p.1) ≡ o
-          → option_and_then (λ e. option_and_then (λ more. option_map (λ rest. (more, rest)) (after_element 125 e.1)) (put e.0.0 e.0.1 p.0)) o ≡ Some to
-          → ReadsPairs room to
-      by_pair p reads None read next = absurd (none_some next)
-      by_pair p reads (Some e) read next = by_put p reads e read (put e.0.0 e.0.1 p.0) refl next
-
-      by_pairs : ((p : TomlNodes × List ℕ) → after_pairs depth m start ≡ Some p → ReadsPairs room p) → (o : Option (TomlNodes × List ℕ))
-          → after_pairs depth m start ≡ o → option_and_then (next_pair depth) o ≡ Some to → ReadsPairs room to
-      by_pairs reads None at next = absurd (none_some next)
-      by_pairs reads (Some p) at next = by_pair p (reads p at) (keyval (val depth) (skip_blank p.1)) refl next
 
 module _ (depth : ℕ) (text : List ℕ) where
   array_stops : first text ≡ 91 → (item : List ℕ) → ItemAt depth (drop 1 text) item → (first item == 93) ≡ false → val depth item ≡ None
@@ -374,7 +351,8 @@ braces_unblamed depth text rest found count opens read stops no_clash no_long no
   where
     same : (others : TomlNodes) (end : List ℕ) (n : ℕ) → after_pairs depth n (drop 1 text) ≡ Some (others, end) → next_pair depth (others, end) ≡ None
         → ◌≡◌ {A = TomlNodes × List ℕ} (others, end) (found, rest)
-    same others end n at there = once (next_pair depth) (λ k. after_pairs depth k (drop 1 text)) (λ k. refl) count n (found, rest) (others, end) read stops at there
+    same others end n at there =
+        once (next_pair depth) (λ k. after_pairs depth k (drop 1 text)) (λ k. refl) count n (found, rest) (others, end) read stops at there
 
     by : BlamesInside depth text → ⊥
     by (inl (bracket, item, at, inner)) = bracket_brace text bracket opens

@@ -23,10 +23,7 @@ use Rattle.toml_ordered.specs.Tables.{TomlDocument, Expression, define, put}
 pub other_than : (again : List ℕ → ℕ → ℕ → Type 0) (deep : ℕ → Type 0) (found : Fault) → ((IsMemory found → ⊥) → NeitherTells again deep) → IsOther found
     → FaultTells found again deep
 other_than again deep fault.Memory neither none = tt
-other_than again deep (fault.NotToml left) neither none = neither (λ m. other left m)
-  where
-    other : (left : ℕ) → fault.NotToml left ≡ fault.Memory → ⊥
-    other left m = cc
+other_than again deep (fault.NotToml left) neither none = neither (λ m. cc)
 other_than again deep (fault.TooDeep left) neither none = absurd none
 other_than again deep (fault.DefinedAgain key first second) neither none = absurd none
 
@@ -83,22 +80,16 @@ pairs_conflict depth text rest found name here old (fault.DefinedAgain key first
       pair = pair;
       passes = again.3;
       shut = again.4;
-      refused = denies (λ m. other m);
+      refused = denies (λ m. cc);
       order = omega (arith, past, within, is);
     }
-  where
-    other : fault.DefinedAgain key first second ≡ fault.Memory → ⊥
-    other m = cc
 
 -- the reasons of a value, told of the text around it
 pub reason_in : (refused : Fault) (inner outer : List ℕ → ℕ → ℕ → Type 0) (low high : ℕ → Type 0)
     → ((key : List ℕ) (one two : ℕ) → inner key one two → outer key one two) → ((left : ℕ) → low left → high left)
     → ((IsMemory refused → ⊥) → NeitherTells inner low → NeitherTells outer high) → FaultTells refused inner low → FaultTells refused outer high
 reason_in fault.Memory inner outer low high clash deeper neither tells = tt
-reason_in (fault.NotToml left) inner outer low high clash deeper neither tells = neither (λ m. other left m) tells
-  where
-    other : (left : ℕ) → fault.NotToml left ≡ fault.Memory → ⊥
-    other left m = cc
+reason_in (fault.NotToml left) inner outer low high clash deeper neither tells = neither (λ m. cc) tells
 reason_in (fault.TooDeep left) inner outer low high clash deeper neither tells = deeper left tells
 reason_in (fault.DefinedAgain key first second) inner outer low high clash deeper neither tells = clash (string_bytes key) first second tells
 
@@ -182,12 +173,9 @@ expressions_conflict text rest doc e here old refused moved knows at within deni
           at = at;
           passes = found.3;
           shut = found.4;
-          refused = denies (λ m. other m);
+          refused = denies (λ m. cc);
           order = omega (arith, past, within);
         }
-      where
-        other : fault.DefinedAgain key first second ≡ fault.Memory → ⊥
-        other m = cc
 
 -- an expression in which a value is refused
 pub value_reason : (text rest : List ℕ) (doc : TomlDocument) (refused moved : Fault) → ReadsUpTo text doc rest
@@ -199,10 +187,7 @@ value_reason text rest doc refused moved read unread pairs is = subst (HasReason
     by : (f : Fault) → ((IsMemory f → ⊥) → line (skip_blank rest) ≡ None) → FaultTells f (PairClashes (skip_blank rest)) (ExpressionNestsPast (skip_blank rest))
         → HasReason text (moved_within (length (skip_blank rest)) f)
     by fault.Memory none found = tt
-    by (fault.NotToml left) none found = neither_document text rest doc read (none (λ m. other left m)) found
-      where
-        other : (left : ℕ) → fault.NotToml left ≡ fault.Memory → ⊥
-        other left m = cc
+    by (fault.NotToml left) none found = neither_document text rest doc read (none (λ m. cc)) found
     by (fault.TooDeep left) none found =
         let within = expression_nests_within (skip_blank rest) left found in
         let same : min left (length (skip_blank rest)) ≡ left = omega (arith, within) in

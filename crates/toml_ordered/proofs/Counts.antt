@@ -14,13 +14,6 @@ use Rattle.toml_ordered.specs.declared.tree.Table.{Table as CodeTable}
 abbrev pub turns : (all hand : ℕ) → ℕ
 turns all hand = hand + all * all
 
-pub goes_in : (all all2 hand hand2 : ℕ) → all2 ≡ all → hand2 < hand → turns all2 hand2 < turns all hand
-goes_in all all2 hand hand2 same less = subst (λ n. turns n hand2 < turns all hand) (sym same) (omega (arith, less))
-
-pub goes_out : (all all2 hand hand2 : ℕ) → all2 < all → hand2 ≤ all2 → turns all2 hand2 < turns all hand
-goes_out all all2 hand hand2 less within =
-    omega (arith, less, within, mul-le (suc all2) (suc all2) all all less less, suc-mul all2 (suc all2), mul-suc all2 all2)
-
 -- ---- of a value, when those inside are counted
 
 sum_by-map : {A B : Type 0} (f : A → B) (g : B → ℕ) (xs : List A) → sum_by g (map f xs) ≡ sum_by (λ x. g (f x)) xs

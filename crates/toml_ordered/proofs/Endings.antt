@@ -1,7 +1,8 @@
 -- The rest that a reader leaves is an ending of the text.
 use Rattle.std.proofs.Common.{◌≡◌, ℕ, zero, suc, ◌&&◌, ◌||◌, ◌==◌, Bool, true, false, cond, List, [], ◌∷◌, ◌++◌, length, take, drop, slice_index}
-use Rattle.std.proofs.Common.{Option, Some, None, option_map, refl, sym, ap, ◌∙◌}
+use Rattle.std.proofs.Common.{Option, Some, None, option_map, refl, sym, ap, subst, ◌∙◌}
 use Rattle.std.proofs.lemmas.List.{append_assoc, take-append-drop}
+use Rattle.std.proofs.lemmas.Option.{same_Some}
 use Rattle.std.specs.List.{prefix_len}
 use Rattle.std.specs.Str.Parse.{digits_value}
 use Rattle.std.specs.Prelude.{nat_lt, is_some, unwrap_or, encode_utf8, option_and_then}
@@ -37,11 +38,7 @@ LeavesEnd text (Some r) = EndsWith text r.1
 
 pub end_left : {A : Type 0} (text : List ℕ) (o : Read A) (x : A) (rest : List ℕ) → LeavesEnd text o → o ≡ Some (x, rest) → EndsWith text rest
 end_left text None x rest leaves is = absurd (cc)
-end_left {A} text (Some r) x rest leaves is = (leaves.0, leaves.1 ∙ ap (λ (end : List ℕ). leaves.0 ++ end) (ap (rest_or rest) is))
-  where
-    rest_or : List ℕ → Option (A × List ℕ) → List ℕ
-    rest_or d None = d
-    rest_or d (Some p) = p.1
+end_left text (Some r) x rest leaves is = subst (EndsWith text) (ap (λ p. p.1) (same_Some r (x, rest) is)) leaves
 
 leaves_in : {A : Type 0} (text middle : List ℕ) (o : Read A) → EndsWith text middle → LeavesEnd middle o → LeavesEnd text o
 leaves_in text middle None outer leaves = tt
@@ -224,11 +221,7 @@ after_element_ends closing text next = by (first rest == comma) (first rest == c
     rest = skip_blank text
 
     same : (end : List ℕ) → EndsWith text end → Some end ≡ Some next → EndsWith text next
-    same end ends is = (ends.0, ends.1 ∙ ap (λ (left : List ℕ). ends.0 ++ left) (ap (or next) is))
-      where
-        or : List ℕ → Option (List ℕ) → List ℕ
-        or d None = d
-        or d (Some x) = x
+    same end ends is = subst (EndsWith text) (same_Some end next is) ends
 
     by : (a b : Bool) → cond a (Some (drop 1 rest)) (cond b (Some rest) None) ≡ Some next → EndsWith text next
     by true b is = same (drop 1 rest) (ends_then text rest (drop 1 rest) (skip_blank_ends text) (ends_drop 1 rest)) is
@@ -286,11 +279,6 @@ val_ends (suc depth) text =
     (atom_ends text))
 
 -- ---- turns of the loops
-
-pub start_ends : (text rest start : List ℕ) → EndsWith text rest → start ≡ skip_blank rest → EndsWith text start
-start_ends text rest start ends is =
-    let whole = ends_then text rest (skip_blank rest) ends (skip_blank_ends rest) in
-    (whole.0, whole.1 ∙ ap (λ (end : List ℕ). whole.0 ++ end) (sym is))
 
 pub value_ends : (text rest : List ℕ) (key : Key) (at : List ℕ) → EndsWith text rest → key_equals (skip_blank rest) ≡ Some (key, at) → EndsWith text at
 value_ends text rest key at ends named =

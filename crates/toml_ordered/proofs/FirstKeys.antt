@@ -1,6 +1,6 @@
 -- The places at which the keys of a table were first defined, before and after a definition.
-use Rattle.std.proofs.Common.{Option, Ok, Err, ◌≡◌, ℕ, zero, suc, List, [], ◌∷◌, ◌++◌, map, Some, None, String, Vec, Global, string_bytes, refl, sym, ap, subst, ◌∙◌, inl, inr}
-use Rattle.std.proofs.Common.{◌⊎◌, rules, set, get_or, Result}
+use Rattle.std.proofs.Common.{Option, Ok, Err, ◌≡◌, ℕ, zero, suc, List, [], ◌∷◌, ◌++◌, map, Some, None, String, Vec, Global, string_bytes, refl, sym, ap}
+use Rattle.std.proofs.Common.{subst, ◌∙◌, inl, inr, ◌⊎◌, rules, set, get_or, Result}
 use Rattle.std.proofs.lemmas.Result.{IfOk-weaker, IfErr-weaker}
 use Rattle.std.specs.Result.{IfOk, IfErr}
 use Rattle.std.proofs.lemmas.Slice.Eq.{bytes_eq-Decides}
@@ -205,11 +205,8 @@ again_here k rest here at es e Shut (fault.DefinedAgain key first second) has is
       subst (λ (l : List ℕ). HasFirst (keys_firsts es) [] l first) (sym is_key)
           (subst (λ (n : ℕ). HasFirst (keys_firsts es) [] k n) (sym is_first) (has_own k at es e has)),
       (rest, ap (λ (l : List ℕ). l ∷ rest) (sym is_key)),
-      subst (Shut []) (sym is_key) (shut λ memory. other memory),
+      subst (Shut []) (sym is_key) (shut λ memory. cc),
     )
-  where
-    other : fault.DefinedAgain key first second ≡ fault.Memory → ⊥
-    other memory = cc
 
 -- a key inside of it
 pub again_inside : (k : List ℕ) (whole : Path) (here : ℕ) (at : ℕ) (es : List Entry) (e : Entry) (Inner Shut : Keys)

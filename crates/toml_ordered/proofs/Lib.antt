@@ -1,3 +1,4 @@
+pub mod Options
 pub mod Trees
 pub mod KeyPlaces
 pub mod FirstKeys

@@ -43,13 +43,6 @@ bare_turn (c ∷ cs) bare =
     let next : 1 + prefix_len is_bare cs ≡ suc (prefix_len is_bare cs) = omega arith in
     rw (bare, next)
 
-pub bare_stop : (text : List ℕ) → is_bare (first text) ≡ false → drop (prefix_len is_bare text) text ≡ text
-bare_stop [] other = refl
-bare_stop (c ∷ cs) other = rw other
-
-pub bare_ascii : (c : ℕ) → is_bare c ≡ true → (0 < c) × (c < 128)
-bare_ascii c bare = (grind (arith, nat_tests), grind (arith, nat_tests))
-
 -- ---- parts in quotes
 
 pub quote_ascii : (text : List ℕ) → starts_string text ≡ true → (0 < first text) × (first text < 128)

@@ -82,7 +82,8 @@ module _ (by : Way) (k : List ℕ) (rest : List (Way × List ℕ)) (left at : �
   pub refuses_there : (fault : Fault) → IsPassed (string_bytes e.0) e.2 left fault → IsShut by e.1 → RefusesSteps ((by, k) ∷ rest) left outer fault
   refuses_there fault own shut = record {
     value = λ edit real. along_refused by k rest edit (table_view outer) (node_view e.1) found (shut (along rest edit));
-    again = λ key what. again_here k (keys_of rest ++ key ∷ []) left at outer.keys.items e (IsShutAt ((by, k) ∷ rest) key what (table_view outer)) fault has.1 is
+    again = λ key what.
+        again_here k (keys_of rest ++ key ∷ []) left at outer.keys.items e (IsShutAt ((by, k) ∷ rest) key what (table_view outer)) fault has.1 is
         own (λ real. (refl, node_view e.1, found, shut));
   }
 

@@ -26,14 +26,6 @@ cmp = slice_cmp nat_cmp
 pub same_from_equal : (k l : List ℕ) → cmp k l ≡ Equal → k ≡ l
 same_from_equal k l e = (bytes_eq-Decides k l).0 (sym (is_eq-slice_cmp k l) ∙ ap is_eq e)
 
-equal_to_itself : (k : List ℕ) → cmp k k ≡ Equal
-equal_to_itself k = by (cmp k k) (nat_list_cmp_total.antisymm k k)
-  where
-    by : (o : Ordering) → o ≡ ordering_reverse o → o ≡ Equal
-    by Less e = cc
-    by Equal e = refl
-    by Greater e = cc
-
 turned : (k l : List ℕ) (o : Ordering) → cmp k l ≡ o → cmp l k ≡ ordering_reverse o
 turned k l o e = nat_list_cmp_total.antisymm l k ∙ ap ordering_reverse e
 

@@ -18,25 +18,6 @@ use Rattle.toml.specs.Parse.{read_map}
 use Rattle.toml_ordered.specs.Data.{infinity, not_a_number, decimal}
 use Rattle.toml_ordered.specs.Grammar.{plain_word, without_sign, float_node, scalar_node}
 use Rattle.toml_ordered.specs.Sorted.{float_in, sorted_value}
-use Rattle.toml_ordered.proofs.SortedTables.{IsComplete}
-
--- ---- complete values
-
-complete_float : (word : List ℕ) → IsComplete (float_node word)
-complete_float word = by (bytes_eq (without_sign word) (codes "inf")) (bytes_eq (without_sign word) (codes "nan"))
-  where
-    by : (a b : Bool) → IsComplete (cond a (infinity (first word == 45)) (cond b not_a_number (decimal word)))
-    by true b = refl
-    by false true = refl
-    by false false = refl
-
-pub complete_scalar : (word : List ℕ) (s : Scalar) → IsComplete (scalar_node word s)
-complete_scalar word (scalar.Boolean flag) = refl
-complete_scalar word (scalar.Integer z) = refl
-complete_scalar word (scalar.Float x) = complete_float (plain_word word)
-complete_scalar word (scalar.Datetime d) = refl
-
--- ---- floats
 
 past_is : (c : ℕ) (rest : List ℕ) (name : List ℕ) (Q : List ℕ → Type 0) → Q (43 ∷ name) → Q (45 ∷ name) → Q name → without_sign (c ∷ rest) ≡ name → Q (c ∷ rest)
 past_is c rest name Q plus minus bare = by (c == 43) refl (c == 45) refl

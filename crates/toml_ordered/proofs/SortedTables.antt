@@ -1,6 +1,7 @@
 -- The rules for tables, with the keys in order of definition and with the keys sorted: each edit does the same.
 use Rattle.std.proofs.Common.{◌≡◌, ℕ, Bool, Ordering, Less, Equal, Greater, nat_cmp, true, false, cond, List, [], ◌∷◌, ◌++◌, Option, Some, None, option_map}
 use Rattle.std.proofs.Common.{refl, sym, ap, ◌∙◌, bytes_eq}
+use Rattle.std.proofs.lemmas.Option.{none-some}
 use Rattle.std.specs.Cmp.Lexicographic.{slice_cmp}
 use Rattle.std.specs.Ordering.{match_ordering}
 use Rattle.toml_parser.specs.Strings.{Key}
@@ -8,6 +9,7 @@ use Rattle.toml.specs.Data as plain
 use Rattle.toml.specs.Tables as t
 use Rattle.toml_ordered.specs.Data.{TomlNode, string, integer, decimal, infinity, not_a_number, boolean, datetime, array, table, tables}
 use Rattle.toml_ordered.specs.Data.{Items, no_items, item, TomlNodes, no_nodes, node, push_item}
+use Rattle.toml_ordered.specs.Keys.{sealed}
 use Rattle.toml_ordered.specs.Sorted.{put_sorted, sorted_value, sorted_items, sorted_keys}
 use Rattle.toml_ordered.specs.Tables.{get_node, append, replace, Edit, passed, at_step, along, steps_by, steps_along, Definition, key_value, std_table, at_key}
 use Rattle.toml_ordered.specs.Tables.{array_table, new_node, redefine, at_found, put, TomlDocument, define}
@@ -85,9 +87,6 @@ seen_get k (node l y ns) = by (seen_get k ns) (bytes_eq k l) refl
     by more true here = found_same k l (seen_node y) (seen ns) here
     by more false past = found_past k l (seen_node y) (seen ns) past ∙ more
 
-some_no_none : {A : Type 0} {x : A} → Some x ≡ None → ⊥
-some_no_none e = cc
-
 pub seen_append : (k : List ℕ) (x : TomlNode) (ns : TomlNodes) → get_node k ns ≡ None → seen (append ns k x) ≡ t.insert k (seen_node x) (seen ns)
 seen_append k x no_nodes none = refl
 seen_append k x (node l y ns) none = by (seen_append k x ns) (bytes_eq k l) refl none
@@ -95,7 +94,7 @@ seen_append k x (node l y ns) none = by (seen_append k x ns) (bytes_eq k l) refl
     by : (get_node k ns ≡ None → seen (append ns k x) ≡ t.insert k (seen_node x) (seen ns)) → (b : Bool) → bytes_eq k l ≡ b
         → cond b (Some y) (get_node k ns) ≡ None
         → t.insert l (seen_node y) (seen (append ns k x)) ≡ t.insert k (seen_node x) (t.insert l (seen_node y) (seen ns))
-    by more true here none = absurd (some_no_none none)
+    by more true here none = absurd (none-some y (sym none))
     by more false past none = ap (t.insert l (seen_node y)) (more none) ∙ sym (swap k l (seen_node x) (seen_node y) (seen ns) past)
 
 pub seen_replace : (k : List ℕ) (x : TomlNode) (ns : TomlNodes) → seen (replace k x ns) ≡ t.replace k (seen_node x) (seen ns)
@@ -204,6 +203,18 @@ IsComplete x = seen_node x ≡ t.value (sorted_value x)
 abbrev pub DefinesComplete : Definition → Type 0
 DefinesComplete (key_value x) = IsComplete x
 DefinesComplete what = Unit {0}
+
+pub complete_sealed : (x : TomlNode) → IsComplete (sealed x)
+complete_sealed (string text) = refl
+complete_sealed (integer z) = refl
+complete_sealed (decimal word) = refl
+complete_sealed (infinity negative) = refl
+complete_sealed not_a_number = refl
+complete_sealed (boolean flag) = refl
+complete_sealed (datetime d) = refl
+complete_sealed (array xs) = refl
+complete_sealed (table origin ns) = ap (λ ms. t.value (plain.table ms)) (closed_keys ns)
+complete_sealed (tables done last) = refl
 
 same_new : (what : Definition) → DefinesComplete what → seen_node (new_node what) ≡ t.new_node (seen_definition what)
 same_new (key_value x) complete = complete

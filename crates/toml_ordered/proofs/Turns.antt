@@ -2,6 +2,7 @@
 use Rattle.std.proofs.Common.{◌≡◌, ℕ, zero, suc, ◌-◌, ◌<◌, true, false, ◌||◌, ◌==◌, List, [], ◌∷◌, length, drop, Option, Some, None, Result, Ok, Err, refl, ap}
 use Rattle.std.proofs.Common.{◌∙◌, arith, take, take_all, length-drop, option_map, cond, Bool, sym, subst, inl, inr, ◌⊎◌, ◌≤◌, bytes_eq, codes}
 use Rattle.std.proofs.lemmas.Bool.{cases_Bool, cases_lt}
+use Rattle.std.proofs.lemmas.Option.{none-some}
 use Rattle.std.specs.Prelude.{option_and_then}
 use Rattle.toml_parser.specs.Numbers.{unquoted, word_len, word_value}
 use Rattle.toml_parser.specs.Strings.{starts_string, quoted, Key}
@@ -9,6 +10,7 @@ use Rattle.toml_parser.specs.declared.scalar.Scalar.{Scalar}
 use Rattle.toml_parser.specs.declared.scalar.Scalar.TheVariants as scalar
 use Rattle.toml_parser.specs.Lexical.{Read, first, skip_blank}
 use Rattle.toml.specs.Parse.{read_map, after_element, key_equals, skip_bom}
+use Rattle.toml_ordered.proofs.Options.{option_map_some}
 use Rattle.toml_ordered.specs.Data.{TomlNode, string, decimal, infinity, not_a_number, Items, no_items, array, table, push_item, TomlNodes, no_nodes}
 use Rattle.toml_ordered.specs.Keys.{sealed}
 use Rattle.toml_ordered.specs.Tables.{put, TomlDocument, Expression, define, Edit, along, passed, get_node, replace, append, made_by, Definition, redefine}
@@ -156,20 +158,17 @@ module _ (k : List ℕ) (ns : TomlNodes) (x y : TomlNode) (new : TomlNodes) wher
 
 -- ---- scalars
 
-abbrev read_or : List ℕ → Option (Scalar × List ℕ) → List ℕ
-read_or d None = d
-read_or d (Some r) = r.1
-
 -- the text after a word is the rest of the text
 rest_is : (s : List ℕ) (d : Scalar) (rest : List ℕ) → unquoted s ≡ Some (d, rest) → rest ≡ drop (word_len s) s
 unfolding unquoted
-rest_is s d rest = by (word_len s == 0) (word_value (take (word_len s) s))
+rest_is s d rest = by (word_len s == 0)
   where
-    by : (b : Bool) (o : Option Scalar) → cond {A = Option (Scalar × List ℕ)} b None (option_map (λ x. (x, drop (word_len s) s)) o) ≡ Some (d, rest)
+    by : (b : Bool) → cond {A = Option (Scalar × List ℕ)} b None (option_map (λ x. (x, drop (word_len s) s)) (word_value (take (word_len s) s)))
+        ≡ Some (d, rest)
         → rest ≡ drop (word_len s) s
-    by true o e = absurd (cc)
-    by false None e = absurd (cc)
-    by false (Some x) e = sym (ap (read_or rest) e)
+    by true e = absurd (none-some (d, rest) e)
+    by false e =
+        option_map_some (λ x. (x, drop (word_len s) s)) (word_value (take (word_len s) s)) (d, rest) e λ x is same. sym (ap (λ (p : Scalar × List ℕ). p.1) same)
 
 word_taken : (s rest : List ℕ) (n : ℕ) → rest ≡ drop n s → take (length s - length rest) s ≡ take n s
 word_taken s rest n is = by (cases_lt (length s) n)
@@ -188,14 +187,10 @@ atom_scalar s d rest x other read is =
 
 -- ---- values that were read take no more
 
-abbrev value_or : TomlNode → Option (TomlNode × List ℕ) → TomlNode
-value_or d None = d
-value_or d (Some r) = r.0
-
 read_sealed : {A : Type 0} (f : A → TomlNode) → ((a : A) → sealed (f a) ≡ f a) → (o : Read A) (x : TomlNode) (rest : List ℕ) → read_map f o ≡ Some (x, rest)
     → sealed x ≡ x
-read_sealed f all None x rest read = absurd (cc)
-read_sealed f all (Some r) x rest read = subst (λ (y : TomlNode). sealed y ≡ y) (ap (value_or x) read) (all r.0)
+read_sealed f all o x rest read =
+    option_map_some (λ r. (f r.0, r.1)) o (x, rest) read λ r is same. subst (λ (y : TomlNode × List ℕ). sealed y.0 ≡ y.0) same (all r.0)
 
 float_sealed : (word : List ℕ) → sealed (float_node word) ≡ float_node word
 float_sealed word = by (bytes_eq (without_sign word) (codes "inf")) (bytes_eq (without_sign word) (codes "nan"))

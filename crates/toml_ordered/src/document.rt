@@ -75,7 +75,8 @@ impl Document {
         left: usize,
     ) -> Result<(), Fault>
         ensures { Defines (defined_header (document_view self.old) (key_view key) (definition_view what)) (document_view self.new)
-            (key_parts (key_view key)) left (IsShutAt (steps_along (path_view key.path.items) []) (string_bytes key.last) (definition_view what) (table_view self.old.root))
+            (key_parts (key_view key)) left
+            (IsShutAt (steps_along (path_view key.path.items) []) (string_bytes key.last) (definition_view what) (table_view self.old.root))
             self.old.root self.new.root result }
     {
         let Key { mut path, last } = key;

@@ -5,22 +5,27 @@ ghost use Rattle.toml_ordered.specs.Reading.{fault_of};
 ghost use Rattle.toml_ordered.specs.declared.fault.Fault.TheVariants as fault;
 
 use std::alloc::{AllocError, AllocFailed};
+use thiserror::Error;
 use toml_parser::{ErrorKind, ParseError};
 
 /// The reason why a text isn't read. Places are given by how many bytes of the text were left there.
-#[derive(Drop)]
+#[derive(Debug, Drop, Error)]
 pub enum Fault {
     /// An allocation failed.
+    #[error("out of memory")]
     Memory,
     /// The text can't go on here, and neither of the other reasons below holds of it.
+    #[error("not TOML, {left} bytes before the end")]
     NotToml {
         left: usize,
     },
     /// An array or a table in braces begins here, within 80 others; or a key of more than 80 parts.
+    #[error("arrays and tables nest too deep, {left} bytes before the end")]
     TooDeep {
         left: usize,
     },
     /// An expression defines a key, or something in it, that is defined already and takes no more.
+    #[error("{key:?} is defined {first} bytes before the end, and takes no more {second} bytes before the end")]
     DefinedAgain {
         key: String,
         first: usize,

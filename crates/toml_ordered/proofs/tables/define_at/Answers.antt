@@ -7,8 +7,10 @@ use Rattle.toml_ordered.proofs.tables.define_at.Goals as goal
 pub returns-in-Err : goal.returns-in-Err
 returns-in-Err c =
     let edit : Edit = at_key (string_bytes c.args.entry.key) (definition_view c.args.entry.what) in
-    let same = c.replace-outermost.ensures.value in
-    (λ real. rw same at (c.in-Err.ensures.value edit real), rw same at (c.in-Err.ensures.again (string_bytes c.args.entry.key) (definition_view c.args.entry.what)))
+    let same = c.replace-outermost.ensures.value in (
+      λ real. rw same at (c.in-Err.ensures.value edit real),
+      rw same at (c.in-Err.ensures.again (string_bytes c.args.entry.key) (definition_view c.args.entry.what)),
+    )
 
 pub returns-in-Err-at_key : goal.returns-in-Err-at_key
 returns-in-Err-at_key c =

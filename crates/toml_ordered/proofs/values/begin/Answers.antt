@@ -25,8 +25,10 @@ pub returns-in-Err : goal.returns-in-Err
 returns-in-Err c =
     let s = c.args.s.now in
     let a : (first s == 91) ≡ false = rw (← c.first-byte.ensures) (ne_eqb c.first-byte.result 91 c.if-byte-ne91.true) in
-    let b : (first s == 123) ≡ false = rw (← c.first-byte.ensures) (ne_eqb c.first-byte.result 123 c.if-byte-ne123.true) in
-    (λ real. rw (val_atom s a b c.args.depth) (c.in-Err.ensures.0 real), other_than _ _ c.in-Err.refused (λ real. neither c.args.depth s (atom_unblamed c.args.depth s a b)) c.in-Err.ensures.1)
+    let b : (first s == 123) ≡ false = rw (← c.first-byte.ensures) (ne_eqb c.first-byte.result 123 c.if-byte-ne123.true) in (
+      λ real. rw (val_atom s a b c.args.depth) (c.in-Err.ensures.0 real),
+      other_than _ _ c.in-Err.refused (λ real. neither c.args.depth s (atom_unblamed c.args.depth s a b)) c.in-Err.ensures.1,
+    )
 
 pub returns-then-depth-eq0 : goal.returns-then-depth-eq0
 returns-then-depth-eq0 c =
