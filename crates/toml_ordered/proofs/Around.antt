@@ -1,5 +1,6 @@
 -- The findings in an array or a table in braces, from those in a value inside of it.
 use Rattle.std.proofs.Common.{◌≡◌, ℕ, suc, ◌+◌, ◌==◌, ◌-◌, ◌<◌, ◌≤◌, true, false, List, [], ◌∷◌, ◌++◌, drop, length, Some, None, Result, Ok, Err}
+use Rattle.std.proofs.lemmas.Option.{none-some}
 use Rattle.std.specs.Borrow.{Bor}
 use Rattle.std.proofs.Common.{refl, sym, ap, subst, ◌∙◌, inl, inr, arith}
 use Rattle.toml_parser.specs.Lexical.{first, skip_blank}
@@ -11,7 +12,7 @@ use Rattle.toml_ordered.proofs.Blaming.{IsBlamed, array_unblamed, braces_unblame
 use Rattle.toml_ordered.proofs.Blaming.{same_rest, unblamed}
 use Rattle.toml_ordered.proofs.Depths.{blank_within, ends_within, more_items}
 use Rattle.toml_ordered.proofs.Endings.{after_element_ends, end_left, ends_drop, ends_self, ends_then, item_left, key_equals_ends, pair_left}
-use Rattle.toml_ordered.proofs.LongKeys.{named_short, none_some}
+use Rattle.toml_ordered.proofs.LongKeys.{named_short}
 use Rattle.toml_ordered.proofs.Turns.{items_turn, keyval_is, members_turn, val_array, val_table}
 use Rattle.toml_ordered.specs.Data.{Items, TomlNode, TomlNodes, array, no_items, no_nodes, push_item, table}
 use Rattle.toml_ordered.specs.Keys.{table_view}
@@ -163,8 +164,8 @@ module _ (depth : ℕ) (text : List ℕ) (found : CodeTable) (rest : List ℕ) (
   braces_unnamed none no_long =
       neither (suc depth) text
       (braces_unblamed depth text rest (table_view found) known.count known.opens known.read (rw none)
-      (λ name value after pair refused. none_some (sym (keyval_nameless (val depth) (skip_blank rest) none) ∙ pair)) no_long
-      (λ name after named blamed. none_some (sym none ∙ named)))
+      (λ name value after pair refused. none-some _ (sym (keyval_nameless (val depth) (skip_blank rest) none) ∙ pair)) no_long
+      (λ name after named blamed. none-some _ (sym none ∙ named)))
 
   -- the key of the next pair is refused
   pub braces_keyless : (fault : Fault) → ((IsMemory fault → ⊥) → key_equals (skip_blank rest) ≡ None) → KeyTells (skip_blank rest) fault
@@ -188,7 +189,7 @@ module _ (depth : ℕ) (text : List ℕ) (found : CodeTable) (rest : List ℕ) (
         let no_pair = keyval_none (val depth) (skip_blank rest) key at named unread in
         neither (suc depth) text
         (braces_unblamed depth text rest (table_view found) known.count known.opens known.read (rw no_pair)
-        (λ name value after pair refused. none_some (sym no_pair ∙ pair)) (named_short (skip_blank rest) (key, at) named)
+        (λ name value after pair refused. none-some _ (sym no_pair ∙ pair)) (named_short (skip_blank rest) (key, at) named)
         (λ name after also blamed. none (subst (IsBlamed depth) (same_rest (name, after) (key, at) (sym also ∙ named)) blamed)))
 
     pub braces_parted : (x : TomlNode) (after : List ℕ) → val depth at ≡ Some (x, after) → (more : TomlNodes) → put key x (table_view found) ≡ Some more
@@ -197,7 +198,7 @@ module _ (depth : ℕ) (text : List ℕ) (found : CodeTable) (rest : List ℕ) (
         let whole = keyval_is (val depth) (skip_blank rest) key at after x named read in
         neither (suc depth) text
         (braces_unblamed depth text rest (table_view found) known.count known.opens known.read (rw (whole, defined, element))
-        (λ name value end pair refused. none_some (sym (same_put (name, value) (key, x) (same_pair ((name, value), end) ((key, x), after) (sym pair ∙ whole))
+        (λ name value end pair refused. none-some _ (sym (same_put (name, value) (key, x) (same_pair ((name, value), end) ((key, x), after) (sym pair ∙ whole))
         refused) ∙ defined)) (named_short (skip_blank rest) (key, at) named)
         (λ name end also blamed. read_unblamed depth at (x, after) read
         (subst (IsBlamed depth) (same_rest (name, end) (key, at) (sym also ∙ named)) blamed)))

@@ -2,14 +2,14 @@
 use Rattle.std.proofs.Common.{◌≡◌, ◌⊎◌, inl, inr, ℕ, zero, suc, ◌+◌, ◌-◌, ◌<◌, ◌≤◌, ◌==◌, true, false, List, ◌∷◌, [], drop, length, Option, Some, None}
 use Rattle.std.proofs.Common.{refl, sym, ap, subst, ◌∙◌, arith}
 use Rattle.std.proofs.lemmas.Bool.{cases_Bool, cases_lt, eqb-true, false≢true}
-use Rattle.std.proofs.lemmas.Option.{option_and_then_some}
+use Rattle.std.proofs.lemmas.Option.{none-some, option_and_then_some, same_Some}
 use Rattle.std.specs.Prelude.{option_and_then}
 use Rattle.toml_parser.specs.Lexical.{Read, first, skip_blank}
 use Rattle.toml_parser.specs.Numbers.{unquoted, word_len}
 use Rattle.toml_parser.specs.Strings.{Key, key_after, simple_key}
 use Rattle.toml.specs.Parse.{after_element, key_equals, read_map}
 use Rattle.toml_ordered.proofs.Options.{option_map_some}
-use Rattle.toml_ordered.proofs.LongKeys.{long_begins, long_nameless, none_some, some_same}
+use Rattle.toml_ordered.proofs.LongKeys.{long_begins, long_nameless}
 use Rattle.toml_ordered.proofs.Turns.{items_turn, members_turn, val_array, val_atom, val_deep, val_table}
 use Rattle.toml_ordered.specs.Data.{Items, TomlNode, TomlNodes, array, no_items, no_nodes, push_item, table}
 use Rattle.toml_ordered.specs.Firsts.{NeitherTells}
@@ -20,10 +20,10 @@ use Rattle.toml_ordered.specs.Tables.{put}
 use Rattle.toml_ordered.specs.declared.tree.Origin.TheVariants.{Closed}
 
 pub same_rest : (p q : Key × List ℕ) → Some p ≡ Some q → p.1 ≡ q.1
-same_rest p q e = ap (λ (k : Key × List ℕ). k.1) (some_same p q e)
+same_rest p q e = ap (λ (k : Key × List ℕ). k.1) (same_Some p q e)
 
 pub same_pair : (p q : (Key × TomlNode) × List ℕ) → Some p ≡ Some q → p.0 ≡ q.0
-same_pair p q e = ap (λ (k : (Key × TomlNode) × List ℕ). k.0) (some_same p q e)
+same_pair p q e = ap (λ (k : (Key × TomlNode) × List ℕ). k.0) (same_Some p q e)
 
 -- ---- turns that come to an end
 
@@ -42,12 +42,12 @@ module _ {A : Type 0} (step : A → Option A) (at : ℕ → Option A) (turn : (n
 
   pub once : (n m : ℕ) (x y : A) → at n ≡ Some x → step x ≡ None → at m ≡ Some y → step y ≡ None → y ≡ x
   once n m x y is none also stops = elim (cases_lt n m) [
-    | inl less ↦ absurd (none_some (sym (past n m x is none less) ∙ also))
+    | inl less ↦ absurd (none-some _ (sym (past n m x is none less) ∙ also))
     | inr most ↦ elim (cases_lt m n) [
-      | inl more ↦ absurd (none_some (sym (past m n y also stops more) ∙ is))
+      | inl more ↦ absurd (none-some _ (sym (past m n y also stops more) ∙ is))
       | inr least ↦
           let same : m ≡ n = omega (arith, most, least) in
-          some_same y x (sym also ∙ ap at same ∙ is)
+          same_Some y x (sym also ∙ ap at same ∙ is)
     ]
   ]
 
@@ -78,7 +78,7 @@ closed_value depth text is =
 -- a value doesn't begin with a closing bracket
 value_begins : (depth : ℕ) (text : List ℕ) (v : TomlNode × List ℕ) → val depth text ≡ Some v → (first text == 93) ≡ false
 value_begins depth text v read = elim (cases_Bool (first text == 93)) [
-  | inl closing ↦ absurd (none_some (sym (closed_value depth text (eqb-true (first text) 93 closing)) ∙ read))
+  | inl closing ↦ absurd (none-some _ (sym (closed_value depth text (eqb-true (first text) 93 closing)) ∙ read))
   | inr other ↦ other
 ]
 
@@ -86,7 +86,7 @@ value_begins depth text v read = elim (cases_Bool (first text == 93)) [
 key_begins : (text : List ℕ) (k : Key × List ℕ) → key_equals text ≡ Some k → (first text == 125) ≡ false
 key_begins text k named = elim (cases_Bool (first text == 125)) [
   | inl closing ↦
-      absurd (none_some (sym (ap key_equals (begun_with 124 text (eqb-true (first text) 125 closing)) ∙ no_key (drop 1 text)) ∙ named))
+      absurd (none-some _ (sym (ap key_equals (begun_with 124 text (eqb-true (first text) 125 closing)) ∙ no_key (drop 1 text)) ∙ named))
   | inr other ↦ other
 ]
 
@@ -95,7 +95,7 @@ header_keyless text is = ap key_equals (begun_with 90 text is) ∙ no_header_key
 
 pub no_header : (text : List ℕ) (k : Key × List ℕ) → key_equals text ≡ Some k → (first text == 91) ≡ false
 no_header text k named = elim (cases_Bool (first text == 91)) [
-  | inl opens ↦ absurd (none_some (sym (header_keyless text (eqb-true (first text) 91 opens)) ∙ named))
+  | inl opens ↦ absurd (none-some _ (sym (header_keyless text (eqb-true (first text) 91 opens)) ∙ named))
   | inr other ↦ other
 ]
 
@@ -110,7 +110,7 @@ keyval_begins : (val : List ℕ → Read TomlNode) (text : List ℕ) (e : (Key �
 keyval_begins val text e read = by (key_equals text) refl
   where
     by : (o : Read Key) → key_equals text ≡ o → (first text == 125) ≡ false
-    by None none = absurd (none_some (sym (keyval_nameless val text none) ∙ read))
+    by None none = absurd (none-some _ (sym (keyval_nameless val text none) ∙ read))
     by (Some k) named = key_begins text k named
 
 -- ---- values that are refused inside
@@ -131,7 +131,7 @@ module _ (depth : ℕ) (start : List ℕ) where
       ⊎ ((left : ℕ) × (more : Items) × (items (val depth) room no_items start ≡ items (val depth) left more rest))
 
   reads_items : (m room : ℕ) (rest : List ℕ) → after_items depth m start ≡ Some rest → ReadsItems room rest
-  reads_items zero room rest is = inr (room, no_items, ap (items (val depth) room no_items) (some_same start rest is))
+  reads_items zero room rest is = inr (room, no_items, ap (items (val depth) room no_items) (same_Some start rest is))
   reads_items (suc m) room rest is =
       option_and_then_some {P = ReadsItems room rest} (next_item depth) (after_items depth m start) rest is λ r at next.
       option_and_then_some {P = ReadsItems room rest} (λ v. after_element 93 v.1) (val depth (skip_blank r)) rest next λ v read element.
@@ -156,7 +156,7 @@ module _ (depth : ℕ) (start : List ℕ) where
 
   reads_pairs : (m room : ℕ) (to : TomlNodes × List ℕ) → after_pairs depth m start ≡ Some to → ReadsPairs room to
   reads_pairs zero room to is =
-      inr (room, ap (λ (p : TomlNodes × List ℕ). members (val depth) room p.0 p.1) (some_same (no_nodes, start) to is))
+      inr (room, ap (λ (p : TomlNodes × List ℕ). members (val depth) room p.0 p.1) (same_Some (no_nodes, start) to is))
   reads_pairs (suc m) room to is =
       option_and_then_some {P = ReadsPairs room to} (next_pair depth) (after_pairs depth m start) to is λ p at next.
       option_and_then_some {P = ReadsPairs room to} _ (keyval (val depth) (skip_blank p.1)) to next λ e read pair.
@@ -319,7 +319,7 @@ unblamed depth text none (inr (left, deep)) = none.1 left deep
 
 -- a value that is read
 pub read_unblamed : (depth : ℕ) (text : List ℕ) (v : TomlNode × List ℕ) → val depth text ≡ Some v → IsBlamed depth text → ⊥
-read_unblamed depth text v read blamed = none_some (sym (blamed_none depth text blamed) ∙ read)
+read_unblamed depth text v read blamed = none-some _ (sym (blamed_none depth text blamed) ∙ read)
 
 -- neither a string nor a scalar
 pub atom_unblamed : (depth : ℕ) (text : List ℕ) → (first text == 91) ≡ false → (first text == 123) ≡ false → IsBlamed depth text → ⊥

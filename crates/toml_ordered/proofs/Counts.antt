@@ -1,10 +1,8 @@
 -- The number of values that a drop has in hand, and that each turn of its loop goes on.
 use Rattle.std.proofs.Common.{List, [], ◌∷◌, ◌++◌, map, sum_by, length, set, get_or, Result, Ok, Err, ◌≡◌, ℕ, zero, suc, ◌+◌, ◌-◌, ◌*◌, ◌<◌, ◌≤◌}
 use Rattle.std.proofs.Common.{Option, Some, None, Vec, vec_len, Global, refl, ap, subst, sym, ◌∙◌, arith, rules}
-use Rattle.std.proofs.Math.Nat.{mul-suc, suc-mul}
 use Rattle.std.proofs.lemmas.List.Sums.{sum-map, sum_by-cons, sum_by-set, sum_by_push}
 use Rattle.std.specs.Prelude.{MatchOption, option_to_list}
-use Rattle.std.proofs.lemmas.Nat.{mul-le}
 use Rattle.toml_ordered.specs.Counts.{IsEntered, IsExchanged, IsLeft, IsPopped, node_count, table_count, tables_count}
 use Rattle.toml_ordered.specs.declared.tree.Node.{Node, Array, Table, Tables, the_lemmas}
 use Rattle.toml_ordered.specs.declared.tree.Origin.{Origin}

@@ -151,54 +151,34 @@ module _ (text : List ℕ) where
     pub line_goes_on : ends_line end ≡ false → line text ≡ None
     line_goes_on more = let alone : ends_line (skip_ws rest) ≡ false = rw (← behind) more in rw (read, alone)
 
--- headers in one bracket, and in two
-module _ (text : List ℕ) (opens : first text ≡ 91) (byte : ℕ) (second : byte ≡ slice_index text 1) (after : List ℕ) where
-  opening : (first text == 91) ≡ true
-  opening = rw opens
-
-  module _ (other : byte ≡ 91 → ⊥) (behind : after ≡ drop 1 text) where
-    one_bracket : (slice_index text 1 == 91) ≡ false
-    one_bracket = rw (← second, ne_eqb byte 91 other)
-
-    table_is : (name : Key) (rest : List ℕ) → header_key after ≡ Some (name, rest) → expression text ≡ Some ((name, std_table), rest)
-    table_is name rest read = let key : header_key (drop 1 text) ≡ Some (name, rest) = rw (← behind) read in rw (opening, one_bracket, key)
-
-    table_bad : header_key after ≡ None → expression text ≡ None
-    table_bad read = let key : header_key (drop 1 text) ≡ None = rw (← behind) read in rw (opening, one_bracket, key)
-
-  module _ (same : byte ≡ 91) (behind : after ≡ drop 2 text) where
-    two_brackets : (slice_index text 1 == 91) ≡ true
-    two_brackets = rw (← second, same)
-
-    tables_bad : header_key after ≡ None → expression text ≡ None
-    tables_bad read = let key : header_key (drop 2 text) ≡ None = rw (← behind) read in rw (opening, two_brackets, key)
-
-    module _ (name : Key) (rest : List ℕ) (read : header_key after ≡ Some (name, rest)) (next : ℕ) (here : next ≡ first rest) where
-      key_is : header_key (drop 2 text) ≡ Some (name, rest)
-      key_is = rw (← behind) read
-
-      tables_is : next ≡ 93 → (end : List ℕ) → end ≡ drop 1 rest → expression text ≡ Some ((name, array_table), end)
-      tables_is is end ends = let closing : (first rest == 93) ≡ true = rw (← here, is) in rw (opening, two_brackets, key_is, closing, ends)
-
-      tables_open : (next ≡ 93 → ⊥) → expression text ≡ None
-      tables_open more = let closing : (first rest == 93) ≡ false = rw (← here, ne_eqb next 93 more) in rw (opening, two_brackets, key_is, closing)
-
--- either, by how many brackets there are
+-- headers in two brackets, or in one
 abbrev pub AreBrackets : (byte brackets : ℕ) → Type 0
 AreBrackets byte brackets = ((byte ≡ 91) × (brackets ≡ 2)) ⊎ ((byte ≡ 91 → ⊥) × (brackets ≡ 1))
 
 module _ (text : List ℕ) (opens : first text ≡ 91) (byte : ℕ) (second : byte ≡ slice_index text 1) (brackets : ℕ) (after : List ℕ)
     (behind : after ≡ drop brackets text) (start : List ℕ) (blank : start ≡ skip_ws after) where
+  opening : (first text == 91) ≡ true
+  opening = rw opens
+
+  doubled : byte ≡ 91 → (slice_index text 1 == 91) ≡ true
+  doubled is = rw (← second, is)
+
+  single : (byte ≡ 91 → ⊥) → (slice_index text 1 == 91) ≡ false
+  single other = rw (← second, ne_eqb byte 91 other)
+
   cut : (n : ℕ) → brackets ≡ n → after ≡ drop n text
   cut n is = subst (λ m. after ≡ drop m text) is behind
 
+  key_of : (n : ℕ) (k : Read Key) → brackets ≡ n → key_before 93 start ≡ k → header_key (drop n text) ≡ k
+  key_of n k is read = ap header_key (sym (cut n is)) ∙ header_key_by after start blank ∙ read
+
   pub header_bad : AreBrackets byte brackets → key_before 93 start ≡ None → expression text ≡ None
-  header_bad (inl are) none = tables_bad text opens byte second after are.0 (cut 2 are.1) (header_key_by after start blank ∙ none)
-  header_bad (inr are) none = table_bad text opens byte second after are.0 (cut 1 are.1) (header_key_by after start blank ∙ none)
+  header_bad (inl are) none = rw (opening, doubled are.0, key_of 2 None are.1 none)
+  header_bad (inr are) none = rw (opening, single are.0, key_of 1 None are.1 none)
 
   own : AreBrackets byte brackets → own_key text ≡ start
-  own (inl are) = own_key_two text (rw opens) (rw (← second, are.0)) ∙ ap skip_ws (sym (cut 2 are.1)) ∙ sym blank
-  own (inr are) = own_key_one text (rw opens) (rw (← second, ne_eqb byte 91 are.0)) ∙ ap skip_ws (sym (cut 1 are.1)) ∙ sym blank
+  own (inl are) = own_key_two text opening (doubled are.0) ∙ ap skip_ws (sym (cut 2 are.1)) ∙ sym blank
+  own (inr are) = own_key_one text opening (single are.0) ∙ ap skip_ws (sym (cut 1 are.1)) ∙ sym blank
 
   -- its key is refused
   pub header_keyed : AreBrackets byte brackets → (fault : Fault) → KeyTells start fault → ExpressionTells text fault
@@ -216,15 +196,17 @@ module _ (text : List ℕ) (opens : first text ≡ 91) (byte : ℕ) (second : by
 
     pub header_one : AreBrackets byte brackets → brackets ≡ 1 → expression text ≡ Some ((name, std_table), rest)
     header_one (inl are) one = let two = are.1 in absurd (omega (arith, two, one))
-    header_one (inr are) one = table_is text opens byte second after are.0 (cut 1 are.1) name rest (header_key_by after start blank ∙ read)
+    header_one (inr are) one = rw (opening, single are.0, key_of 1 (Some (name, rest)) are.1 read)
 
     module _ (more : brackets ≡ 1 → ⊥) (next : ℕ) (here : next ≡ first rest) where
       pub header_two : AreBrackets byte brackets → next ≡ 93 → (end : List ℕ) → end ≡ drop 1 rest → expression text ≡ Some ((name, array_table), end)
       header_two (inl are) is end ends =
-          tables_is text opens byte second after are.0 (cut 2 are.1) name rest (header_key_by after start blank ∙ read) next here is end ends
+          let closing : (first rest == 93) ≡ true = rw (← here, is) in
+          rw (opening, doubled are.0, key_of 2 (Some (name, rest)) are.1 read, closing, ends)
       header_two (inr are) is end ends = absurd (more are.1)
 
       pub header_open : AreBrackets byte brackets → (next ≡ 93 → ⊥) → expression text ≡ None
       header_open (inl are) other =
-          tables_open text opens byte second after are.0 (cut 2 are.1) name rest (header_key_by after start blank ∙ read) next here other
+          let closing : (first rest == 93) ≡ false = rw (← here, ne_eqb next 93 other) in
+          rw (opening, doubled are.0, key_of 2 (Some (name, rest)) are.1 read, closing)
       header_open (inr are) other = absurd (more are.1)

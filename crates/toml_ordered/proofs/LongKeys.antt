@@ -1,12 +1,13 @@
 -- Keys of more parts than are read.
 use Rattle.std.proofs.Common.{◌≡◌, ℕ, zero, suc, ◌+◌, ◌-◌, ◌<◌, ◌≤◌, ◌==◌, ◌&&◌, ◌||◌, Bool, true, false, cond, List, [], ◌∷◌, ◌++◌, length, take, drop}
-use Rattle.std.proofs.Common.{Option, Some, None, inl, inr}
+use Rattle.std.proofs.Common.{Some, None, inl, inr}
 use Rattle.std.proofs.Common.{refl, sym, ap, subst, ◌∙◌, arith, slice_index}
+use Rattle.std.proofs.lemmas.Option.{none-some, same_Some}
 use Rattle.std.proofs.lemmas.Bool.{cases_Bool, eq-eqb, eqb-true, ne_eqb}
 use Rattle.std.proofs.lemmas.Bool.Decides.{nat_tests}
 use Rattle.std.proofs.lemmas.List.{length-append}
 use Rattle.std.specs.List.{prefix_len}
-use Rattle.std.specs.Prelude.{option_and_then, unwrap_or}
+use Rattle.std.specs.Prelude.{option_and_then}
 use Rattle.toml_parser.proofs.StringsLemmas.{key_after_turn}
 use Rattle.toml_parser.specs.Lexical.{Read, first, is_bare, skip_ws}
 use Rattle.toml_parser.specs.Strings.{Key, body, key, key_after, one_line, quoted, recursion_limit, simple_key, special}
@@ -17,12 +18,6 @@ use Rattle.toml_ordered.specs.Nesting.{HasLongKey, KeyTells, any_key, own_key}
 use Rattle.toml_ordered.specs.Places.{key_parts}
 use Rattle.toml_ordered.specs.declared.fault.Fault.{Fault}
 use Rattle.toml_ordered.specs.declared.fault.Fault.TheVariants as fault
-
-pub none_some : {A : Type 0} {x : A} → ◌≡◌ {A = Option A} None (Some x) → ⊥
-none_some e = cc
-
-pub some_same : {A : Type 0} (x y : A) → Some x ≡ Some y → x ≡ y
-some_same x y e = ap (λ o. unwrap_or o x) e
 
 -- the text after a part of a key and a dot
 abbrev pub past_dot : List ℕ → List ℕ
@@ -119,25 +114,25 @@ not_bare text byte here other = subst (λ (c : ℕ). is_bare c ≡ false) here o
 
 key_same : (n m : ℕ) (path : List (List ℕ)) (text : List ℕ) (r q : Key × List ℕ) → key_after n path text ≡ Some r → key_after m path text ≡ Some q → r ≡ q
 unfolding key_after
-key_same zero m path text r q one two = absurd (none_some one)
-key_same (suc n) zero path text r q one two = absurd (none_some two)
+key_same zero m path text r q one two = absurd (none-some _ one)
+key_same (suc n) zero path text r q one two = absurd (none-some _ two)
 key_same (suc n) (suc m) path text r q one two = by (λ p t. key_same n m p t r q) (simple_key text) one two
   where
     by_dot : ((p : List (List ℕ)) (t : List ℕ) → key_after n p t ≡ Some r → key_after m p t ≡ Some q → r ≡ q) → (part : List ℕ × List ℕ) (dotted : Bool)
         → on_from n path part dotted ≡ Some r → on_from m path part dotted ≡ Some q → r ≡ q
     by_dot more part true one two = more (path ++ part.0 ∷ []) (past_dot part.1) one two
-    by_dot more part false one two = some_same r q (sym one ∙ two)
+    by_dot more part false one two = same_Some r q (sym one ∙ two)
 
     by : ((p : List (List ℕ)) (t : List ℕ) → key_after n p t ≡ Some r → key_after m p t ≡ Some q → r ≡ q) → (o : Read (List ℕ)) → on n path o ≡ Some r
         → on m path o ≡ Some q → r ≡ q
-    by more None one two = absurd (none_some one)
+    by more None one two = absurd (none-some _ one)
     by more (Some part) one two = by_dot more part (first (skip_ws part.1) == 46) one two
 
 -- at most so many
 parts_within : (n : ℕ) (path : List (List ℕ)) (text : List ℕ) (r : Key × List ℕ) → key_after n path text ≡ Some r
     → length (key_parts r.0) ≤ n + length path
 unfolding key_after
-parts_within zero path text r is = absurd (none_some is)
+parts_within zero path text r is = absurd (none-some _ is)
 parts_within (suc n) path text r is = by (λ p t. parts_within n p t r) (simple_key text) is
   where
     by_dot : ((p : List (List ℕ)) (t : List ℕ) → key_after n p t ≡ Some r → length (key_parts r.0) ≤ n + length p) → (part : List ℕ × List ℕ) (dotted : Bool)
@@ -147,13 +142,13 @@ parts_within (suc n) path text r is = by (λ p t. parts_within n p t r) (simple_
         let longer : length (path ++ part.0 ∷ []) ≡ length path + 1 = length-append path (part.0 ∷ []) in
         omega (arith, most, longer)
     by_dot more part false is =
-        let same = some_same ((path, part.0), skip_ws part.1) r is in
+        let same = same_Some ((path, part.0), skip_ws part.1) r is in
         let longer : length (path ++ part.0 ∷ []) ≡ length path + 1 = length-append path (part.0 ∷ []) in
         subst (λ (k : Key × List ℕ). length (key_parts k.0) ≤ suc n + length path) same (omega (arith, longer))
 
     by : ((p : List (List ℕ)) (t : List ℕ) → key_after n p t ≡ Some r → length (key_parts r.0) ≤ n + length p) → (o : Read (List ℕ)) → on n path o ≡ Some r
         → length (key_parts r.0) ≤ suc n + length path
-    by more None is = absurd (none_some is)
+    by more None is = absurd (none-some _ is)
     by more (Some part) is = by_dot more part (first (skip_ws part.1) == 46) is
 
 -- a key of more than 80 parts isn't read
@@ -169,7 +164,7 @@ long_unread left text long = by (key text) refl
         absurd (omega (arith, most, more))
 
 pub read_no_long : (text : List ℕ) (r : Key × List ℕ) → key text ≡ Some r → (left : ℕ) → HasLongKey left text → ⊥
-read_no_long text r is left long = none_some (sym (long_unread left text long) ∙ is)
+read_no_long text r is left long = none-some _ (sym (long_unread left text long) ∙ is)
 
 -- ---- a key, a part after another
 
@@ -192,7 +187,7 @@ no_parts text = record { room = length text; path = []; enough = omega arith; co
 module _ (text : List ℕ) (dots : ℕ) (rest : List ℕ) (known : UpToPart text dots rest) where
   -- no other part begins there
   pub part_none : simple_key rest ≡ None → (left : ℕ) → HasLongKey left text → ⊥
-  part_none none left long = none_some (sym (known.same ∙ no_part known.room known.path rest none) ∙ long.read)
+  part_none none left long = none-some _ (sym (known.same ∙ no_part known.room known.path rest none) ∙ long.read)
 
   module _ (part after : List ℕ) (read : simple_key rest ≡ Some (part, after)) (shorter : length after < length rest) (byte : ℕ)
       (here : byte ≡ first (skip_ws after)) where
@@ -226,7 +221,7 @@ module _ (text : List ℕ) (dots : ℕ) (rest : List ℕ) (known : UpToPart text
 
       pub key_short : dots < 80 → (left : ℕ) → HasLongKey left text → ⊥
       key_short few left long =
-          let same = some_same (long.name, long.rest) ((known.path, part), skip_ws after) (sym long.read ∙ whole) in
+          let same = same_Some (long.name, long.rest) ((known.path, part), skip_ws after) (sym long.read ∙ whole) in
           let more = subst (λ (k : Key × List ℕ). recursion_limit < length (key_parts k.0)) same long.more in
           let is = parts in
           absurd (omega (arith, few, more, is))
@@ -260,10 +255,10 @@ before_other byte text r read next here other =
     rw (read, more)
 
 pub named_short : (text : List ℕ) (k : Key × List ℕ) → key_equals text ≡ Some k → (left : ℕ) → HasLongKey left text → ⊥
-named_short text k named left long = none_some (sym (key_equals_unread text (long_unread left text long)) ∙ named)
+named_short text k named left long = none-some _ (sym (key_equals_unread text (long_unread left text long)) ∙ named)
 
 pub before_short : (byte : ℕ) (text : List ℕ) (k : Key × List ℕ) → key_before byte text ≡ Some k → (left : ℕ) → HasLongKey left text → ⊥
-before_short byte text k named left long = none_some (sym (before_unread byte text (long_unread left text long)) ∙ named)
+before_short byte text k named left long = none-some _ (sym (before_unread byte text (long_unread left text long)) ∙ named)
 
 pub long_nameless : (left : ℕ) (text : List ℕ) → HasLongKey left text → key_equals text ≡ None
 long_nameless left text long = key_equals_unread text (long_unread left text long)
@@ -279,7 +274,7 @@ long_begins left [] long = refl
 long_begins left (c ∷ cs) long = elim (cases_Bool (c == 125)) [
   | inl closing ↦
       let is : c ≡ 125 = eqb-true c 125 closing in
-      absurd (none_some (sym (ap (λ (b : ℕ). key_after (length (c ∷ cs)) [] (b ∷ cs)) is ∙ no_braced_key (length (c ∷ cs)) cs) ∙ long.read))
+      absurd (none-some _ (sym (ap (λ (b : ℕ). key_after (length (c ∷ cs)) [] (b ∷ cs)) is ∙ no_braced_key (length (c ∷ cs)) cs) ∙ long.read))
   | inr other ↦ other
 ]
 

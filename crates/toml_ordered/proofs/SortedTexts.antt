@@ -1,16 +1,15 @@
 -- The document of a text, with the keys in order of definition and with the keys sorted: each part of the grammar reads the same.
-use Rattle.std.proofs.Common.{◌≡◌, ℕ, zero, suc, Bool, true, false, cond, ◌&&◌, ◌||◌, ◌==◌, List, [], length, take, drop, slice_index, Option, Some, None}
+use Rattle.std.proofs.Common.{◌≡◌, ℕ, zero, suc, Bool, true, false, cond, ◌&&◌, ◌||◌, ◌==◌, List, [], length, drop, slice_index, Option, Some, None}
 use Rattle.std.proofs.Common.{option_map, option_and_then, refl, sym, ap, subst, ◌∙◌}
 use Rattle.std.proofs.lemmas.Option.{cond_some, option_and_then_some}
 use Rattle.toml_parser.specs.Lexical.{Read, first, skip_ws, skip_blank}
 use Rattle.toml_parser.specs.Strings.{Key, quoted, starts_string, recursion_limit}
-use Rattle.toml_parser.specs.Numbers.{unquoted, word_len}
 use Rattle.toml.specs.Data as plain
 use Rattle.toml.specs.Tables as t
 use Rattle.toml.specs.Parse as p
 use Rattle.toml.specs.Parse.{read_map, after_byte, after_element, key_equals, header_key, ends_line, skip_bom}
 use Rattle.toml_ordered.specs.Data.{TomlNode, string, array, table, Items, no_items, TomlNodes, no_nodes, push_item}
-use Rattle.toml_ordered.specs.Grammar.{scalar_node, atom, keyval, items, members, val, expression, line, lines, ordered_document}
+use Rattle.toml_ordered.specs.Grammar.{atom, keyval, items, members, val, expression, line, lines, ordered_document}
 use Rattle.toml_ordered.specs.Sorted.{sorted_value, sorted_items, sorted_keys}
 use Rattle.toml_ordered.specs.Tables.{key_value, std_table, array_table, Expression, TomlDocument, put, define}
 use Rattle.toml_ordered.specs.declared.tree.Origin.TheVariants.{Closed}

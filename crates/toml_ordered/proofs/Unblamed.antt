@@ -1,10 +1,11 @@
 -- An expression or a document is refused for one reason: if it isn't TOML at a place, no key is defined again in it, and nothing nests too deep.
 use Rattle.std.proofs.Common.{◌≡◌, ◌⊎◌, inl, inr, ℕ, List, Some, None, refl, sym, ap, subst, ◌∙◌}
+use Rattle.std.proofs.lemmas.Option.{none-some, same_Some}
 use Rattle.toml_parser.specs.Lexical.{skip_blank}
 use Rattle.toml_parser.specs.Strings.{Key, recursion_limit}
 use Rattle.toml.specs.Parse.{key_equals}
 use Rattle.toml_ordered.proofs.Blaming.{IsBlamed, blamed_none, keyval_none, no_header, once, unblamed}
-use Rattle.toml_ordered.proofs.LongKeys.{expression_long, named_short, none_some, own_key_pair, some_same}
+use Rattle.toml_ordered.proofs.LongKeys.{expression_long, named_short, own_key_pair}
 use Rattle.toml_ordered.specs.Firsts.{NeitherTells}
 use Rattle.toml_ordered.specs.Grammar.{expression, line, val}
 use Rattle.toml_ordered.specs.Nesting.{ClashesIn, Conflict, ExpressionNestsPast, HasLongKey, NestsPast, NestsTooDeep, PairClashes, own_key}
@@ -46,7 +47,7 @@ nameless_neither text none no_long = neither_expression text by
   where
     by : IsExpressionBlamed text → ⊥
     by (inl (left, long)) = no_long left long
-    by (inr (name, value, named, blamed)) = none_some (sym none ∙ named)
+    by (inr (name, value, named, blamed)) = none-some _ (sym none ∙ named)
 
 -- with a value
 pub valued_neither : (text : List ℕ) (name : Key) (at : List ℕ) → key_equals text ≡ Some (name, at)
@@ -59,11 +60,11 @@ valued_neither text name at named none = neither_expression text by
         named_short text (name, at) named left (subst (HasLongKey left) (own_key_pair text (no_header text (name, at) named)) long)
     by (inr (other, value, also, blamed)) =
         unblamed recursion_limit at none
-        (subst (IsBlamed recursion_limit) (ap (λ (k : Key × List ℕ). k.1) (some_same (other, value) (name, at) (sym also ∙ named))) blamed)
+        (subst (IsBlamed recursion_limit) (ap (λ (k : Key × List ℕ). k.1) (same_Some (other, value) (name, at) (sym also ∙ named))) blamed)
 
 -- that is read
 pub expression_neither : (text : List ℕ) (e : Expression × List ℕ) → expression text ≡ Some e → NeitherTells (PairClashes text) (ExpressionNestsPast text)
-expression_neither text e read = neither_expression text (λ blamed. none_some (sym (expression_blamed text blamed) ∙ read))
+expression_neither text e read = neither_expression text (λ blamed. none-some _ (sym (expression_blamed text blamed) ∙ read))
 
 -- ---- documents
 
@@ -88,7 +89,7 @@ neither_document text rest doc reads unread none = (λ key one two conflict. by 
     by key one two (inl conflict) =
         let at = conflict.at in
         let is = same conflict.doc at.rest at.read (rw (at.begins, conflict.refused)) in
-        none_some (sym unread ∙ subst (λ (p : TomlDocument × List ℕ). line (skip_blank p.1) ≡ Some (conflict.e, at.after)) is at.begins)
+        none-some _ (sym unread ∙ subst (λ (p : TomlDocument × List ℕ). line (skip_blank p.1) ≡ Some (conflict.e, at.after)) is at.begins)
     by key one two (inr conflict) =
         let (name, value, named, clash) = conflict.pairs in
         blames conflict.doc conflict.rest conflict.read (inr (name, value, named, inl (key, one, two, clash)))
