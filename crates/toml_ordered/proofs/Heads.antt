@@ -1,7 +1,7 @@
 -- The beginnings of values, expressions and lines: strings, scalars, keys and headers.
-use Rattle.std.proofs.Common.{◌≡◌, ◌⊎◌, inl, inr, ℕ, ◌==◌, Bool, true, false, List, drop, slice_index, Option, Some, None, refl, sym, subst, ap}
+use Rattle.std.proofs.Common.{◌≡◌, ◌⊎◌, inl, inr, ℕ, ◌==◌, Bool, true, false, cond, List, drop, Option, Some, None, refl, sym, subst, ap}
 use Rattle.std.proofs.Common.{String, Global, string_bytes, rules, arith, option_and_then, option_map, ◌∙◌}
-use Rattle.std.proofs.lemmas.Bool.{eq-eqb, ne_eqb}
+use Rattle.std.proofs.lemmas.Bool.{cases_Bool, eq-eqb, ne_eqb}
 use Rattle.toml_parser.specs.Lexical.{Read, first, skip_blank, skip_ws}
 use Rattle.toml_parser.specs.Strings.{Key, key, quoted, starts_string}
 use Rattle.toml_parser.specs.Numbers.{unquoted}
@@ -10,12 +10,12 @@ use Rattle.toml_parser.specs.declared.error.ParseError.TheVariants as parse
 use Rattle.toml.specs.Parse.{after_byte, after_element, ends_line, header_key, key_equals}
 use Rattle.toml_ordered.proofs.Blaming.{header_keyless}
 use Rattle.toml_ordered.proofs.Conflicts.{reason_in}
-use Rattle.toml_ordered.proofs.LongKeys.{before_short, own_key_one, own_key_pair, own_key_two}
+use Rattle.toml_ordered.proofs.LongKeys.{before_short, own_key_pair}
 use Rattle.toml_ordered.proofs.Unblamed.{nameless_neither}
 use Rattle.toml_ordered.proofs.Turns.{val_deep, val_sealed}
 use Rattle.toml_ordered.specs.Data.{TomlNode, node_view, string}
 use Rattle.toml_ordered.specs.Keys.{sealed}
-use Rattle.toml_ordered.specs.Grammar.{atom, expression, key_before, line, val}
+use Rattle.toml_ordered.specs.Grammar.{atom, expression, is_doubled, key_before, line, val}
 use Rattle.toml_ordered.specs.Tables.{Expression, array_table, key_value, std_table}
 use Rattle.toml_ordered.specs.Firsts.{FaultTells, IsOther, NeitherTells}
 use Rattle.toml_ordered.specs.Nesting.{ExpressionNestsPast, ExpressionTells, HasLongKey, KeyTells, PairClashes, own_key}
@@ -152,61 +152,68 @@ module _ (text : List ℕ) where
     line_goes_on more = let alone : ends_line (skip_ws rest) ≡ false = rw (← behind) more in rw (read, alone)
 
 -- headers in two brackets, or in one
-abbrev pub AreBrackets : (byte brackets : ℕ) → Type 0
-AreBrackets byte brackets = ((byte ≡ 91) × (brackets ≡ 2)) ⊎ ((byte ≡ 91 → ⊥) × (brackets ≡ 1))
-
-module _ (text : List ℕ) (opens : first text ≡ 91) (byte : ℕ) (second : byte ≡ slice_index text 1) (brackets : ℕ) (after : List ℕ)
+module _ (text : List ℕ) (opens : first text ≡ 91) (brackets : ℕ) (are : brackets ≡ cond (is_doubled text) 2 1) (after : List ℕ)
     (behind : after ≡ drop brackets text) (start : List ℕ) (blank : start ≡ skip_ws after) where
   opening : (first text == 91) ≡ true
   opening = rw opens
 
-  doubled : byte ≡ 91 → (slice_index text 1 == 91) ≡ true
-  doubled is = rw (← second, is)
+  count : (b : Bool) → is_doubled text ≡ b → brackets ≡ cond b 2 1
+  count b is = are ∙ ap (λ (doubled : Bool). cond doubled 2 1) is
 
-  single : (byte ≡ 91 → ⊥) → (slice_index text 1 == 91) ≡ false
-  single other = rw (← second, ne_eqb byte 91 other)
+  cut : (b : Bool) → is_doubled text ≡ b → after ≡ drop (cond b 2 1) text
+  cut b is = behind ∙ ap (λ (n : ℕ). drop n text) (count b is)
 
-  cut : (n : ℕ) → brackets ≡ n → after ≡ drop n text
-  cut n is = subst (λ m. after ≡ drop m text) is behind
+  key_of : (k : Read Key) → key_before 93 start ≡ k → (b : Bool) → is_doubled text ≡ b → header_key (drop (cond b 2 1) text) ≡ k
+  key_of k read b is = ap header_key (sym (cut b is)) ∙ header_key_by after start blank ∙ read
 
-  key_of : (n : ℕ) (k : Read Key) → brackets ≡ n → key_before 93 start ≡ k → header_key (drop n text) ≡ k
-  key_of n k is read = ap header_key (sym (cut n is)) ∙ header_key_by after start blank ∙ read
+  pub header_bad : key_before 93 start ≡ None → expression text ≡ None
+  header_bad none = by (is_doubled text) refl
+    where
+      by : (b : Bool) → is_doubled text ≡ b → expression text ≡ None
+      by true is = rw (is, key_of None none true is)
+      by false is = rw (is, opening, key_of None none false is)
 
-  pub header_bad : AreBrackets byte brackets → key_before 93 start ≡ None → expression text ≡ None
-  header_bad (inl are) none = rw (opening, doubled are.0, key_of 2 None are.1 none)
-  header_bad (inr are) none = rw (opening, single are.0, key_of 1 None are.1 none)
-
-  own : AreBrackets byte brackets → own_key text ≡ start
-  own (inl are) = own_key_two text opening (doubled are.0) ∙ ap skip_ws (sym (cut 2 are.1)) ∙ sym blank
-  own (inr are) = own_key_one text opening (single are.0) ∙ ap skip_ws (sym (cut 1 are.1)) ∙ sym blank
+  own : own_key text ≡ start
+  own = by (is_doubled text) refl
+    where
+      by : (b : Bool) → is_doubled text ≡ b → own_key text ≡ start
+      by true is = rw is (ap skip_ws (sym (cut true is)) ∙ sym blank)
+      by false is = rw (is, opening) (ap skip_ws (sym (cut false is)) ∙ sym blank)
 
   -- its key is refused
-  pub header_keyed : AreBrackets byte brackets → (fault : Fault) → KeyTells start fault → ExpressionTells text fault
-  header_keyed are fault tells =
+  pub header_keyed : (fault : Fault) → KeyTells start fault → ExpressionTells text fault
+  header_keyed fault tells =
       reason_in fault (λ key one two. ⊥) (PairClashes text) (λ left. HasLongKey left start) (ExpressionNestsPast text) (λ key one two clash. absurd clash)
-      (λ left long. inl (subst (HasLongKey left) (sym (own are)) long))
-      (λ real neither. nameless_neither text (header_keyless text opens) (λ left long. neither.1 left (subst (HasLongKey left) (own are) long))) tells
+      (λ left long. inl (subst (HasLongKey left) (sym own) long))
+      (λ real neither. nameless_neither text (header_keyless text opens) (λ left long. neither.1 left (subst (HasLongKey left) own long))) tells
 
   module _ (name : Key) (rest : List ℕ) (read : key_before 93 start ≡ Some (name, rest)) where
     -- or read
-    pub header_neither : AreBrackets byte brackets → NeitherTells (PairClashes text) (ExpressionNestsPast text)
-    header_neither are =
+    pub header_neither : NeitherTells (PairClashes text) (ExpressionNestsPast text)
+    header_neither =
         nameless_neither text (header_keyless text opens)
-        (λ left long. before_short 93 start (name, rest) read left (subst (HasLongKey left) (own are) long))
+        (λ left long. before_short 93 start (name, rest) read left (subst (HasLongKey left) own long))
 
-    pub header_one : AreBrackets byte brackets → brackets ≡ 1 → expression text ≡ Some ((name, std_table), rest)
-    header_one (inl are) one = let two = are.1 in absurd (omega (arith, two, one))
-    header_one (inr are) one = rw (opening, single are.0, key_of 1 (Some (name, rest)) are.1 read)
+    pub header_one : brackets ≡ 1 → expression text ≡ Some ((name, std_table), rest)
+    header_one one = by (is_doubled text) refl
+      where
+        by : (b : Bool) → is_doubled text ≡ b → expression text ≡ Some ((name, std_table), rest)
+        by true is = let two = count true is in absurd (omega (arith, two, one))
+        by false is = rw (is, opening, key_of (Some (name, rest)) read false is)
 
     module _ (more : brackets ≡ 1 → ⊥) (next : ℕ) (here : next ≡ first rest) where
-      pub header_two : AreBrackets byte brackets → next ≡ 93 → (end : List ℕ) → end ≡ drop 1 rest → expression text ≡ Some ((name, array_table), end)
-      header_two (inl are) is end ends =
-          let closing : (first rest == 93) ≡ true = rw (← here, is) in
-          rw (opening, doubled are.0, key_of 2 (Some (name, rest)) are.1 read, closing, ends)
-      header_two (inr are) is end ends = absurd (more are.1)
+      doubled : is_doubled text ≡ true
+      doubled = elim (cases_Bool (is_doubled text)) [
+        | inl is ↦ is
+        | inr is ↦ absurd (more (count false is))
+      ]
 
-      pub header_open : AreBrackets byte brackets → (next ≡ 93 → ⊥) → expression text ≡ None
-      header_open (inl are) other =
+      pub header_two : next ≡ 93 → (end : List ℕ) → end ≡ drop 1 rest → expression text ≡ Some ((name, array_table), end)
+      header_two is end ends =
+          let closing : (first rest == 93) ≡ true = rw (← here, is) in
+          rw (doubled, key_of (Some (name, rest)) read true doubled, closing, ends)
+
+      pub header_open : (next ≡ 93 → ⊥) → expression text ≡ None
+      header_open other =
           let closing : (first rest == 93) ≡ false = rw (← here, ne_eqb next 93 other) in
-          rw (opening, doubled are.0, key_of 2 (Some (name, rest)) are.1 read, closing)
-      header_open (inr are) other = absurd (more are.1)
+          rw (doubled, key_of (Some (name, rest)) read true doubled, closing)

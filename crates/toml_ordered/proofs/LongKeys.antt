@@ -282,12 +282,6 @@ module _ (text : List ℕ) where
   pub own_key_pair : (first text == 91) ≡ false → own_key text ≡ text
   own_key_pair one = rw one
 
-  pub own_key_one : (first text == 91) ≡ true → (slice_index text 1 == 91) ≡ false → own_key text ≡ skip_ws (drop 1 text)
-  own_key_one one two = rw (one, two)
-
-  pub own_key_two : (first text == 91) ≡ true → (slice_index text 1 == 91) ≡ true → own_key text ≡ skip_ws (drop 2 text)
-  own_key_two one two = rw (one, two)
-
   pub expression_long : (left : ℕ) → HasLongKey left (own_key text) → expression text ≡ None
   expression_long left long = by (first text == 91) (slice_index text 1 == 91) refl refl (long_unread left (own_key text) long)
     where

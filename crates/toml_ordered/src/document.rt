@@ -1,5 +1,5 @@
 //! Documents, expression by expression.
-ghost use Rattle.std.specs.Prelude.{◌≡◌, ◌≤◌, ◌++◌, [], IfErr, length, string_bytes};
+ghost use Rattle.std.specs.Prelude.{◌≡◌, ◌≤◌, ◌++◌, [], IfErr, if◌then◌else◌, length, string_bytes};
 ghost use Rattle.toml_parser.specs.Lexical.{first};
 ghost use Rattle.toml_parser.specs.Reading.{key_view, path_view};
 ghost use Rattle.toml.specs.Parse.{ends_line, skip_bom};
@@ -182,12 +182,20 @@ fn expression(alloc: Global, s: &str) -> Result<((Key, Definition), &str), Fault
     }
 }
 
+/// Returns how many brackets a header begins with.
+fn bracket_count(s: &str) -> usize
+    requires { first s.now ≡ 91 }
+    ensures { result ≡ (if spec.is_doubled s.now then 2 else 1) }
+{
+    if byte_at(s, 1) == b'[' { 2 } else { 1 }
+}
+
 /// Reads a header.
 fn header(alloc: Global, s: &str) -> Result<((Key, Definition), &str), Fault>
     requires { first s.now ≡ 91 }
     ensures { ReadsExpected expression_view s.now (spec.expression s.now) (ExpressionTells s.now) result }
 {
-    let brackets = if byte_at(s, 1) == b'[' { 2 } else { 1 };
+    let brackets = bracket_count(s);
     let (key, rest) = match key_before(alloc, skip_ws(skip(s, brackets)), b']') {
         Ok(read) => read,
         Err(fault) => return Err(fault),
