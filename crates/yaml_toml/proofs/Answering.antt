@@ -1,18 +1,17 @@
 -- The answers of a writer's calls to the walk.
 use Rattle.yaml_toml.proofs.Common.{◌≡◌, ◌⊎◌, ◌∷◌, ◌++◌, [], List, Bool, Option, None, Some, Result, Ok, Err, IfErr, OnOk, inl, inr, refl, subst, sym, ◌∙◌}
 use Rattle.yaml_toml.proofs.Common.{ap, ap₂}
-use Rattle.yaml_toml.proofs.Common.{append-nil, append_assoc, Event, State, WriterState, GaveEvent, WroteEvent, IsBare, end_event, EndsInnermost}
+use Rattle.yaml_toml.proofs.Common.{append-nil, append_assoc, Event, WriterState, GaveEvent, WroteEvent, IsBare, end_event, EndsInnermost}
 use Rattle.yaml_toml.proofs.Common.{Text, Scalar, scalar, plain, is_none, is_some, ◌||◌}
 use Rattle.yaml_writer.proofs.GivenLemmas.{none_more, on_ok, same_last, text_is, wrote_event}
 use Rattle.yaml_writer.proofs.OpenLevels.{gave_end, gave_event, gave_events_then}
-use Rattle.yaml_writer.specs.WasGiven.{GaveEvents, levels_after_event}
 use Rattle.yaml_writer.specs.Failing.{HasErrorSaid}
 use Rattle.yaml_writer.proofs.Taken.{gives_ok, gives_err}
 use Rattle.std.specs.Str.{chars}
 use Rattle.toml_datetime.specs.Text.{datetime_text}
 use Rattle.toml_datetime.specs.declared.datetime.Datetime.{Datetime}
 use Rattle.toml_ordered.specs.Data.{TomlNode}
-use Rattle.yaml_pen.{proofs.Composing.grows_itself, proofs.Composing.grows_then, proofs.Writing.none_from_result, specs.Wrote.Grows}
+use Rattle.yaml_pen.{proofs.Composing.grows_itself, proofs.Composing.grows_then, proofs.Writing.none_from_result}
 use Rattle.yaml_emitter.proofs.Common.{some_from_result}
 use Rattle.yaml_base.specs.declared.errors.{yaml_error_t.yaml_error_t, yaml_error_t.TheVariants.Memory}
 use Rattle.yaml_base.specs.declared.kinds.CollectionKind.{CollectionKind}
@@ -29,31 +28,23 @@ use Rattle.yaml_toml.specs.declared.walk.Stop.{Stop}
 unchanged : (before : WriterState) → HasErrorSaid before (Some Memory) before
 unchanged before = inl (refl, λ none. none)
 
--- a call that gives an event
-module _ (before after first : WriterState) (same : first.emitter ≡ before.emitter) (form : first.canonical ≡ before.canonical) (event stated : Event)
-    (levels : first.levels ≡ levels_after_event stated before.levels) (is : event ≡ stated) where
-  gave_stated : (answer : Result (Unit {0}) yaml_error_t) → GaveEvent first event answer after → GaveEvents before (stated ∷ []) after
-  gave_stated answer gave =
-      gave_event before first after stated answer same form levels (subst (λ (e : Event). GaveEvent first e answer after) is gave)
-
-  pub answers_event : (answer : Result (Unit {0}) yaml_error_t) → OnOk answer (GaveEvent first event (Ok tt) after)
-      → IfErr answer (λ error. GaveEvent first event (Err error) after ⊎ ((error ≡ Memory) × (after ≡ before))) → Answers before stated answer after
-  answers_event (Ok done) gave failed =
-      record {
-        grows = subst (λ (s : State). Grows s.page after.emitter.page) same gave.emits.grows;
-        sound = none_from_result after.emitter.error gave.emits.answered;
-        failed = tt;
-      }
-  answers_event (Err error) gave (inl given) =
-      let error_is = some_from_result after.emitter.error error given.emits.answered in
-      record {
-        grows = subst (λ (s : State). Grows s.page after.emitter.page) same given.emits.grows;
-        sound = inr error_is;
-        failed = inr (record { gave = gave_stated (Err error) given; is_error = inr error_is });
-      }
-  answers_event (Err error) gave (inr memory) =
-      subst (λ (now : WriterState). Answers before stated (Err error) now) (sym memory.1)
-      (record { grows = grows_itself before.emitter.page; sound = inl (memory.0, λ none. none); failed = inl (memory.0, refl) })
+-- a call that gives the event of a scalar
+answers_event : (before after : WriterState) (event : Event) (content : Scalar) → event ≡ scalar content → (answer : Result (Unit {0}) yaml_error_t)
+    → OnOk answer (GaveEvent before event (Ok tt) after)
+    → IfErr answer (λ error. GaveEvent before event (Err error) after ⊎ ((error ≡ Memory) × (after ≡ before))) → Answers before (scalar content) answer after
+answers_event before after event content is (Ok done) gave failed =
+    record { grows = gave.emits.grows; sound = none_from_result after.emitter.error gave.emits.answered; failed = tt }
+answers_event before after event content is (Err error) gave (inl given) =
+    let error_is = some_from_result after.emitter.error error given.emits.answered in
+    let same = subst (λ (e : Event). GaveEvent before e (Err error) after) is given in
+    record {
+      grows = given.emits.grows;
+      sound = inr error_is;
+      failed = inr (record { gave = gave_event before before after (scalar content) (Err error) refl refl refl same; is_error = inr error_is });
+    }
+answers_event before after event content is (Err error) gave (inr memory) =
+    subst (λ (now : WriterState). Answers before (scalar content) (Err error) now) (sym memory.1)
+    (record { grows = grows_itself before.emitter.page; sound = inl (memory.0, λ none. none); failed = inl (memory.0, refl) })
 
 -- a call that ends a collection, which is open
 pub answers_end : (before after : WriterState) (answer : Result (Unit {0}) yaml_error_t) (outer : List CollectionKind) (kind : CollectionKind)
@@ -168,27 +159,26 @@ on_both P Q (Err error) one other = tt
 
 -- ---- scalars
 
--- a call that gives the event of a scalar
-pub gives_scalar : (before after : WriterState) (event : Event) (content : Scalar) (answer : Result (Unit {0}) yaml_error_t) → event ≡ scalar content
-    → Gives before event answer after → GivesScalar before content answer after
-gives_scalar before after event content answer is gives =
-    let gave = gives_ok before after event answer gives in
-    record {
-      written = on_ok answer (wrote_event before after event (scalar content) is) gave;
-      kept = answers_event before after before refl refl event (scalar content) refl is answer gave (gives_err before after event answer gives);
-    }
+module _ {before after : WriterState} {answer : Result (Unit {0}) yaml_error_t} (content : Scalar) where
+  -- a call that gives the event of a scalar
+  pub gives_scalar : {event : Event} → event ≡ scalar content → Gives before event answer after → GivesScalar before content answer after
+  gives_scalar {event} is gives =
+      let gave = gives_ok before after event answer gives in
+      record {
+        written = on_ok answer (wrote_event before after event (scalar content) is) gave;
+        kept = answers_event before after event content is answer gave (gives_err before after event answer gives);
+      }
 
--- or for which there was no memory
+  -- the value that it is
+  pub wrote_scalar : {x : TomlNode} (y : TomlNode) → x ≡ y → ((in_flow : Bool) → scalar content ∷ [] ≡ toml_events before.canonical in_flow y)
+      → 1 ≡ node_size y → 0 ≡ toml_nesting y → OnOk answer (HasNumbers y) → GivesScalar before content answer after → WroteScalar x before answer after
+  wrote_scalar y seen events size nesting numbers gives =
+      subst (λ (z : TomlNode). WroteScalar z before answer after) (sym seen)
+      (record { content = content; events = events; size = size; nesting = nesting; numbers = numbers; gives = gives })
+
+-- a call for which there was no memory
 pub scalar_memory : (before : WriterState) (content : Scalar) → GivesScalar before content (Err Memory) before
 scalar_memory before content = record {
   written = tt;
   kept = record { grows = grows_itself before.emitter.page; sound = unchanged before; failed = inl (refl, refl) };
 }
-
--- the value that it is
-pub wrote_scalar : (before after : WriterState) (x y : TomlNode) (content : Scalar) (answer : Result (Unit {0}) yaml_error_t) → x ≡ y
-    → ((in_flow : Bool) → scalar content ∷ [] ≡ toml_events before.canonical in_flow y) → 1 ≡ node_size y → 0 ≡ toml_nesting y
-    → OnOk answer (HasNumbers y) → GivesScalar before content answer after → WroteScalar x before answer after
-wrote_scalar before after x y content answer seen events size nesting numbers gives =
-    subst (λ (z : TomlNode). WroteScalar z before answer after) (sym seen)
-    (record { content = content; events = events; size = size; nesting = nesting; numbers = numbers; gives = gives })

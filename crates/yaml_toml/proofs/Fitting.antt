@@ -1,8 +1,9 @@
 -- The rests fit the allowed depth, as collections are begun and go on.
-use Rattle.yaml_toml.proofs.Common.{◌≡◌, ℕ, suc, ◌+◌, ◌-◌, ◌<◌, ◌≤◌, arith, ◌∷◌, ◌++◌, [], List, Option, None, Some, Result, Ok, Err, IfSome, refl, ap, subst}
+use Rattle.yaml_toml.proofs.Common.{◌≡◌, ℕ, suc, ◌+◌, ◌-◌, ◌<◌, ◌≤◌, arith, ◌∷◌, ◌++◌, [], List, Some, Result, Ok, Err, IfSome, refl, ap, subst}
 use Rattle.yaml_toml.proofs.Common.{sym, ◌∙◌, length, length-append, cases_lt, inl, inr}
 use Rattle.std.specs.Prelude.{◌↔◌, max}
-use Rattle.yaml_base.specs.declared.errors.{yaml_error_t.yaml_error_t}
+use Rattle.std.proofs.lemmas.Option.{none-some}
+use Rattle.yaml_base.specs.declared.errors.{yaml_error_t.yaml_error_t, yaml_error_t.TheVariants.Memory}
 use Rattle.toml_ordered.specs.Data.{TomlNodes}
 use Rattle.toml_ordered.specs.Grammar.{ordered_document}
 use Rattle.toml_ordered.specs.Places.{place_left}
@@ -116,30 +117,26 @@ module _ (depth : ℕ) (root : TomlNodes) where
 
 -- ---- the statements of errors
 
-abbrev IsNothing : Option yaml_error_t → Type 0
-IsNothing None = Unit {0}
-IsNothing (Some error) = ⊥
-
 module _ (depth : ℕ) (text : List ℕ) where
   -- a document was read, and the walk over it stopped
   pub stop_explained : (root : TomlNodes) (stopped : Stop) (error : TomlError) → ordered_document text ≡ Some root
       → toml_writers_error error ≡ stop_error stopped
       → NestsAfter depth root (Err stopped) → ExplainsDepth depth text error
   stop_explained root stop.TooDeep errors.TooDeep read is nests = record { root = root; read = read; deeper = nests }
-  stop_explained root (stop.Failed failure) errors.TooDeep read is nests = absurd (subst IsNothing is tt)
-  stop_explained root stopped (errors.NotToml line column) read is nests = tt
-  stop_explained root stopped (errors.TooDeepToRead line column) read is nests = tt
-  stop_explained root stopped (errors.DefinedAgain key first_line first_column line column) read is nests = tt
+  stop_explained root (stop.Failed failure) errors.TooDeep read is nests = absurd (none-some failure is)
+  stop_explained root stopped (errors.NotToml position) read is nests = tt
+  stop_explained root stopped (errors.TooDeepToRead position) read is nests = tt
+  stop_explained root stopped (errors.DefinedAgain key first position) read is nests = tt
   stop_explained root stopped (errors.Emitter failure) read is nests = tt
 
   -- none was read
   pub fault_explained : (found : Fault) (error : TomlError) → toml_writers_error error ≡ fault_error found
       → IfSome (place_left found) (λ left. IsBeforeLeft text left error) → ExplainsDepth depth text error
-  fault_explained fault.Memory errors.TooDeep is at = absurd (subst IsNothing is tt)
+  fault_explained fault.Memory errors.TooDeep is at = absurd (none-some Memory is)
   fault_explained (fault.NotToml left) errors.TooDeep is at = absurd at
   fault_explained (fault.TooDeep left) errors.TooDeep is at = absurd at
   fault_explained (fault.DefinedAgain key first second) errors.TooDeep is at = absurd at
-  fault_explained found (errors.NotToml line column) is at = tt
-  fault_explained found (errors.TooDeepToRead line column) is at = tt
-  fault_explained found (errors.DefinedAgain key first_line first_column line column) is at = tt
+  fault_explained found (errors.NotToml position) is at = tt
+  fault_explained found (errors.TooDeepToRead position) is at = tt
+  fault_explained found (errors.DefinedAgain key first position) is at = tt
   fault_explained found (errors.Emitter failure) is at = tt

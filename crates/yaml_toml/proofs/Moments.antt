@@ -1,20 +1,21 @@
 -- The moments of dates of TOML, and dates by the core schema.
 use Rattle.yaml_toml.proofs.Common.{ℕ, ◌==◌, Option, None, Some, codes, Bool, false, not, true, ◌&&◌, ◌||◌, [], ◌++◌, ◌∷◌, refl, ◌≡◌, arith, ap, subst}
-use Rattle.yaml_toml.proofs.Common.{and_parts, and_from, false≢true, cond, list_all, option_and_then, Text, are_digits, resolved_by_core, if◌then◌else◌}
+use Rattle.yaml_toml.proofs.Common.{and_parts, and_from, false≢true, list_all, option_and_then, Text, are_digits, resolved_by_core, if◌then◌else◌}
 use Rattle.yaml_base.proofs.Common.{is_decimal, is_point, is_exponent_letter, past_sign, first_reading, core_integer, core_based, core_decimal, Resolved}
 use Rattle.yaml_base.proofs.Common.{meant_text, slice_split, or_from, nat_tests}
 use Rattle.yaml_base.proofs.NumberCuts.{digit_unlike, no_word_of_core}
 use Rattle.yaml_base.specs.values.Resolved.{some_if}
-use Rattle.std.proofs.lemmas.Option.{cond_some}
+use Rattle.std.proofs.lemmas.Option.{cond_some, none-some, option_and_then_some, same_Some}
+use Rattle.toml_ordered.proofs.Options.{option_map_some}
 use Rattle.std.proofs.lemmas.List.{Splits.slice_split_none, Sums.AllPass-from_list_all}
 use Rattle.std.specs.List.{All}
 use Rattle.std.proofs.Common.{get_or}
-use Rattle.std.specs.Prelude.{◌+◌, ◌/◌, ◌%◌, nat_lt, nat_le, ℤ, unwrap_or, option_map}
+use Rattle.std.specs.Prelude.{◌+◌, ◌/◌, ◌%◌, nat_lt, nat_le, ℤ, unwrap_or}
 use Rattle.yaml_writer.specs.Dates.{CalendarDate, calendar_date, date_text, is_calendar_date, two_digits}
 use Rattle.yaml_writer.specs.Times.{ClockOffset, ClockTime, Moment, clock_time, is_clock_reading, is_clock_time, is_zone_offset, is_moment}
 use Rattle.yaml_writer.proofs.DateLemmas.{DateSays, date_says, date_passes, behind_first, first_digit}
 use Rattle.toml_datetime.specs.Valid.{magnitude}
-use Rattle.toml_datetime.specs.declared.datetime.{Date.Date, Time.Time, Offset.Offset, Datetime.Datetime}
+use Rattle.toml_datetime.specs.declared.datetime.{Time.Time, Offset.Offset, Datetime.Datetime}
 use Rattle.toml_datetime.specs.declared.datetime.Offset.TheVariants.{Z, Custom}
 use Rattle.yaml_writer.specs.TomlDates.{date_of, is_west, offset_of, time_by, time_of, moment_by, moment_of}
 
@@ -96,12 +97,6 @@ module _ (date : CalendarDate) (valid : is_calendar_date date ≡ true) where
 
 -- ---- moments
 
-some_is : {A : Type 0} (x : A) (y : A) → Some x ≡ Some y → x ≡ y
-some_is x y e = ap (λ o. unwrap_or o x) e
-
-no_some : {A : Type 0} {x : A} → None ≡ Some x → ⊥
-no_some e = cc
-
 valid_offset : (minutes : ℤ) (offset : ClockOffset) → offset_of minutes ≡ Some offset → is_zone_offset (Some offset) ≡ true
 valid_offset minutes offset e =
     let both = cond_some (nat_lt (magnitude minutes) 1440)
@@ -121,37 +116,23 @@ valid_time_by time offset clock zone e =
 
 valid_time : (time : Time) (offset : Offset) (clock : ClockTime) → time_of time offset ≡ Some clock → is_clock_time clock ≡ true
 valid_time time Z clock e = valid_time_by time None clock refl e
-valid_time time (Custom minutes) clock e = by (offset_of minutes) refl e
-  where
-    by : (o : Option ClockOffset) → offset_of minutes ≡ o → option_and_then (λ offset. time_by time (Some offset)) o ≡ Some clock → is_clock_time clock ≡ true
-    by None is e = absurd (no_some e)
-    by (Some offset) is e = valid_time_by time (Some offset) clock (valid_offset minutes offset is) e
+valid_time time (Custom minutes) clock e =
+    option_and_then_some (λ offset. time_by time (Some offset)) (offset_of minutes) clock e λ offset is timed.
+    valid_time_by time (Some offset) clock (valid_offset minutes offset is) timed
 
 valid_by : (date : CalendarDate) (time : Option Time) (offset : Option Offset) (moment : Moment) → is_calendar_date date ≡ true
     → moment_by date time offset ≡ Some moment → is_moment moment ≡ true
 valid_by date None None moment valid e =
-    subst (λ (m : Moment). is_moment m ≡ true) (some_is (record { date = date; time = None }) moment e) (and_from (is_calendar_date date) true valid refl)
-valid_by date None (Some offset) moment valid e = absurd (no_some e)
-valid_by date (Some time) None moment valid e = absurd (no_some e)
-valid_by date (Some time) (Some offset) moment valid e = by (time_of time offset) refl e
-  where
-    by : (o : Option ClockTime) → time_of time offset ≡ o
-        → option_map (λ clock. record { date = date; time = Some clock }) o ≡ Some moment → is_moment moment ≡ true
-    by None is e = absurd (no_some e)
-    by (Some clock) is e =
-        subst (λ (m : Moment). is_moment m ≡ true) (some_is (record { date = date; time = Some clock }) moment e)
-        (and_from (is_calendar_date date) (is_clock_time clock) valid (valid_time time offset clock is))
-
-valid_dated : (date : Option Date) (time : Option Time) (offset : Option Offset) (moment : Moment)
-    → option_and_then (λ day. moment_by day time offset) (option_and_then date_of date) ≡ Some moment → is_moment moment ≡ true
-valid_dated None time offset moment e = absurd (no_some e)
-valid_dated (Some date) time offset moment e = by (is_calendar_date (calendar_date date.year date.month date.day)) refl e
-  where
-    by : (b : Bool) → is_calendar_date (calendar_date date.year date.month date.day) ≡ b
-        → option_and_then (λ day. moment_by day time offset) (cond b (Some (calendar_date date.year date.month date.day)) None) ≡ Some moment
-        → is_moment moment ≡ true
-    by true is e = valid_by (calendar_date date.year date.month date.day) time offset moment is e
-    by false is e = absurd (no_some e)
+    subst (λ (m : Moment). is_moment m ≡ true) (same_Some (record { date = date; time = None }) moment e) (and_from (is_calendar_date date) true valid refl)
+valid_by date None (Some offset) moment valid e = absurd (none-some moment e)
+valid_by date (Some time) None moment valid e = absurd (none-some moment e)
+valid_by date (Some time) (Some offset) moment valid e =
+    option_map_some {B = Moment} (λ clock. record { date = date; time = Some clock }) (time_of time offset) moment e λ clock is same.
+    subst (λ (m : Moment). is_moment m ≡ true) same (and_from (is_calendar_date date) (is_clock_time clock) valid (valid_time time offset clock is))
 
 pub valid_moment : (d : Datetime) (moment : Moment) → moment_of d ≡ Some moment → is_moment moment ≡ true
-valid_moment d moment e = valid_dated d.date d.time d.offset moment e
+valid_moment d moment e =
+    option_and_then_some _ (option_and_then date_of d.date) moment e λ day dated timed.
+    option_and_then_some date_of d.date day dated λ date given made.
+    let both = cond_some (is_calendar_date (calendar_date date.year date.month date.day)) (calendar_date date.year date.month date.day) day made in
+    valid_by day d.time d.offset moment (subst (λ (c : CalendarDate). is_calendar_date c ≡ true) both.1 both.0) timed

@@ -9,6 +9,7 @@ use Rattle.std.specs.Float.{float_is_finite, binary64}
 use Rattle.std.specs.Float.Ieee.{inf, nan}
 use Rattle.std.specs.Float.Numeral.{nearest_float as nearest, numeral_digits as digits_of, scan_numeral as scan}
 use Rattle.std.proofs.lemmas.Bool.{and_parts, eqb-true, ltb-true, or_cases}
+use Rattle.std.proofs.lemmas.Option.{IfSome_then}
 use Rattle.toml_datetime.specs.Parse.{parse_datetime}
 use Rattle.toml_parser.specs.Lexical.{first}
 use Rattle.toml_parser.specs.Numbers.{decimal_number, float_of, integer_of, is_decimal, looks_like_datetime, number, plain_number, prefixed_integer, radix_of}
@@ -29,10 +30,6 @@ map_some f P (Some a) h = h
 all_some : {A : Type 0} (P : A → Type 0) (o : Option A) → ((a : A) → P a) → IfSome o P
 all_some P None each = tt
 all_some P (Some a) each = each a
-
-more_some : {A : Type 0} (P Q : A → Type 0) (o : Option A) → ((a : A) → P a → Q a) → IfSome o P → IfSome o Q
-more_some P Q None follows h = tt
-more_some P Q (Some a) follows h = follows a h
 
 cond_some : {A : Type 0} (P : A → Type 0) (b : Bool) (x y : Option A) → IfSome x P → IfSome y P → IfSome (cond b x y) P
 cond_some P true x y one other = one
@@ -132,8 +129,7 @@ number_numbers : (word : List ℕ) → IfSome (number word) (WordHasNumbers word
 unfolding number
 number_numbers word =
     cond_some (WordHasNumbers word) (underscores_fit (λ c. is_digit c (underscore_radix word)) 0 word) (plain_number (plain_word word)) None
-    (more_some (PlainHasNumbers (plain_word word)) (WordHasNumbers word) (plain_number (plain_word word)) (word_from_plain word)
-    (plain_numbers (plain_word word))) tt
+    (IfSome_then (plain_number (plain_word word)) (plain_numbers (plain_word word)) (word_from_plain word)) tt
 
 word_numbers : (word : List ℕ) → IfSome (word_value word) (WordHasNumbers word)
 unfolding word_value

@@ -120,11 +120,12 @@ module _ (most : ℕ) (in_flow : Bool) (was now : WriterState) where
         (length-append (kinds_of opened) (kind ∷ []) ∙ omega arith);
   }
 
-  -- the same events were due, by other words
-  pub steps_same : (due same : List Event) (before these : List CollectionKind) (numbers others : Type 0) (size limit : ℕ) (opened : List Rest)
-      → due ≡ same → before ≡ these → (numbers → others) → size ≤ limit → GaveSome most in_flow was due before numbers size now opened
+-- the same events were due, by other words
+module _ {most : ℕ} {in_flow : Bool} {was now : WriterState} {due same : List Event} {before these : List CollectionKind} {numbers others : Type 0}
+    {size limit : ℕ} {opened : List Rest} where
+  pub steps_same : due ≡ same → before ≡ these → (numbers → others) → size ≤ limit → GaveSome most in_flow was due before numbers size now opened
       → GaveSome most in_flow was same these others limit now opened
-  steps_same due same before these numbers others size limit opened is kinds follows within steps = record {
+  steps_same is kinds follows within steps = record {
     given = steps.given;
     moved = subst (λ (ks : List CollectionKind). Moved was steps.given ks (kinds_of opened) now) kinds steps.moved;
     parts = steps.parts ∙ is;
@@ -134,17 +135,18 @@ module _ (most : ℕ) (in_flow : Bool) (was now : WriterState) where
   }
 
 -- a scalar, and then steps
-pub steps_after : (most : ℕ) (in_flow : Bool) (was between now : WriterState) (content : Scalar) (due : List Event) (kinds : List CollectionKind)
-    (numbers : Type 0) (size : ℕ) (opened : List Rest) → WroteEvent was (scalar content) between
-    → GaveSome most in_flow between due kinds numbers size now opened → GaveSome most in_flow was (scalar content ∷ due) kinds numbers size now opened
-steps_after most in_flow was between now content due kinds numbers size opened wrote steps = record {
-  given = scalar content ∷ steps.given;
-  moved = moved_then was between now (scalar content ∷ []) steps.given kinds kinds (kinds_of opened) (moved_event was between content kinds wrote)
-      steps.moved;
-  parts =
-      ap (λ (events : List Event). scalar content ∷ events)
-      (ap (λ (canonical : Bool). steps.given ++ pending canonical in_flow opened) (sym wrote.canonical) ∙ steps.parts);
-  numbers_in = steps.numbers_in;
-  less = steps.less;
-  few = λ fits. (fits, steps.few fits);
-}
+module _ {most : ℕ} {in_flow : Bool} {was between now : WriterState} {content : Scalar} {due : List Event} {kinds : List CollectionKind}
+    {numbers : Type 0} {size : ℕ} {opened : List Rest} where
+  pub steps_after : WroteEvent was (scalar content) between → GaveSome most in_flow between due kinds numbers size now opened
+      → GaveSome most in_flow was (scalar content ∷ due) kinds numbers size now opened
+  steps_after wrote steps = record {
+    given = scalar content ∷ steps.given;
+    moved = moved_then was between now (scalar content ∷ []) steps.given kinds kinds (kinds_of opened) (moved_event was between content kinds wrote)
+        steps.moved;
+    parts =
+        ap (λ (events : List Event). scalar content ∷ events)
+        (ap (λ (canonical : Bool). steps.given ++ pending canonical in_flow opened) (sym wrote.canonical) ∙ steps.parts);
+    numbers_in = steps.numbers_in;
+    less = steps.less;
+    few = λ fits. (fits, steps.few fits);
+  }

@@ -1,7 +1,8 @@
 -- The statements of an error on the text and on the writer.
-use Rattle.yaml_toml.proofs.Common.{◌≡◌, List, ℕ, Option, None, Some, refl, ap, subst, sym, ◌∙◌, WriterState, inl}
+use Rattle.yaml_toml.proofs.Common.{◌≡◌, List, ℕ, Option, None, refl, ap, subst, sym, ◌∙◌, WriterState, inl}
 use Rattle.yaml_base.specs.declared.errors.{yaml_error_t.yaml_error_t, yaml_error_t.TheVariants.Memory}
 use Rattle.yaml_writer.specs.Failing.{HasErrorSaid}
+use Rattle.std.proofs.lemmas.Option.{none-some}
 use Rattle.std.specs.Prelude.{IfSome}
 use Rattle.toml_ordered.specs.Places.{FaultIsPlaced, place_left}
 use Rattle.toml_ordered.specs.Reading.{IsMemory}
@@ -12,11 +13,8 @@ use Rattle.yaml_toml.specs.Places.{HasTomlPlace, IsBeforeLeft}
 use Rattle.yaml_toml.specs.declared.error.TomlError.{TomlError}
 use Rattle.yaml_toml.specs.declared.error.TomlError.TheVariants as errors
 
-said_memory : (was : WriterState) → HasErrorSaid was (Some Memory) was
-said_memory was = inl (refl, λ none. none)
-
 said_fault : (was : WriterState) (found : Fault) → HasErrorSaid was (fault_error found) was
-said_fault was fault.Memory = said_memory was
+said_fault was fault.Memory = inl (refl, λ none. none)
 said_fault was (fault.NotToml left) = λ none. none
 said_fault was (fault.TooDeep left) = λ none. none
 said_fault was (fault.DefinedAgain key first second) = λ none. none
@@ -27,19 +25,15 @@ pub said_of : (was : WriterState) (found : Fault) (error : TomlError) → toml_w
 said_of was found error is = subst (λ (said : Option yaml_error_t). HasErrorSaid was said was) (sym is) (said_fault was found)
 
 writers_none : (error : TomlError) → DeniesToml error → toml_writers_error error ≡ None
-writers_none (errors.NotToml line column) denies = refl
-writers_none (errors.TooDeepToRead line column) denies = refl
-writers_none (errors.DefinedAgain key first_line first_column line column) denies = refl
+writers_none (errors.NotToml position) denies = refl
+writers_none (errors.TooDeepToRead position) denies = refl
+writers_none (errors.DefinedAgain key first position) denies = refl
 writers_none errors.TooDeep denies = absurd denies
 writers_none (errors.Emitter error) denies = absurd denies
 
-abbrev IsNothing : Option yaml_error_t → Type 0
-IsNothing None = Unit {0}
-IsNothing (Some error) = ⊥
-
 -- an error that denies the text isn't of memory
 pub denied : (found : Fault) (error : TomlError) → toml_writers_error error ≡ fault_error found → DeniesToml error → IsMemory found → ⊥
-denied found error is denies memory = subst IsNothing (sym (writers_none error denies) ∙ is ∙ ap fault_error memory) tt
+denied found error is denies memory = none-some Memory (sym (writers_none error denies) ∙ is ∙ ap fault_error memory)
 
 -- an error of the text has the place of its fault
 pub placed_of : (text : List ℕ) (found : Fault) (error : TomlError) → toml_writers_error error ≡ fault_error found → FaultIsPlaced text found

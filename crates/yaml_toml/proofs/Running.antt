@@ -15,7 +15,7 @@ use Rattle.yaml_toml.specs.OpenCounts.{OpensAtMost, count_after}
 use Rattle.yaml_toml.specs.Walk.{Moved, GaveSome, StepsStop, KeptAfterStop, KeysHaveNumbers, PendingHaveNumbers, RestHasNumbers, kinds_of, rest_kind}
 use Rattle.yaml_toml.specs.Walk.{pending, rest_events, HasInnermost}
 use Rattle.yaml_toml.specs.WalkSteps.{RootStopped, StepGiven, StepStopped, value_due, walk_at}
-use Rattle.yaml_toml.specs.declared.settings.TomlSettings.{TomlSettings}
+use Rattle.yaml_writer.specs.declared.settings.ValueSettings.{ValueSettings}
 use Rattle.yaml_toml.specs.declared.walk.Rest.{Rest}
 use Rattle.yaml_toml.specs.declared.walk.Stop.{Stop}
 use Rattle.yaml_toml.proofs.Answering.{moved_then, kept_then}
@@ -69,14 +69,15 @@ pub record Running (most : ℕ) (in_flow : Bool) (start : WriterState) (all : Li
   pub few : OpensAtMost most 0 given (length (kinds_of opened))
 
 -- the given events leave these collections open, within those that were
-pub so_given : (most : ℕ) (in_flow : Bool) (start now : WriterState) (all : List Event) (numbers : Type 0) (opened : List Rest)
-    → (so : Running most in_flow start all numbers now opened) → GivenLeaving start so.given (start.levels ++ kinds_of opened) now
-so_given most in_flow start now all numbers opened so =
-    let moved = so.moved start.levels (sym (append-nil start.levels)) in
-    leaves_same start now so.given (levels_after so.given start.levels) (start.levels ++ kinds_of opened) (sym moved.0.levels ∙ moved.1) moved.0
+module _ {most : ℕ} {in_flow : Bool} {start now : WriterState} {all : List Event} {numbers : Type 0} {opened : List Rest}
+    (so : Running most in_flow start all numbers now opened) where
+  pub so_given : GivenLeaving start so.given (start.levels ++ kinds_of opened) now
+  so_given =
+      let moved = so.moved start.levels (sym (append-nil start.levels)) in
+      leaves_same start now so.given (levels_after so.given start.levels) (start.levels ++ kinds_of opened) (sym moved.0.levels ∙ moved.1) moved.0
 
 -- its root table was begun
-module _ (settings : TomlSettings) (start now : WriterState) (root : TomlNodes) (after : List Rest) where
+module _ (settings : ValueSettings) (start now : WriterState) (root : TomlNodes) (after : List Rest) where
   abbrev pub root_due : List Event
   root_due = toml_events start.canonical settings.flow (table Header root)
 
@@ -111,10 +112,10 @@ module _ (settings : TomlSettings) (start now : WriterState) (root : TomlNodes) 
         kept = step.kept;
       }
 
-module _ (most : ℕ) (in_flow : Bool) (start between now : WriterState) (all : List Event) (numbers : Type 0) (left after : List Rest) (r : Rest)
+module _ {most : ℕ} {in_flow : Bool} {start between : WriterState} {all : List Event} {numbers : Type 0} (left : List Rest) (r : Rest)
     (so : Running most in_flow start all numbers between (left ++ r ∷ [])) where
   so_far : GivenLeaving start so.given (start.levels ++ kinds_of (left ++ r ∷ [])) between
-  so_far = so_given most in_flow start between all numbers (left ++ r ∷ []) so
+  so_far = so_given so
 
   same : between.canonical ≡ start.canonical
   same = so_far.canonical
@@ -127,11 +128,15 @@ module _ (most : ℕ) (in_flow : Bool) (start between now : WriterState) (all : 
   so_few : OpensAtMost most 0 so.given (length (kinds_of left ++ rest_kind r ∷ []))
   so_few = subst (λ (ks : List CollectionKind). OpensAtMost most 0 so.given (length ks)) (kinds-push left r) so.few
 
+  -- the innermost is of its kind
+  pub innermost : HasInnermost between (kinds_of left) (rest_kind r)
+  innermost =
+      (start.levels, so_far.levels ∙ ap (λ (ks : List CollectionKind). start.levels ++ ks) (kinds-push left r))
+
   -- the walk stopped
-  pub runs_stopped : StepsStop most between (rest_events between.canonical in_flow r ++ pending between.canonical in_flow left)
-      (kinds_of left ++ rest_kind r ∷ [])
-      now → GaveFirst most all start now
-  runs_stopped stop =
+  pub runs_stopped : (now : WriterState) → StepsStop most between (rest_events between.canonical in_flow r ++ pending between.canonical in_flow left)
+      (kinds_of left ++ rest_kind r ∷ []) now → GaveFirst most all start now
+  runs_stopped now stop =
       let few = stop.few (opens_fit most 0 (length (kinds_of left ++ rest_kind r ∷ [])) so.given so_few) in
       record {
         given = so.given ++ stop.given;
@@ -145,10 +150,10 @@ module _ (most : ℕ) (in_flow : Bool) (start between now : WriterState) (all : 
         gave = gave_events_then start between now so.given stop.given (so.moved start.levels (sym (append-nil start.levels))).0 (stop.gave so_far.bare);
       }
 
-  pub runs_on : (size : ℕ)
+  pub runs_on : (now : WriterState) (after : List Rest) (size : ℕ)
       → GaveSome most in_flow between (rest_events between.canonical in_flow r ++ pending between.canonical in_flow left) (kinds_of left ++ rest_kind r ∷ [])
       (RestHasNumbers r × PendingHaveNumbers left) size now after → KeptAfterStop between (Ok tt) now → Running most in_flow start all numbers now after
-  runs_on size steps kept = record {
+  runs_on now after size steps kept = record {
     given = so.given ++ steps.given;
     moved = moved_then start between now so.given steps.given [] (kinds_of (left ++ r ∷ [])) (kinds_of after) so.moved
         (subst (λ (ks : List CollectionKind). Moved between steps.given ks (kinds_of after) now) (sym (kinds-push left r)) steps.moved);
@@ -162,14 +167,9 @@ module _ (most : ℕ) (in_flow : Bool) (start between now : WriterState) (all : 
         (steps.few (opens_fit most 0 (length (kinds_of left ++ rest_kind r ∷ [])) so.given so_few));
   }
 
-  -- the innermost is of its kind
-  pub innermost : HasInnermost between (kinds_of left) (rest_kind r)
-  innermost =
-      (start.levels, so_far.levels ∙ ap (λ (ks : List CollectionKind). start.levels ++ ks) (kinds-push left r))
-
 -- nothing is left
-pub runs_out : (most : ℕ) (in_flow : Bool) (start now : WriterState) (all : List Event) (numbers : Type 0) → Running most in_flow start all numbers now []
-    → WasGiven start all now
-runs_out most in_flow start now all numbers so =
-    subst (λ (events : List Event). WasGiven start events now) (sym (append-nil so.given) ∙ so.parts)
-    (leaves_same start now so.given (start.levels ++ []) start.levels (append-nil start.levels) (so_given most in_flow start now all numbers [] so))
+module _ {most : ℕ} {in_flow : Bool} {start now : WriterState} {all : List Event} {numbers : Type 0} where
+  pub runs_out : Running most in_flow start all numbers now [] → WasGiven start all now
+  runs_out so =
+      subst (λ (events : List Event). WasGiven start events now) (sym (append-nil so.given) ∙ so.parts)
+      (leaves_same start now so.given (start.levels ++ []) start.levels (append-nil start.levels) (so_given so))

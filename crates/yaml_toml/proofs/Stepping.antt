@@ -16,7 +16,7 @@ use Rattle.yaml_toml.specs.Walk.{Answers, GaveSome, HasNumbers, IsOwnMemory, IsS
 use Rattle.yaml_toml.specs.Walk.{pending_size, rest_events, rest_kind, rest_size}
 use Rattle.yaml_toml.specs.WalkSteps.{Due, DueFits, DueHasNumbers, TomlStep, all_due, collection_due, due_size, events_due, kinds_around, rest_due, value_due}
 use Rattle.yaml_toml.specs.WalkSteps.{WroteScalar, value_of_rest, walk_at}
-use Rattle.yaml_toml.specs.declared.settings.TomlSettings.{TomlSettings}
+use Rattle.yaml_writer.specs.declared.settings.ValueSettings.{ValueSettings}
 use Rattle.yaml_toml.specs.declared.walk.Rest.{Rest}
 use Rattle.yaml_toml.specs.declared.walk.Rest.TheVariants as rest
 use Rattle.yaml_toml.specs.declared.walk.Stop.{Stop}
@@ -59,29 +59,6 @@ due_next ahead depth canonical in_flow x r whole opened kept is kind events numb
       fits = fits_next depth opened kept r is (toml_nesting x) (rest_nesting whole) nesting;
     }
 
--- the last table of an array, after which nothing is left
-pub due_last : (depth : ℕ) (canonical in_flow : Bool) (r empty whole : Rest) (opened kept : List Rest) → kept ≡ opened ++ empty ∷ []
-    → rest_kind empty ≡ rest_kind whole
-    → start_event in_flow (rest_kind r) ∷ (rest_events canonical in_flow r ++ rest_events canonical in_flow empty) ≡ rest_events canonical in_flow whole
-    → (RestHasNumbers r → RestHasNumbers whole) → 1 + rest_size r + rest_size empty ≤ rest_size whole
-    → max (suc (rest_nesting r)) (rest_nesting empty) ≡ rest_nesting whole
-    → SameDue [] depth canonical in_flow (collection_due r) kept (rest_due whole) opened
-due_last depth canonical in_flow r empty whole opened kept is kind events numbers size nesting =
-    let begins = start_event in_flow (rest_kind r) in
-    let given = rest_events canonical in_flow r in
-    let rest = pending canonical in_flow opened in
-    record {
-      events =
-          ap (λ (all : List Rest). begins ∷ (given ++ pending canonical in_flow all)) is
-          ∙ ap (λ (es : List Event). begins ∷ (given ++ es)) (pending-push canonical in_flow opened empty)
-          ∙ ap (λ (es : List Event). begins ∷ es) (sym (append_assoc given (rest_events canonical in_flow empty) rest))
-          ∙ ap (λ (es : List Event). es ++ rest) events;
-      kinds = ap kinds_of is ∙ kinds-push opened empty ∙ ap (λ (kind : CollectionKind). kinds_of opened ++ kind ∷ []) kind;
-      numbers = λ have. (numbers have.0, (numbers-push opened empty (subst PendingHaveNumbers is have.1)).1);
-      size = omega (arith, ap pending_size is, size-push opened empty, size);
-      fits = fits_next depth opened kept empty is (suc (rest_nesting r)) (rest_nesting whole) nesting;
-    }
-
 due_begun : (depth : ℕ) (canonical in_flow : Bool) (origin : Origin) (r : Rest) (opened : List Rest)
     → SameDue [] depth canonical in_flow (collection_due r) opened (value_due (value_of_rest origin r)) opened
 due_begun depth canonical in_flow origin (rest.Items items) opened =
@@ -91,7 +68,7 @@ due_begun depth canonical in_flow origin (rest.Tables done last) opened =
 due_begun depth canonical in_flow origin (rest.Members keys) opened =
     record { events = refl; kinds = refl; numbers = λ have. have; size = omega arith; fits = (λ fits. fits, λ fits. fits) }
 
-module _ (settings : TomlSettings) (was : WriterState) where
+module _ (settings : ValueSettings) (was : WriterState) where
   -- ---- before the writer was called
 
   -- an allocation of the call's own failed
@@ -99,7 +76,7 @@ module _ (settings : TomlSettings) (was : WriterState) where
       → TomlStep settings due (walk_at was opened) (Err stopped) (walk_at was after)
   step_memory due opened after stopped is = record {
     nests = fits_memory settings.depth (DueFits settings.depth due opened) stopped after is;
-    stopped = halts_at_once settings.depth was (all_due settings.flow due (walk_at was opened)) (kinds_around due opened);
+    stopped = halts_at_once was;
     kept = kept_memory was stopped is;
   }
 
@@ -114,9 +91,7 @@ module _ (settings : TomlSettings) (was : WriterState) where
         → TomlStep settings due (walk_at was opened) (Err stopped) (walk_at now after)
     step_failed due opened after event more answer stopped events room is answers = record {
       nests = fits_failed settings.depth (DueFits settings.depth due opened) answer stopped after is;
-      stopped = halts_same settings.depth was now (event ∷ more) (all_due settings.flow due (walk_at was opened)) (kinds_around due opened)
-          (kinds_around due opened) events refl
-          (halts_of settings.depth was now event more (kinds_around due opened) answer (Err stopped) room is answers);
+      stopped = halts_same events refl (halts_of event more (kinds_around due opened) answer (Err stopped) room is answers);
       kept = kept_of was now answer (Err stopped) is answers;
     }
 
@@ -144,9 +119,7 @@ module _ (settings : TomlSettings) (was : WriterState) where
         step_by (value_due x) opened opened (scalar content) rest answer result parts (λ fits. fits)
         (subst (λ n. PendingFits settings.depth 0 opened ↔ NodeFits settings.depth n opened) wrote.nesting (fits_leaf settings.depth opened)) is
         wrote.gives.kept
-        (on_ok answer (λ have. steps_same settings.depth settings.flow was now (scalar content ∷ rest) (toml_events was.canonical settings.flow x ++ rest)
-        (kinds_of opened) (kinds_of opened) (HasNumbers x × PendingHaveNumbers opened) (HasNumbers x × PendingHaveNumbers opened) (1 + pending_size opened)
-        (node_size x + pending_size opened) opened parts refl (λ all. all) (omega (arith, wrote.size))
+        (on_ok answer (λ have. steps_same parts refl (λ all. all) (omega (arith, wrote.size))
         (steps_leaf settings.depth settings.flow was now content (HasNumbers x) opened have.0 have.1))
         (on_both (HasNumbers x) (WroteEvent was (scalar content) now) answer wrote.numbers wrote.gives.written))
 
@@ -187,9 +160,7 @@ module _ (settings : TomlSettings) (was : WriterState) where
         (λ fits. subst (λ n. n ≤ settings.depth) (sym (falls kind (length around))) (fewer_fit settings.depth (length around) fits))
         (subst (λ n. PendingFits settings.depth 0 opened ↔ RestFits settings.depth n opened) nesting
         (fits_end settings.depth opened)) is answers
-        (on_ok answer (λ ends. steps_same settings.depth settings.flow was now (end_event kind ∷ rest) (rest_events was.canonical settings.flow r ++ rest)
-        around around (RestHasNumbers r × PendingHaveNumbers opened) (RestHasNumbers r × PendingHaveNumbers opened) (1 + pending_size opened)
-        (rest_size r + pending_size opened) opened parts refl (λ all. all) (omega (arith, size))
+        (on_ok answer (λ ends. steps_same parts refl (λ all. all) (omega (arith, size))
         (steps_end settings.depth settings.flow was now (end_event kind) kind (RestHasNumbers r) opened have (λ n. falls kind (suc n)) ends)) moved)
 
     -- ---- a call of the walk
@@ -199,17 +170,13 @@ module _ (settings : TomlSettings) (was : WriterState) where
         → SameDue [] settings.depth was.canonical settings.flow part kept whole opened
         → TomlStep settings part (walk_at was kept) result (walk_at now after) → TomlStep settings whole (walk_at was opened) result (walk_at now after)
     step_same part whole kept opened after (Ok done) same step = record {
-      written = steps_same settings.depth settings.flow was now (all_due settings.flow part (walk_at was kept))
-          (all_due settings.flow whole (walk_at was opened)) (kinds_around part kept) (kinds_around whole opened)
-          (DueHasNumbers part × PendingHaveNumbers kept) (DueHasNumbers whole × PendingHaveNumbers opened)
-          (due_size part + pending_size kept) (due_size whole + pending_size opened) after same.events same.kinds same.numbers same.size step.written;
-      nests = fits_same settings.depth (DueFits settings.depth part kept) (DueFits settings.depth whole opened) (Ok done) after same.fits step.nests;
+      written = steps_same same.events same.kinds same.numbers same.size step.written;
+      nests = fits_same settings.depth _ _ (Ok done) after same.fits step.nests;
       kept = step.kept;
     }
     step_same part whole kept opened after (Err stopped) same step = record {
-      nests = fits_same settings.depth (DueFits settings.depth part kept) (DueFits settings.depth whole opened) (Err stopped) after same.fits step.nests;
-      stopped = halts_same settings.depth was now (all_due settings.flow part (walk_at was kept)) (all_due settings.flow whole (walk_at was opened))
-          (kinds_around part kept) (kinds_around whole opened) same.events same.kinds step.stopped;
+      nests = fits_same settings.depth _ _ (Err stopped) after same.fits step.nests;
+      stopped = halts_same same.events same.kinds step.stopped;
       kept = step.kept;
     }
 
@@ -233,25 +200,17 @@ module _ (settings : TomlSettings) (was : WriterState) where
         → IsStopOf answer (Ok tt) → OnOk answer (WroteEvent was (scalar content) between) → Answers was (scalar content) answer between
         → TomlStep settings part (walk_at between kept) result (walk_at now after) → TomlStep settings whole (walk_at was opened) result (walk_at now after)
     step_behind between content part whole kept opened after answer (Ok done) same is told answers step =
-        let due = all_due settings.flow part (walk_at between kept) in
         let wrote = ok_of (WroteEvent was (scalar content) between) answer (Ok tt) is told in
         record {
-          written = steps_same settings.depth settings.flow was now (scalar content ∷ due) (all_due settings.flow whole (walk_at was opened))
-              (kinds_around part kept) (kinds_around whole opened) (DueHasNumbers part × PendingHaveNumbers kept)
-              (DueHasNumbers whole × PendingHaveNumbers opened) (due_size part + pending_size kept) (due_size whole + pending_size opened) after
-              (same_events between content part kept wrote.canonical ∙ same.events) same.kinds same.numbers same.size
-              (steps_after settings.depth settings.flow was between now content due (kinds_around part kept) (DueHasNumbers part × PendingHaveNumbers kept)
-              (due_size part + pending_size kept) after wrote step.written);
-          nests = fits_same settings.depth (DueFits settings.depth part kept) (DueFits settings.depth whole opened) (Ok done) after same.fits step.nests;
+          written = steps_same (same_events between content part kept wrote.canonical ∙ same.events) same.kinds same.numbers same.size
+              (steps_after wrote step.written);
+          nests = fits_same settings.depth _ _ (Ok done) after same.fits step.nests;
           kept = kept_then was between now (Ok tt) (kept_of was between answer (Ok tt) is answers) step.kept;
         }
     step_behind between content part whole kept opened after answer (Err stopped) same is told answers step =
-        let due = all_due settings.flow part (walk_at between kept) in
         let wrote = ok_of (WroteEvent was (scalar content) between) answer (Ok tt) is told in
         record {
-          nests = fits_same settings.depth (DueFits settings.depth part kept) (DueFits settings.depth whole opened) (Err stopped) after same.fits step.nests;
-          stopped = halts_same settings.depth was now (scalar content ∷ due) (all_due settings.flow whole (walk_at was opened))
-              (kinds_around part kept) (kinds_around whole opened) (same_events between content part kept wrote.canonical ∙ same.events) same.kinds
-              (halts_after settings.depth was between now content due (kinds_around part kept) wrote step.stopped);
+          nests = fits_same settings.depth _ _ (Err stopped) after same.fits step.nests;
+          stopped = halts_same (same_events between content part kept wrote.canonical ∙ same.events) same.kinds (halts_after wrote step.stopped);
           kept = kept_then was between now (Err stopped) (kept_of was between answer (Ok tt) is answers) step.kept;
         }

@@ -1,7 +1,8 @@
 -- The reasons why a writer failed that was given the events of a document.
 use Rattle.yaml_toml.proofs.Common.{ℕ, ◌+◌, ◌≤◌, ◌<◌, Option, None, Some, Bool, true, List, [], ◌++◌, ◌∷◌, refl, ◌≡◌, append-nil, append_assoc, inl, inr, ap}
-use Rattle.yaml_toml.proofs.Common.{subst, sym, ◌∙◌, arith, cond, unwrap_or, IfSome, Event, IsPrefix, Settings, State, WriterState, most_open, list_all, Stream}
+use Rattle.yaml_toml.proofs.Common.{subst, sym, ◌∙◌, arith, cond, IfSome, Event, IsPrefix, Settings, State, WriterState, most_open, list_all, Stream}
 use Rattle.yaml_toml.proofs.Common.{is_sound, open_count, begins_collection, opening, closing, subst₂}
+use Rattle.std.proofs.lemmas.Option.{none-some, same_Some}
 use Rattle.yaml_base.proofs.Common.{stream_start, stream_events, sum_by-append, count_by, ends_collection}
 use Rattle.yaml_base.specs.declared.errors.{yaml_error_t.yaml_error_t, yaml_error_t.TheVariants.Memory, yaml_error_t.TheVariants.WriteError}
 use Rattle.yaml_base.specs.declared.errors.{yaml_error_t.TheVariants.TooDeep}
@@ -39,15 +40,13 @@ few_opened first depth few (a ∷ []) rest is =
     subst (λ (e : Event). open_count (e ∷ []) ≤ depth) (sym one) (omega arith)
 few_opened first depth few (a ∷ b ∷ prefix) rest is =
     let whole : a ∷ (b ∷ (prefix ++ rest)) ≡ stream_start None ∷ (plain_start ∷ first) = is in
-    let one : a ≡ stream_start None = cc in
-    let two : b ≡ plain_start = cc in
     let more : prefix ++ rest ≡ first = cc in
+    let same : a ∷ (b ∷ prefix) ≡ opening ++ prefix = cc in
     let begun : count_by begins_collection (opening ++ prefix) ≡ 0 + count_by begins_collection prefix =
     sum_by-append (λ x. cond (begins_collection x) 1 0) opening prefix in
     let ended : count_by ends_collection (opening ++ prefix) ≡ 0 + count_by ends_collection prefix =
     sum_by-append (λ x. cond (ends_collection x) 1 0) opening prefix in
-    subst (λ (e : Event). open_count (e ∷ b ∷ prefix) ≤ depth) (sym one)
-    (subst (λ (e : Event). open_count (stream_start None ∷ e ∷ prefix) ≤ depth) (sym two) (omega (arith, begun, ended, few prefix rest more)))
+    subst (λ (events : List Event). open_count events ≤ depth) (sym same) (omega (arith, begun, ended, few prefix rest more))
 
 module _ (given : Settings) (in_flow : Bool) (depth : ℕ) (text : List ℕ) (root : toml.TomlNodes) (read : ordered_document text ≡ Some root) where
   abbrev events : List Event
@@ -135,12 +134,6 @@ module _ (given : Settings) (in_flow : Bool) (depth : ℕ) (text : List ℕ) (ro
 
 -- ---- the events that were given of a text
 
-same_root : (a b : toml.TomlNodes) → Some a ≡ Some b → a ≡ b
-same_root a b is = ap (λ (o : Option toml.TomlNodes). unwrap_or o a) is
-
-some_root : (root : toml.TomlNodes) → ◌≡◌ {A = Option toml.TomlNodes} None (Some root) → ⊥
-some_root root is = cc
-
 -- nothing was
 gave_nothing : (depth : ℕ) (due : List Event) (was : WriterState) → IsBare was → GaveFirst depth due was was
 gave_nothing depth due was bare = record {
@@ -172,9 +165,9 @@ module _ (depth : ℕ) (in_flow : Bool) (text : List ℕ) (was : WriterState) (e
   pub stops_read : (now : WriterState) (root : toml.TomlNodes) → ordered_document text ≡ Some root
       → GaveFirst depth (toml_events was.canonical in_flow (root_of root)) was now → StopsInDocument depth in_flow text was error now
   stops_read now root read gave = record {
-    none = λ none. absurd (some_root root (sym none ∙ read));
+    none = λ none. absurd (none-some root (sym none ∙ read));
     first = λ other also. subst (λ (r : toml.TomlNodes). GaveFirst depth (toml_events was.canonical in_flow (root_of r)) was now)
-        (same_root root other (sym read ∙ also)) gave;
+        (same_Some root other (sym read ∙ also)) gave;
   }
 
 -- ---- the writer of a text
@@ -196,9 +189,9 @@ module _ (given : Settings) (in_flow : Bool) (depth : ℕ) (text : List ℕ) (fi
 
   pub text_failed : (error : TomlError) → StopsInDocument depth in_flow text first error now → HasErrorSaid first (toml_writers_error error) now
       → IfSome (toml_writers_error error) (TomlFailsBy given in_flow depth text)
-  text_failed (errors.NotToml line column) stops sound = tt
-  text_failed (errors.TooDeepToRead line column) stops sound = tt
-  text_failed (errors.DefinedAgain key first_line first_column line column) stops sound = tt
+  text_failed (errors.NotToml position) stops sound = tt
+  text_failed (errors.TooDeepToRead position) stops sound = tt
+  text_failed (errors.DefinedAgain key first position) stops sound = tt
   text_failed errors.TooDeep stops sound = tt
   text_failed (errors.Emitter code) stops sound = said code stops sound
 
@@ -207,6 +200,6 @@ module _ (given : Settings) (in_flow : Bool) (depth : ℕ) (text : List ℕ) (fi
   finish_failed wrote nests error unfinished =
       let emits = wrote.wrote.emits in
       let fits = subst (λ (root : toml.TomlNodes). document_nesting root ≤ depth)
-      (same_root nests.root wrote.root (sym nests.read ∙ wrote.read)) nests.within in
+      (same_Some nests.root wrote.root (sym nests.read ∙ wrote.read)) nests.within in
       unfinished_by given in_flow depth text wrote.root wrote.read fits now.emitter (emits.set.given ∙ new.settings)
       (new_events given in_flow wrote.root first now new emits) own error unfinished

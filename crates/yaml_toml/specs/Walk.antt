@@ -217,9 +217,9 @@ pub record WroteToml (in_flow : Bool) (text : List ℕ) (was now : WriterState) 
 
 -- an error that says that the text is no document of TOML
 abbrev pub DeniesToml : TomlError → Type 0
-DeniesToml (errors.NotToml line column) = Unit {0}
-DeniesToml (errors.TooDeepToRead line column) = Unit {0}
-DeniesToml (errors.DefinedAgain key first_line first_column line column) = Unit {0}
+DeniesToml (errors.NotToml position) = Unit {0}
+DeniesToml (errors.TooDeepToRead position) = Unit {0}
+DeniesToml (errors.DefinedAgain key first position) = Unit {0}
 DeniesToml _ = ⊥
 
 -- the writer's error that a fault is

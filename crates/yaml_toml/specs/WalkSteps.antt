@@ -16,7 +16,7 @@ use Rattle.yaml_toml.specs.Fitting.{FitsAfter, NestsAfter, NodeFits, RestFits, r
 use Rattle.yaml_toml.specs.Walk.{GaveSome, GivesScalar, HasNumbers}
 use Rattle.yaml_toml.specs.Walk.{KeptAfterStop, KeysHaveNumbers, PendingHaveNumbers, RestHasNumbers, StepsStop, kinds_of, node_size}
 use Rattle.yaml_toml.specs.Walk.{pending, pending_size, rest_events, rest_kind, rest_size}
-use Rattle.yaml_toml.specs.declared.settings.TomlSettings.{TomlSettings}
+use Rattle.yaml_writer.specs.declared.settings.ValueSettings.{ValueSettings}
 use Rattle.yaml_toml.specs.declared.walk.Rest.{Rest}
 use Rattle.yaml_toml.specs.declared.walk.Rest.TheVariants as rest
 use Rattle.yaml_toml.specs.declared.walk.Stop.{Stop}
@@ -99,7 +99,7 @@ pub record WroteScalar (x : TomlNode) (was : WriterState) (result : Result (Unit
 -- ---- a call
 
 -- Some of the due events were given, and the others are those of the rests; the rests fit if and only if all did.
-pub record StepGiven (settings : TomlSettings) (due : Due) (before after : TomlWalk) : Type 0 where
+pub record StepGiven (settings : ValueSettings) (due : Due) (before after : TomlWalk) : Type 0 where
   pub written :
       GaveSome settings.depth settings.flow before.writer (all_due settings.flow due before) (kinds_around due before.opened)
       (DueHasNumbers due × PendingHaveNumbers before.opened) (due_size due + pending_size before.opened) after.writer after.opened
@@ -107,30 +107,30 @@ pub record StepGiven (settings : TomlSettings) (due : Due) (before after : TomlW
   pub kept : KeptAfterStop before.writer (Ok tt) after.writer
 
 -- The first of the due events were given, and no more; after `TooDeep` the due part nests deeper than is allowed.
-pub record StepStopped (settings : TomlSettings) (due : Due) (before : TomlWalk) (stop : Stop) (after : TomlWalk) : Type 0 where
+pub record StepStopped (settings : ValueSettings) (due : Due) (before : TomlWalk) (stop : Stop) (after : TomlWalk) : Type 0 where
   pub nests : FitsAfter settings.depth (DueFits settings.depth due before.opened) (Err stop) after.opened
   pub stopped : StepsStop settings.depth before.writer (all_due settings.flow due before) (kinds_around due before.opened) after.writer
   pub kept : KeptAfterStop before.writer (Err stop) after.writer
 
-abbrev pub TomlStep : TomlSettings → Due → TomlWalk → Result (Unit {0}) Stop → TomlWalk → Type 0
+abbrev pub TomlStep : ValueSettings → Due → TomlWalk → Result (Unit {0}) Stop → TomlWalk → Type 0
 TomlStep settings due before (Ok done) after = StepGiven settings due before after
 TomlStep settings due before (Err stop) after = StepStopped settings due before stop after
 
 -- ---- a document
 
 -- the events of the root table were given, and it nests no deeper than is allowed
-pub record RootGiven (settings : TomlSettings) (root : TomlNodes) (was now : WriterState) : Type 0 where
+pub record RootGiven (settings : ValueSettings) (root : TomlNodes) (was now : WriterState) : Type 0 where
   pub written : WasGiven was (toml_events was.canonical settings.flow (table Header root)) now
   pub numbers : KeysHaveNumbers root
   pub nests : NestsAfter settings.depth root (Ok tt)
   pub kept : KeptAfterStop was (Ok tt) now
 
 -- the first of them were given, and no more; after `TooDeep` it nests deeper
-pub record RootStopped (settings : TomlSettings) (root : TomlNodes) (was : WriterState) (stop : Stop) (now : WriterState) : Type 0 where
+pub record RootStopped (settings : ValueSettings) (root : TomlNodes) (was : WriterState) (stop : Stop) (now : WriterState) : Type 0 where
   pub nests : NestsAfter settings.depth root (Err stop)
   pub stopped : GaveFirst settings.depth (toml_events was.canonical settings.flow (table Header root)) was now
   pub kept : KeptAfterStop was (Err stop) now
 
-abbrev pub RootStep : TomlSettings → TomlNodes → WriterState → Result (Unit {0}) Stop → WriterState → Type 0
+abbrev pub RootStep : ValueSettings → TomlNodes → WriterState → Result (Unit {0}) Stop → WriterState → Type 0
 RootStep settings root was (Ok done) now = RootGiven settings root was now
 RootStep settings root was (Err stop) now = RootStopped settings root was stop now

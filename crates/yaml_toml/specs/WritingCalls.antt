@@ -11,13 +11,13 @@ use Rattle.yaml_toml.specs.Means.{IsYamlOfToml}
 use Rattle.yaml_toml.specs.Places.{HasTomlPlace, HasTomlReason}
 use Rattle.yaml_toml.specs.Walk.{DeniesToml, IsSoundAfterToml, WroteToml, toml_writers_error}
 use Rattle.yaml_toml.specs.declared.error.TomlError.{TomlError}
-use Rattle.yaml_toml.specs.declared.settings.TomlSettings.{TomlSettings}
+use Rattle.yaml_writer.specs.declared.settings.ValueSettings.{ValueSettings}
 
 -- ---- a document
 
 -- The text is a document that nests no deeper than is allowed, and the writer was given its events; earlier output stays, and the emitter has
 -- no error.
-pub record DocumentWritten (settings : TomlSettings) (text : List ℕ) (was now : WriterState) : Type 0 where
+pub record DocumentWritten (settings : ValueSettings) (text : List ℕ) (was now : WriterState) : Type 0 where
   pub grows : Grows was.emitter.page now.emitter.page
   pub sound : IsSoundAfterToml was (Ok tt) now
   pub written : WroteToml settings.flow text was now
@@ -25,7 +25,7 @@ pub record DocumentWritten (settings : TomlSettings) (text : List ℕ) (was now 
 
 -- The writer was given the first events of the document, and no more, since the text is refused at this place or nests too deep, or the
 -- writer failed; earlier output stays, and an error of the emitter is the one that is returned.
-pub record DocumentUnwritten (settings : TomlSettings) (text : List ℕ) (was : WriterState) (error : TomlError) (now : WriterState) : Type 0 where
+pub record DocumentUnwritten (settings : ValueSettings) (text : List ℕ) (was : WriterState) (error : TomlError) (now : WriterState) : Type 0 where
   pub grows : Grows was.emitter.page now.emitter.page
   pub sound : IsSoundAfterToml was (Err error) now
   pub refused : DeniesToml error → ordered_document text ≡ None
@@ -34,7 +34,7 @@ pub record DocumentUnwritten (settings : TomlSettings) (text : List ℕ) (was : 
   pub place : HasTomlPlace text error
   pub reason : HasTomlReason text error
 
-abbrev pub WritesToml : TomlSettings → List ℕ → WriterState → Result (Unit {0}) TomlError → WriterState → Type 0
+abbrev pub WritesToml : ValueSettings → List ℕ → WriterState → Result (Unit {0}) TomlError → WriterState → Type 0
 WritesToml settings text was (Ok done) now = DocumentWritten settings text was now
 WritesToml settings text was (Err error) now = DocumentUnwritten settings text was error now
 
@@ -53,6 +53,6 @@ pub record HasNoTomlYaml (given : Settings) (in_flow : Bool) (depth : ℕ) (text
   pub place : HasTomlPlace text error
   pub reason : HasTomlReason text error
 
-abbrev pub ReturnsTomlYaml : {A : Type 0} → TomlSettings → List ℕ → Result (Vec ℕ A) TomlError → Type 0
-ReturnsTomlYaml settings text (Ok bytes) = HasTomlYaml (seen_settings settings.writer) settings.flow settings.depth text bytes.items
-ReturnsTomlYaml settings text (Err error) = HasNoTomlYaml (seen_settings settings.writer) settings.flow settings.depth text error
+abbrev pub ReturnsTomlYaml : {A : Type 0} → ValueSettings → List ℕ → Result (Vec ℕ A) TomlError → Type 0
+ReturnsTomlYaml settings text (Ok bytes) = HasTomlYaml (seen_settings settings.emitter) settings.flow settings.depth text bytes.items
+ReturnsTomlYaml settings text (Err error) = HasNoTomlYaml (seen_settings settings.emitter) settings.flow settings.depth text error

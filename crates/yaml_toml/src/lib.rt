@@ -5,15 +5,14 @@
 mod error;
 pub mod laws;
 mod scalars;
-mod settings;
 mod texts;
 mod walk;
 
 pub use error::TomlError;
-pub use settings::TomlSettings;
 pub use texts::{write_toml, yaml_from_toml};
+pub use yaml_base::Position;
 pub use yaml_writer::{
-    Quotes, Settings, Writer, YAML_ANY_BREAK, YAML_ANY_ENCODING, YAML_CR_BREAK, YAML_CRLN_BREAK,
-    YAML_LN_BREAK, YAML_UTF8_ENCODING, YAML_UTF16BE_ENCODING, YAML_UTF16LE_ENCODING,
-    value_settings, yaml_break_t, yaml_encoding_t, yaml_error_t,
+    Quotes, Settings, ValueSettings, Writer, YAML_ANY_BREAK, YAML_ANY_ENCODING, YAML_CR_BREAK,
+    YAML_CRLN_BREAK, YAML_LN_BREAK, YAML_UTF8_ENCODING, YAML_UTF16BE_ENCODING,
+    YAML_UTF16LE_ENCODING, value_settings, yaml_break_t, yaml_encoding_t, yaml_error_t,
 };

@@ -2,25 +2,24 @@
 ghost use Rattle.std.specs.Prelude.{◌≡◌, ◌-◌, IfSome, length};
 ghost use Rattle.toml_ordered.specs.Nesting.{HasReason};
 ghost use Rattle.toml_ordered.specs.Places.{place_left};
-ghost use Rattle.yaml_writer.specs.Places.{AreOf};
+ghost use Rattle.yaml_base.specs.Positions.{IsPositionOf};
 ghost use Rattle.yaml_writer.specs.WasGiven.{IsBare};
 ghost use Rattle.yaml_toml.specs.Places.{HasTomlReason, IsBeforeLeft};
 ghost use Rattle.yaml_toml.specs.Walk.{fault_error, toml_writers_error};
 ghost use Rattle.yaml_toml.specs.WritingCalls.{ReturnsTomlYaml, WritesToml};
 
 use crate::error::TomlError;
-use crate::settings::TomlSettings;
 use crate::walk::{Stop, write_root};
 use std::alloc::{Allocator, Global};
 use toml_ordered::{Fault, read_document};
-use yaml_base::place_of;
-use yaml_writer::{Writer, yaml_error_t};
+use yaml_base::{Position, position_of};
+use yaml_writer::{ValueSettings, Writer, yaml_error_t};
 
-/// Returns the line and the column at which this much of a text is left.
-fn place_before(text: &str, left: usize) -> (usize, usize)
-    ensures { AreOf text.now (length text.now - left) result.0 result.1 }
+/// Returns the position at which this much of a text is left.
+fn position_before(text: &str, left: usize) -> Position
+    ensures { IsPositionOf text.now (length text.now - left) result }
 {
-    place_of(text.as_bytes(), text.len().saturating_sub(left))
+    position_of(text.as_bytes(), text.len().saturating_sub(left))
 }
 
 /// Converts a fault of a text to the caller's error.
@@ -31,29 +30,21 @@ fn error_of(text: &str, fault: Fault) -> TomlError
 {
     match fault {
         Fault::Memory => TomlError::Emitter(yaml_error_t::Memory),
-        Fault::NotToml { left } => {
-            let (line, column) = place_before(text, left);
-            TomlError::NotToml { line, column }
-        }
-        Fault::TooDeep { left } => {
-            let (line, column) = place_before(text, left);
-            TomlError::TooDeepToRead { line, column }
-        }
-        Fault::DefinedAgain { key, first, second } => {
-            let (first_line, first_column) = place_before(text, first);
-            let (line, column) = place_before(text, second);
-            TomlError::DefinedAgain {
-                key,
-                first_line,
-                first_column,
-                line,
-                column,
-            }
-        }
+        Fault::NotToml { left } => TomlError::NotToml {
+            position: position_before(text, left),
+        },
+        Fault::TooDeep { left } => TomlError::TooDeepToRead {
+            position: position_before(text, left),
+        },
+        Fault::DefinedAgain { key, first, second } => TomlError::DefinedAgain {
+            key,
+            first: position_before(text, first),
+            position: position_before(text, second),
+        },
     }
 }
 
-/// Gives a writer the events of a TOML document, by all of these settings but `settings.writer`. Arrays and tables may nest
+/// Gives a writer the events of a TOML document, by all of these settings but `settings.emitter`. Arrays and tables may nest
 /// `settings.depth` deep, the root table among them. They are written in flow if `settings.flow` is set; otherwise those that aren't
 /// empty are written in blocks. The keys of each table come in the order in which the document first defines them. Comments are
 /// dropped.
@@ -71,7 +62,7 @@ pub fn write_toml<A: Allocator + Copy>(
     alloc: Global,
     writer: &mut Writer<A>,
     text: &str,
-    settings: TomlSettings,
+    settings: ValueSettings,
 ) -> Result<(), TomlError>
     requires { IsBare writer.old }
     ensures { WritesToml settings text.now writer.old result writer.new }
@@ -97,11 +88,11 @@ pub fn write_toml<A: Allocator + Copy>(
 pub fn yaml_from_toml(
     alloc: Global,
     text: &str,
-    settings: TomlSettings,
+    settings: ValueSettings,
 ) -> Result<Vec<u8>, TomlError>
     ensures { ReturnsTomlYaml settings text.now result }
 {
-    let Ok(mut writer) = Writer::new(alloc, settings.writer) else {
+    let Ok(mut writer) = Writer::new(alloc, settings.emitter) else {
         return Err(TomlError::Emitter(yaml_error_t::Memory));
     };
     if let Err(error) = write_toml(alloc, &mut writer, text, settings) {

@@ -11,11 +11,10 @@ ghost use Rattle.yaml_toml.specs.declared.walk.Rest.TheVariants as rests;
 ghost use Rattle.yaml_writer.specs.Writing.{end_event};
 
 use crate::scalars::{write_scalar, write_text};
-use crate::settings::TomlSettings;
 use std::alloc::{Allocator, Global};
 use toml_ordered::{LiveKeys, Node, Table};
 use yaml_writer::{
-    CollectionKind, Writer, YAML_BLOCK_MAPPING_STYLE, YAML_BLOCK_SEQUENCE_STYLE,
+    CollectionKind, ValueSettings, Writer, YAML_BLOCK_MAPPING_STYLE, YAML_BLOCK_SEQUENCE_STYLE,
     YAML_FLOW_MAPPING_STYLE, YAML_FLOW_SEQUENCE_STYLE, yaml_error_t,
 };
 
@@ -121,7 +120,7 @@ fn enter<'a, A: Allocator + Copy>(
     writer: &mut Writer<A>,
     opened: &mut Vec<Rest<'a>>,
     rest: Rest<'a>,
-    settings: &TomlSettings,
+    settings: &ValueSettings,
 ) -> Result<(), Stop>
     requires { IsBare writer.old }
     ensures { TomlStep settings.now (collection_due rest.entry) (walk_at writer.old opened.old.items) result (walk_at writer.new opened.new.items) }
@@ -140,7 +139,7 @@ fn write_node<'a, A: Allocator + Copy>(
     writer: &mut Writer<A>,
     opened: &mut Vec<Rest<'a>>,
     node: &'a Node,
-    settings: &TomlSettings,
+    settings: &ValueSettings,
 ) -> Result<(), Stop>
     requires { IsBare writer.old }
     ensures { TomlStep settings.now (value_due (node_view node.now)) (walk_at writer.old opened.old.items) result (walk_at writer.new opened.new.items) }
@@ -174,7 +173,7 @@ fn write_rest<'a, A: Allocator + Copy>(
     writer: &mut Writer<A>,
     opened: &mut Vec<Rest<'a>>,
     rest: Rest<'a>,
-    settings: &TomlSettings,
+    settings: &ValueSettings,
 ) -> Result<(), Stop>
     requires bare { IsBare writer.old }
     requires innermost { HasInnermost writer.old (kinds_of opened.old.items) (rest_kind rest) }
@@ -205,7 +204,7 @@ fn write_item<'a, A: Allocator + Copy>(
     writer: &mut Writer<A>,
     opened: &mut Vec<Rest<'a>>,
     items: &'a [Node],
-    settings: &TomlSettings,
+    settings: &ValueSettings,
 ) -> Result<(), Stop>
     requires bare { IsBare writer.old }
     requires innermost { HasInnermost writer.old (kinds_of opened.old.items) Sequence }
@@ -227,7 +226,7 @@ fn write_member<'a, A: Allocator + Copy>(
     writer: &mut Writer<A>,
     opened: &mut Vec<Rest<'a>>,
     keys: LiveKeys<'a>,
-    settings: &TomlSettings,
+    settings: &ValueSettings,
 ) -> Result<(), Stop>
     requires bare { IsBare writer.old }
     requires innermost { HasInnermost writer.old (kinds_of opened.old.items) Mapping }
@@ -252,7 +251,7 @@ pub(crate) fn write_root<A: Allocator + Copy>(
     alloc: Global,
     writer: &mut Writer<A>,
     root: &Table,
-    settings: &TomlSettings,
+    settings: &ValueSettings,
 ) -> Result<(), Stop>
     requires { IsBare writer.old }
     ensures { RootStep settings.now (table_view root.now) writer.old result writer.new }

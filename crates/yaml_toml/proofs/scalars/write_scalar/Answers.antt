@@ -6,9 +6,9 @@ use Rattle.std.proofs.lemmas.Int.{to_z-of_z}
 use Rattle.std.specs.Fmt.{signed_decimal}
 use Rattle.toml_ordered.specs.Data as toml
 use Rattle.toml_ordered.specs.Data.{node_view}
-use Rattle.yaml_writer.specs.Floats.{special_event, special_text}
-use Rattle.yaml_writer.specs.Writing.{Gives, bool_event, int_event}
-use Rattle.yaml_writer.specs.TomlDates.{datetime_event, moment_of}
+use Rattle.yaml_writer.specs.Floats.{special_text}
+use Rattle.yaml_writer.specs.Writing.{Gives, int_event}
+use Rattle.yaml_writer.specs.TomlDates.{moment_of}
 use Rattle.yaml_writer.specs.declared.floats.SpecialFloat.{SpecialFloat}
 use Rattle.yaml_writer.specs.declared.floats.SpecialFloat.TheVariants as special
 use Rattle.yaml_toml.specs.Events.{date_content, decimal_content, integer_content, special_content}
@@ -21,75 +21,61 @@ use Rattle.yaml_toml.proofs.scalars.write_scalar.Goals as goal
 
 pub returns-in-Text : goal.returns-in-Text
 returns-in-Text g c =
-    let a = c.args in
     let text = c.in-Text.text in
-    wrote_scalar a.writer.now c.write_text.new.writer (node_view a.node.now) (toml.string (string_bytes text)) (text_content (chars c.as_str.result.now))
-    c.write_text.result (ap node_view c.in-Text.is ∙ node_view-Text text)
+    wrote_scalar (text_content (chars c.as_str.result.now)) (toml.string (string_bytes text)) (ap node_view c.in-Text.is ∙ node_view-Text text)
     (λ flow. ap (λ (bytes : List ℕ). scalar (text_content (chars bytes)) ∷ []) c.as_str.ensures.value) refl refl (always c.write_text.result tt)
     c.write_text.ensures
 
 pub returns-in-Integer : goal.returns-in-Integer
 returns-in-Integer g c =
-    let a = c.args in
-    let was = a.writer.now in
+    let was = c.args.writer.now in
     let z = c.in-Integer.integer in
     let fits : FitsSigned w64 z = search rules in
-    let gives = subst (λ (n : ℤ). Gives was (int_event was n) c.int.result c.int.new.self) (to_z-of_z w64 z fits) c.int.ensures in
-    wrote_scalar was c.int.new.self (node_view a.node.now) (toml.integer z) (integer_content was.canonical z) c.int.result
-    (ap node_view c.in-Integer.is ∙ node_view-Integer z) (λ flow. refl) refl refl (always c.int.result (few_digits z fits))
-    (gives_scalar was c.int.new.self (int_event was z) (integer_content was.canonical z) c.int.result
-    (word_is was int_tag (signed_decimal z) c.requires.bare) gives)
+    let content = integer_content was.canonical z in
+    wrote_scalar content (toml.integer z) (ap node_view c.in-Integer.is ∙ node_view-Integer z) (λ flow. refl) refl refl
+    (always c.int.result (few_digits z fits))
+    (gives_scalar content (word_is was int_tag (signed_decimal z) c.requires.bare)
+    (subst (λ (n : ℤ). Gives was (int_event was n) c.int.result c.int.new.self) (to_z-of_z w64 z fits) c.int.ensures))
 
 pub returns-in-Decimal : goal.returns-in-Decimal
 returns-in-Decimal g c =
-    let a = c.args in
-    let was = a.writer.now in
+    let canonical = c.args.writer.now.canonical in
     let word = c.in-Decimal.word in
     let spelled = c.as_str-in-Decimal.ensures.value in
-    wrote_scalar was c.write_decimal.new.writer (node_view a.node.now) (toml.decimal (string_bytes word))
-    (decimal_content was.canonical c.as_str-in-Decimal.result.now) c.write_decimal.result (ap node_view c.in-Decimal.is ∙ node_view-Decimal word)
-    (λ flow. ap (λ (bytes : List ℕ). scalar (decimal_content was.canonical bytes) ∷ []) spelled) refl refl
+    wrote_scalar (decimal_content canonical c.as_str-in-Decimal.result.now) (toml.decimal (string_bytes word))
+    (ap node_view c.in-Decimal.is ∙ node_view-Decimal word) (λ flow. ap (λ (bytes : List ℕ). scalar (decimal_content canonical bytes) ∷ []) spelled) refl refl
     (on_ok c.write_decimal.result (subst IsJsonWord spelled) c.write_decimal.ensures.number) c.write_decimal.ensures.gives
 
 pub returns-in-Infinity : goal.returns-in-Infinity
 returns-in-Infinity g c =
-    let a = c.args in
-    let was = a.writer.now in
+    let was = c.args.writer.now in
     let value = c.infinity.result in
     let negative = c.in-Infinity.negative in
-    wrote_scalar was c.special_float.new.self (node_view a.node.now) (toml.infinity negative) (special_content was.canonical value) c.special_float.result
-    (ap node_view c.in-Infinity.is ∙ node_view-Infinity negative)
+    let content = special_content was.canonical value in
+    wrote_scalar content (toml.infinity negative) (ap node_view c.in-Infinity.is ∙ node_view-Infinity negative)
     (λ flow. ap (λ (v : SpecialFloat). scalar (special_content was.canonical v) ∷ []) c.infinity.ensures) refl refl (always c.special_float.result tt)
-    (gives_scalar was c.special_float.new.self (special_event was value) (special_content was.canonical value) c.special_float.result
-    (word_is was float_tag (special_text value) c.requires.bare) c.special_float.ensures)
+    (gives_scalar content (word_is was float_tag (special_text value) c.requires.bare) c.special_float.ensures)
 
 pub returns-in-NotANumber : goal.returns-in-NotANumber
 returns-in-NotANumber g c =
-    let a = c.args in
-    let was = a.writer.now in
+    let was = c.args.writer.now in
     let called = c.special_float-in-NotANumber in
-    let value = special.NotANumber in
-    wrote_scalar was called.new.self (node_view a.node.now) toml.not_a_number (special_content was.canonical value) called.result
-    (ap node_view c.in-NotANumber.is ∙ node_view-NotANumber) (λ flow. refl) refl refl (always called.result tt)
-    (gives_scalar was called.new.self (special_event was value) (special_content was.canonical value) called.result
-    (word_is was float_tag (special_text value) c.requires.bare) called.ensures)
+    let content = special_content was.canonical special.NotANumber in
+    wrote_scalar content toml.not_a_number (ap node_view c.in-NotANumber.is ∙ node_view-NotANumber) (λ flow. refl) refl refl (always called.result tt)
+    (gives_scalar content (word_is was float_tag (special_text special.NotANumber) c.requires.bare) called.ensures)
 
 pub returns-in-Boolean : goal.returns-in-Boolean
 returns-in-Boolean g c =
-    let a = c.args in
-    let was = a.writer.now in
+    let was = c.args.writer.now in
     let flag = c.in-Boolean.flag in
-    wrote_scalar was c.bool.new.self (node_view a.node.now) (toml.boolean flag) (bool_content was.canonical flag) c.bool.result
-    (ap node_view c.in-Boolean.is ∙ node_view-Boolean flag) (λ flow. refl) refl refl (always c.bool.result tt)
-    (gives_scalar was c.bool.new.self (bool_event was flag) (bool_content was.canonical flag) c.bool.result
-    (word_is was bool_tag (bool_text flag) c.requires.bare) c.bool.ensures)
+    let content = bool_content was.canonical flag in
+    wrote_scalar content (toml.boolean flag) (ap node_view c.in-Boolean.is ∙ node_view-Boolean flag) (λ flow. refl) refl refl (always c.bool.result tt)
+    (gives_scalar content (word_is was bool_tag (bool_text flag) c.requires.bare) c.bool.ensures)
 
 pub returns-in-Datetime : goal.returns-in-Datetime
 returns-in-Datetime g c =
-    let a = c.args in
-    let was = a.writer.now in
+    let was = c.args.writer.now in
     let date = c.in-Datetime.datetime in
-    wrote_scalar was c.write_datetime.new.writer (node_view a.node.now) (toml.datetime date) (date_content was.canonical date (moment_of date))
-    c.write_datetime.result (ap node_view c.in-Datetime.is ∙ node_view-Datetime date) (λ flow. refl) refl refl (always c.write_datetime.result tt)
-    (gives_scalar was c.write_datetime.new.writer (datetime_event was date) (date_content was.canonical date (moment_of date)) c.write_datetime.result
-    (datetime_is was date (moment_of date) c.requires.bare) c.write_datetime.ensures)
+    let content = date_content was.canonical date (moment_of date) in
+    wrote_scalar content (toml.datetime date) (ap node_view c.in-Datetime.is ∙ node_view-Datetime date) (λ flow. refl) refl refl
+    (always c.write_datetime.result tt) (gives_scalar content (datetime_is was date (moment_of date) c.requires.bare) c.write_datetime.ensures)

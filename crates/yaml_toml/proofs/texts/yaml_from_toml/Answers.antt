@@ -16,7 +16,7 @@ returns-in-Err c =
     record {
       refused = unwritten.refused;
       deep = unwritten.deep;
-      failed = text_failed (seen_settings s.writer) s.flow s.depth c.args.text.now first.writer c.write_toml.new.writer first.ensures.made
+      failed = text_failed (seen_settings s.emitter) s.flow s.depth c.args.text.now first.writer c.write_toml.new.writer first.ensures.made
           c.promised.ensures.stands c.in-Err.error unwritten.stopped unwritten.sound;
       place = unwritten.place;
       reason = unwritten.reason;
@@ -28,7 +28,7 @@ returns-in-Ok-finish c =
     let first = c.in-Ok in
     let wrote = c.in_default-write_toml.ensures in
     record {
-      stream = yaml_of (seen_settings s.writer) s.flow c.args.text.now c.in-Ok-finish.bytes.items first.writer c.write_toml.new.writer
+      stream = yaml_of (seen_settings s.emitter) s.flow c.args.text.now c.in-Ok-finish.bytes.items first.writer c.write_toml.new.writer
           first.ensures.made wrote.written c.promised-2.ensures.stands.texts c.in-Ok-finish.ensures.finishes;
       nests = wrote.nests;
     }
@@ -42,7 +42,7 @@ returns-in-Err-finish c =
     record {
       refused = λ denied. absurd denied;
       deep = tt;
-      failed = finish_failed (seen_settings s.writer) s.flow s.depth c.args.text.now first.writer now first.ensures.made c.promised-2.ensures.stands
+      failed = finish_failed (seen_settings s.emitter) s.flow s.depth c.args.text.now first.writer now first.ensures.made c.promised-2.ensures.stands
           wrote.written wrote.nests c.in-Err-finish.error (c.in-Err-finish.ensures.unfinished (bare_awaits_none now wrote.written.wrote.bare));
       place = λ denied. absurd denied;
       reason = tt;

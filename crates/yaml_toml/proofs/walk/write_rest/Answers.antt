@@ -2,16 +2,18 @@ use Rattle.yaml_toml.proofs.Common.{◌≡◌, ◌∷◌, ◌++◌, [], List, re
 use Rattle.yaml_toml.proofs.Common.{collection_in, arith, Event}
 use Rattle.std.proofs.lemmas.List.{nil_from_length}
 use Rattle.std.specs.Prelude.{max, suc}
+use Rattle.toml_ordered.specs.Data as toml
 use Rattle.toml_ordered.specs.Data.{items_view, node_view}
 use Rattle.toml_ordered.specs.Keys.{live_view}
 use Rattle.toml_ordered.specs.declared.tree.Node.{Node as CodeNode}
+use Rattle.toml_ordered.specs.declared.tree.Origin.TheVariants.{Header}
 use Rattle.yaml_toml.specs.Depth.{items_nesting, keys_nesting}
 use Rattle.yaml_toml.specs.Events.{toml_events, toml_items_events, keys_events}
 use Rattle.yaml_toml.specs.Walk.{ItemsHaveNumbers, items_size}
-use Rattle.yaml_toml.specs.WalkSteps.{TomlStep, collection_due, rest_due, value_due, walk_at}
+use Rattle.yaml_toml.specs.WalkSteps.{TomlStep, rest_due, value_due, walk_at}
 use Rattle.yaml_toml.specs.declared.walk.Rest.{Rest}
 use Rattle.yaml_toml.specs.declared.walk.Rest.TheVariants as rest
-use Rattle.yaml_toml.proofs.Stepping.{due_last, due_next, step_memory, step_same}
+use Rattle.yaml_toml.proofs.Stepping.{due_next, step_begun, step_memory, step_same}
 use Rattle.yaml_toml.proofs.walk.write_rest.Goals as goal
 
 pub returns-in-Err : goal.returns-in-Err
@@ -36,6 +38,7 @@ returns-in_default g c =
     let left = c.enter.new.opened.items in
     let done = c.in-Tables.done in
     let last = c.in-Tables.last in
+    let table = toml.table Header (live_view last) in
     let none : [] ≡ done.now = sym (nil_from_length done.now c.in-None.ensures.cases) in
     let keys = keys_events was.canonical s.flow (live_view last) in
     let begins = mapping_start (collection_in s.flow) in
@@ -43,12 +46,12 @@ returns-in_default g c =
     let nested = suc (keys_nesting (live_view last)) in
     let nests = ap (λ (ds : List CodeNode). max (items_nesting (items_view ds)) nested) none in
     subst (λ (r : Rest). TomlStep s (rest_due r) (walk_at was opened) c.enter.result (walk_at now left)) (sym c.in-Tables.is)
-    (step_same s was now (collection_due (rest.Members last)) (rest_due (rest.Tables done last)) kept opened left c.enter.result
-    (due_last s.depth was.canonical s.flow (rest.Members last) _ (rest.Tables done last) opened kept c.in_default.ensures.kept refl
+    (step_same s was now (value_due table) (rest_due (rest.Tables done last)) kept opened left c.enter.result
+    (due_next [] s.depth was.canonical s.flow table _ (rest.Tables done last) opened kept c.in_default.ensures.kept refl
     (ap (λ (es : List Event). begins ∷ es) (append_assoc keys (mapping_end ∷ []) (sequence_end ∷ []))
     ∙ ap (λ (ds : List CodeNode). toml_items_events was.canonical s.flow (items_view ds) ++ behind) none)
-    (λ have. (subst (λ (ds : List CodeNode). ItemsHaveNumbers (items_view ds)) none tt, have)) (omega arith) (omega (arith, nests)))
-    c.enter.ensures)
+    (λ have. (subst (λ (ds : List CodeNode). ItemsHaveNumbers (items_view ds)) none tt, have.0)) (omega arith) (omega (arith, nests)))
+    (step_begun s was now Header (rest.Members last) table kept left c.enter.result refl c.enter.ensures))
 
 pub returns-in_default-keep : goal.returns-in_default-keep
 returns-in_default-keep g c =

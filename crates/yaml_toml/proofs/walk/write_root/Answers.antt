@@ -1,23 +1,22 @@
-use Rattle.yaml_toml.proofs.Common.{◌≡◌, ◌+◌, ◌++◌, ◌∷◌, [], List, Result, Ok, Err, Event, WriterState, subst, ap, sym, arith}
+use Rattle.yaml_toml.proofs.Common.{◌≡◌, ◌+◌, [], List, Result, Ok, Err, WriterState, subst, ap, sym, arith}
 use Rattle.toml_ordered.specs.Data.{TomlNodes, table}
 use Rattle.toml_ordered.specs.Keys.{table_view}
 use Rattle.toml_ordered.specs.declared.tree.Origin.TheVariants.{Header}
-use Rattle.yaml_toml.specs.Events.{toml_events}
-use Rattle.yaml_toml.specs.Walk.{KeysHaveNumbers, pending_size, rest_size}
+use Rattle.yaml_toml.specs.Walk.{pending_size, rest_size}
 use Rattle.yaml_toml.specs.WalkSteps.{TomlStep, collection_due, value_due, value_of_rest, walk_at}
-use Rattle.yaml_toml.specs.declared.settings.TomlSettings.{TomlSettings}
+use Rattle.yaml_writer.specs.declared.settings.ValueSettings.{ValueSettings}
 use Rattle.yaml_toml.specs.declared.walk.Rest.{Rest}
 use Rattle.yaml_toml.specs.declared.walk.Rest.TheVariants as rest
 use Rattle.yaml_toml.specs.declared.walk.Stop.{Stop}
 use Rattle.yaml_toml.proofs.Answering.{kept_then}
 use Rattle.yaml_toml.proofs.Pending.{size-push}
-use Rattle.yaml_toml.proofs.Fitting.{DocumentFits, nests_on, nests_stopped}
-use Rattle.yaml_toml.proofs.Running.{Running, innermost, runs_first, runs_on, runs_out, runs_stopped, so_given, stopped_first}
+use Rattle.yaml_toml.proofs.Fitting.{nests_on, nests_stopped}
+use Rattle.yaml_toml.proofs.Running.{innermost, runs_first, runs_on, runs_out, runs_stopped, so_given, stopped_first}
 use Rattle.yaml_toml.proofs.Stepping.{step_begun}
 use Rattle.yaml_toml.proofs.walk.write_root.Goals as goal
 
 -- the root table is begun
-first_step : (settings : TomlSettings) (start now : WriterState) (root : TomlNodes) (r : Rest) (opened after : List Rest) (result : Result (Unit {0}) Stop)
+first_step : (settings : ValueSettings) (start now : WriterState) (root : TomlNodes) (r : Rest) (opened after : List Rest) (result : Result (Unit {0}) Stop)
     → opened ≡ [] → table Header root ≡ value_of_rest Header r → TomlStep settings (collection_due r) (walk_at start opened) result (walk_at now after)
     → TomlStep settings (value_due (table Header root)) (walk_at start []) result (walk_at now after)
 first_step settings start now root r opened after result none seen step =
@@ -43,25 +42,13 @@ returns-in-Err g c =
 
 pub write_rest-requires-clause-innermost : goal.write_rest-requires-clause-innermost
 write_rest-requires-clause-innermost g c =
-    let start = c.args.writer.now in
-    let flow = c.args.settings.now.flow in
-    let all : List Event = toml_events start.canonical flow (table Header (table_view c.args.root.now)) in
-    let numbers : Type 0 = KeysHaveNumbers (table_view c.args.root.now) in
-    let left = c.take_innermost.new.opened.items in
-    let depth = c.args.settings.now.depth in
-    let so = subst (λ (opened : List Rest). Running depth flow start all numbers c.rests.writer opened) c.in-Some.ensures c.rests.invariant.1 in
-    innermost depth flow start c.rests.writer c.rests.writer all numbers left left c.in-Some.rest so
+    let so = rw c.in-Some.ensures at c.rests.invariant.1 in
+    innermost c.take_innermost.new.opened.items c.in-Some.rest so
 
 pub write_rest-requires-clause-bare : goal.write_rest-requires-clause-bare
 write_rest-requires-clause-bare g c =
-    let start = c.args.writer.now in
-    let flow = c.args.settings.now.flow in
-    let all : List Event = toml_events start.canonical flow (table Header (table_view c.args.root.now)) in
-    let numbers : Type 0 = KeysHaveNumbers (table_view c.args.root.now) in
-    let left = c.take_innermost.new.opened.items in
-    let depth = c.args.settings.now.depth in
-    let so = subst (λ (opened : List Rest). Running depth flow start all numbers c.rests.writer opened) c.in-Some.ensures c.rests.invariant.1 in
-    (so_given depth flow start c.rests.writer all numbers (left ++ c.in-Some.rest ∷ []) so).bare
+    let so = rw c.in-Some.ensures at c.rests.invariant.1 in
+    (so_given so).bare
 
 pub rests-smaller : goal.rests-smaller
 rests-smaller g c =
@@ -70,54 +57,32 @@ rests-smaller g c =
 
 pub rests-preserved : goal.rests-preserved
 rests-preserved g c =
-    let start = c.args.writer.now in
-    let flow = c.args.settings.now.flow in
-    let all : List Event = toml_events start.canonical flow (table Header (table_view c.args.root.now)) in
-    let numbers : Type 0 = KeysHaveNumbers (table_view c.args.root.now) in
     let left = c.take_innermost.new.opened.items in
-    let depth = c.args.settings.now.depth in
-    let so = subst (λ (opened : List Rest). Running depth flow start all numbers c.rests.writer opened) c.in-Some.ensures c.rests.invariant.1 in
-    let root = table_view c.args.root.now in
+    let after = c.write_rest.new.opened.items in
+    let r = c.in-Some.rest in
     let step = c.in_default-write_rest.ensures in
-    let fits = subst (λ (opened : List Rest). DocumentFits depth root opened) c.in-Some.ensures c.rests.invariant.0 in (
-      nests_on depth root left c.write_rest.new.opened.items c.in-Some.rest fits step.nests,
-      runs_on depth flow start c.rests.writer c.write_rest.new.writer all numbers left c.write_rest.new.opened.items c.in-Some.rest so
-          (rest_size c.in-Some.rest + pending_size left) step.written step.kept,
+    let fits = rw c.in-Some.ensures at c.rests.invariant.0 in
+    let so = rw c.in-Some.ensures at c.rests.invariant.1 in (
+      nests_on c.args.settings.now.depth (table_view c.args.root.now) left after r fits step.nests,
+      runs_on left r so c.write_rest.new.writer after (rest_size r + pending_size left) step.written step.kept,
     )
 
 pub returns : goal.returns
 returns g c =
-    let start = c.args.writer.now in
-    let flow = c.args.settings.now.flow in
-    let depth = c.args.settings.now.depth in
-    let root = table_view c.args.root.now in
-    let all : List Event = toml_events start.canonical flow (table Header root) in
-    let numbers : Type 0 = KeysHaveNumbers root in
-    let none = c.in_default-take_innermost.ensures.0 in
-    let so = subst (λ (opened : List Rest). Running depth flow start all numbers c.rests.writer opened) none c.rests.invariant.1 in
-    record {
-      written = runs_out depth flow start c.rests.writer all numbers so;
-      numbers = so.numbers_in tt;
-      nests = (subst (λ (opened : List Rest). DocumentFits depth root opened) none c.rests.invariant.0).0 tt;
-      kept = so.kept;
-    }
+    let fits = rw c.in_default-take_innermost.ensures.0 at c.rests.invariant.0 in
+    let so = rw c.in_default-take_innermost.ensures.0 at c.rests.invariant.1 in
+    record { written = runs_out so; numbers = so.numbers_in tt; nests = fits.0 tt; kept = so.kept }
 
 pub returns-in-Err-write_rest : goal.returns-in-Err-write_rest
 returns-in-Err-write_rest g c =
-    let start = c.args.writer.now in
-    let flow = c.args.settings.now.flow in
-    let depth = c.args.settings.now.depth in
-    let root = table_view c.args.root.now in
-    let all : List Event = toml_events start.canonical flow (table Header root) in
-    let numbers : Type 0 = KeysHaveNumbers root in
     let left = c.take_innermost.new.opened.items in
     let now = c.write_rest.new.writer in
     let stopped = c.in-Err-write_rest.stop in
     let step = c.in-Err-write_rest.ensures in
-    let so = subst (λ (opened : List Rest). Running depth flow start all numbers c.rests.writer opened) c.in-Some.ensures c.rests.invariant.1 in
-    let fits = subst (λ (opened : List Rest). DocumentFits depth root opened) c.in-Some.ensures c.rests.invariant.0 in
+    let fits = rw c.in-Some.ensures at c.rests.invariant.0 in
+    let so = rw c.in-Some.ensures at c.rests.invariant.1 in
     record {
-      nests = nests_stopped depth root left c.write_rest.new.opened.items c.in-Some.rest fits stopped step.nests;
-      stopped = runs_stopped depth flow start c.rests.writer now all numbers left left c.in-Some.rest so step.stopped;
-      kept = kept_then start c.rests.writer now (Err stopped) so.kept step.kept;
+      nests = nests_stopped c.args.settings.now.depth (table_view c.args.root.now) left c.write_rest.new.opened.items c.in-Some.rest fits stopped step.nests;
+      stopped = runs_stopped left c.in-Some.rest so now step.stopped;
+      kept = kept_then c.args.writer.now c.rests.writer now (Err stopped) so.kept step.kept;
     }
