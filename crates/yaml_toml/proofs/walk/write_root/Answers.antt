@@ -2,6 +2,7 @@ use Rattle.yaml_toml.proofs.Common.{◌≡◌, ◌+◌, [], List, Result, Ok, Er
 use Rattle.toml_ordered.specs.Data.{TomlNodes, table}
 use Rattle.toml_ordered.specs.Keys.{table_view}
 use Rattle.toml_ordered.specs.declared.tree.Origin.TheVariants.{Header}
+use Rattle.yaml_toml.specs.Events.{toml_events}
 use Rattle.yaml_toml.specs.Walk.{pending_size, rest_size}
 use Rattle.yaml_toml.specs.WalkSteps.{TomlStep, collection_due, value_due, value_of_rest, walk_at}
 use Rattle.yaml_writer.specs.declared.settings.ValueSettings.{ValueSettings}
@@ -42,13 +43,15 @@ returns-in-Err g c =
 
 pub write_rest-requires-clause-innermost : goal.write_rest-requires-clause-innermost
 write_rest-requires-clause-innermost g c =
+    let all = toml_events c.args.writer.now.canonical c.args.settings.now.flow (table Header (table_view c.args.root.now)) in
     let so = rw c.in-Some.ensures at c.rests.invariant.1 in
-    innermost c.take_innermost.new.opened.items c.in-Some.rest so
+    innermost {all = all} c.take_innermost.new.opened.items c.in-Some.rest so
 
 pub write_rest-requires-clause-bare : goal.write_rest-requires-clause-bare
 write_rest-requires-clause-bare g c =
+    let all = toml_events c.args.writer.now.canonical c.args.settings.now.flow (table Header (table_view c.args.root.now)) in
     let so = rw c.in-Some.ensures at c.rests.invariant.1 in
-    (so_given so).bare
+    (so_given {all = all} so).bare
 
 pub rests-smaller : goal.rests-smaller
 rests-smaller g c =
@@ -57,6 +60,7 @@ rests-smaller g c =
 
 pub rests-preserved : goal.rests-preserved
 rests-preserved g c =
+    let all = toml_events c.args.writer.now.canonical c.args.settings.now.flow (table Header (table_view c.args.root.now)) in
     let left = c.take_innermost.new.opened.items in
     let after = c.write_rest.new.opened.items in
     let r = c.in-Some.rest in
@@ -64,17 +68,19 @@ rests-preserved g c =
     let fits = rw c.in-Some.ensures at c.rests.invariant.0 in
     let so = rw c.in-Some.ensures at c.rests.invariant.1 in (
       nests_on c.args.settings.now.depth (table_view c.args.root.now) left after r fits step.nests,
-      runs_on left r so c.write_rest.new.writer after (rest_size r + pending_size left) step.written step.kept,
+      runs_on {all = all} left r so c.write_rest.new.writer after (rest_size r + pending_size left) step.written step.kept,
     )
 
 pub returns : goal.returns
 returns g c =
+    let all = toml_events c.args.writer.now.canonical c.args.settings.now.flow (table Header (table_view c.args.root.now)) in
     let fits = rw c.in_default-take_innermost.ensures.0 at c.rests.invariant.0 in
     let so = rw c.in_default-take_innermost.ensures.0 at c.rests.invariant.1 in
-    record { written = runs_out so; numbers = so.numbers_in tt; nests = fits.0 tt; kept = so.kept }
+    record { written = runs_out {all = all} so; numbers = so.numbers_in tt; nests = fits.0 tt; kept = so.kept }
 
 pub returns-in-Err-write_rest : goal.returns-in-Err-write_rest
 returns-in-Err-write_rest g c =
+    let all = toml_events c.args.writer.now.canonical c.args.settings.now.flow (table Header (table_view c.args.root.now)) in
     let left = c.take_innermost.new.opened.items in
     let now = c.write_rest.new.writer in
     let stopped = c.in-Err-write_rest.stop in
@@ -83,6 +89,6 @@ returns-in-Err-write_rest g c =
     let so = rw c.in-Some.ensures at c.rests.invariant.1 in
     record {
       nests = nests_stopped c.args.settings.now.depth (table_view c.args.root.now) left c.write_rest.new.opened.items c.in-Some.rest fits stopped step.nests;
-      stopped = runs_stopped left c.in-Some.rest so now step.stopped;
+      stopped = runs_stopped {all = all} left c.in-Some.rest so now step.stopped;
       kept = kept_then c.args.writer.now c.rests.writer now (Err stopped) so.kept step.kept;
     }
