@@ -1,5 +1,5 @@
 -- The bytes of a document are UTF-8.
-use Rattle.yaml_serde.proofs.Common.{ℕ, IfOk, Result, Err, Ok, Vec, List, ◌++◌, ◌≡◌, ap, sym, ◌∙◌, All, ∥∥₁_map, Text, Event, IsWriterEvent, IsDocument}
+use Rattle.yaml_serde.proofs.Common.{ℕ, IfOk, Result, Err, Ok, Vec, List, ◌++◌, ◌≡◌, ap, sym, ◌∙◌, ∥∥₁_map, Text, Event, AreCalls, Form, IsDocument}
 use Rattle.yaml_serde.proofs.Common.{given_for_values, opening, closing, IsStream}
 use Rattle.yaml_base.proofs.Common.{settings_for, bytes_written, list_layout, utf8}
 use Rattle.std.{proofs.lemmas.List.take_all, proofs.lemmas.Str.IsUtf8-had, specs.Prelude.IsUtf8}
@@ -24,13 +24,13 @@ stream_is_utf8 events bytes stream =
     ∙ ap (text_bytes utf8) (sym stream.written.text) in
     (text, (stream.written.raw.scalars, sym (is_text ∙ text_bytes-utf8 text)))
 
-pub document_is_utf8 : (bytes : List ℕ) → IsDocument given_for_values bytes → IsUtf8 bytes
-document_is_utf8 bytes document = IsUtf8-had bytes (∥∥₁_map document is)
+pub document_is_utf8 : (form : Form) (bytes : List ℕ) → IsDocument given_for_values form bytes → IsUtf8 bytes
+document_is_utf8 form bytes document = IsUtf8-had bytes (∥∥₁_map document is)
   where
-    is : (events : List Event) × All IsWriterEvent events × IsStream given_for_values (all_of events) bytes → IsUtf8 bytes
+    is : (events : List Event) × AreCalls form events × IsStream given_for_values (all_of events) bytes → IsUtf8 bytes
     is stream = stream_is_utf8 stream.0 bytes stream.2
 
-pub document_ok : {A E : Type 0} (answer : Result (Vec ℕ A) E) → IfOk answer (λ bytes. IsDocument given_for_values bytes.items)
+pub document_ok : {A E : Type 0} (form : Form) (answer : Result (Vec ℕ A) E) → IfOk answer (λ bytes. IsDocument given_for_values form bytes.items)
     → IfOk answer (λ bytes. IsUtf8 bytes.items)
-document_ok (Ok bytes) document = document_is_utf8 bytes.items document
-document_ok (Err error) document = tt
+document_ok form (Ok bytes) document = document_is_utf8 form bytes.items document
+document_ok form (Err error) document = tt

@@ -9,7 +9,8 @@ pub use mir.Syntax.{w128}
 pub use Rattle.yaml_pen.{proofs.Composing.grows_itself, specs.Wrote.Grows}
 pub use Rattle.yaml_serde.specs.{Outlets.is_kept, Outlets.HandsOn}
 pub use Rattle.yaml_writer.specs.NumberParts.{HasNumber}
-pub use Rattle.yaml_serde.specs.Documents.{IsWriterEvent, int_call, IsDocument, AppendsDocument, GivesEvents}
+pub use Rattle.yaml_serde.specs.Documents.{AreCalls, IsWriterEvent, int_call, IsDocument, AppendsDocument, GivesEvents}
+pub use Rattle.yaml_serde.specs.Forms.{Form, form_for_values, form_of}
 pub use Rattle.yaml_emitter.specs.Given.{seen_settings}
 pub use Rattle.yaml_writer.specs.Given.{given_for_values}
 pub use Rattle.yaml_writer.specs.Writing.{WriterState, opening, closing, with_collection, awaits_node, IsNewWriter, IsStream, Finishes}

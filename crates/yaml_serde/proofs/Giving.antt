@@ -3,14 +3,16 @@ use Rattle.yaml_serde.proofs.Common.{ℕ, ◌<◌, ◌≤◌, OnOk, Option, None
 use Rattle.yaml_serde.proofs.Common.{append-nil, ap, subst, sym, ◌∙◌, arith, Appends, ∥∥₁_map, Text, Event, State, Grows, IsWriterEvent, IsDocument, is_kept}
 use Rattle.yaml_serde.proofs.Common.{GivesEvents, HandsOn, Settings, WriterState, with_collection, awaits_node}
 use mathlib.Core.Logic.{∥∥₁_elim}
-use Rattle.yaml_base.proofs.Common.{inl, inr, length-append, ◌⊎◌}
+use Rattle.yaml_base.proofs.Common.{inl, inr, ◌⊎◌}
 use Rattle.yaml_base.proofs.Prefixes.{prefix_then}
 use Rattle.yaml_base.specs.Prefix.{IsPrefix}
 use Rattle.yaml_writer.proofs.Common.{end_event, GaveEvent}
+use Rattle.yaml_writer.{proofs.OpenLevels.levels_after-append, specs.WasGiven.levels_after}
+use Rattle.yaml_emitter.proofs.Common.{with_all_taken}
 use Rattle.yaml_emitter.specs.{Emits.Emits, Emits.IsPromised}
-use Rattle.std.{proofs.Math.Seq.drop-append_seam, proofs.Math.Seq.take-length, proofs.lemmas.List.length-take, proofs.lemmas.List.take-append-le}
+use Rattle.std.{proofs.Math.Seq.drop-append_seam, proofs.Math.Seq.take-append_seam, proofs.Math.Seq.take-length}
 use Rattle.std.{proofs.Props.props}
-use Rattle.std.specs.{Prelude.IfErr, Prelude.drop}
+use Rattle.std.specs.{Prelude.IfErr, Prelude.drop, Prelude.◌+◌}
 use Rattle.yaml_base.specs.declared.errors.{yaml_error_t.yaml_error_t, yaml_error_t.TheVariants.Memory}
 use Rattle.yaml_base.specs.declared.kinds.CollectionKind.{CollectionKind}
 use Rattle.yaml_base.specs.Sinks.{AppendsFirst}
@@ -18,12 +20,15 @@ use Rattle.yaml_pen.specs.Page.{output_left}
 use Rattle.std.proofs.KnownBytes.{Appends-trans}
 use Rattle.yaml_serde.proofs.Gave.{gave_more, gave_none, gave_taken}
 use Rattle.yaml_serde.proofs.Handing.{failed_is_sent, left_begins}
+use Rattle.yaml_serde.proofs.Nesting.{Leaves, leaves_begin, leaves_end, leaves_scalar, nests_all}
 use Rattle.std.specs.Float.Ieee.{Float, Format, nan, inf, fin}
 use Rattle.std.specs.Prelude.{if◌then◌else◌}
 use Rattle.yaml_writer.specs.Floats.{GivesFloat, special_event}
 use Rattle.yaml_writer.specs.declared.floats.SpecialFloat.{SpecialFloat}
 use Rattle.yaml_writer.specs.declared.floats.SpecialFloat.TheVariants.{Infinity, NegativeInfinity, NotANumber}
-use Rattle.yaml_serde.specs.Documents.{GaveEvents, GivesCall, IsPartial, SendsEvents, end_call, number_call, special_call}
+use Rattle.yaml_serde.specs.Documents.{GaveEvents, GivesCall, IsPartial, IsScalarCall, SendsEvents}
+use Rattle.yaml_serde.specs.Documents.{begin_call, end_call, number_call, scalar_call, special_call}
+use Rattle.yaml_serde.specs.Forms.{begin_event}
 use Rattle.yaml_serde.specs.Outlets.{GaveAndHandedOn, HandsAll, HandsFirst, HandsNone, HasGiven, Outside, Stands, has_failed}
 use Rattle.yaml_serde.specs.ValueCalls.{GavePart, GivesValue, SendsBeginning, SentValue}
 use Rattle.yaml_serde.specs.declared.error.Error.{Error}
@@ -49,21 +54,6 @@ prefix_had xs ys is = record {
 not_kept : false ≡ true → ⊥
 not_kept is = cc
 
--- ---- the collections that are open
-
--- more are open than some that were before
-more_open : {A : Type 0} (outer now : List A) → take (length outer) now ≡ outer → length outer ≤ length now
-more_open outer now is = omega (arith, ap length is, length-take (length outer) now)
-
-open_more : {A : Type 0} (outer now : List A) (kind : A) → take (length outer) now ≡ outer → take (length outer) (now ++ kind ∷ []) ≡ outer
-open_more outer now kind is = take-append-le (length outer) now (kind ∷ []) (more_open outer now is) ∙ is
-
-open_less : {A : Type 0} (outer now : List A) (kind : A) → length outer < length (now ++ kind ∷ []) → take (length outer) (now ++ kind ∷ []) ≡ outer
-    → take (length outer) now ≡ outer
-open_less outer now kind fewer is =
-    let few : length outer ≤ length now = omega (arith, fewer, length-append now (kind ∷ [])) in
-    sym (take-append-le (length outer) now (kind ∷ []) few) ∙ is
-
 -- ---- the document
 
 -- a float is given by one call
@@ -79,10 +69,10 @@ float_call before after format (fin negative significand exponent) answer gave =
 module _ {W : Type 0} (contents : W → Option (List ℕ)) (outside : Outside) where
   abbrev StandsIn : Outlet W → ℕ → WriterState → Type 0
   StandsIn outlet base writer = Stands contents outside outlet base writer
-      -- the events that were given, with some bytes handed on
 
-  abbrev Given : Outlet W → State → Type 0
-  Given outlet emitter = GaveAndHandedOn contents outside.held outside.start.emitter outlet emitter
+  -- the events that were given, with some bytes handed on
+  abbrev Given : Outlet W → WriterState → Type 0
+  Given outlet writer = GaveAndHandedOn contents outside outlet writer.emitter writer.levels
 
   -- a document begins
   pub stands_new : (outlet : Outlet W) {base : ℕ} {writer : WriterState} → writer ≡ outside.start → Appends outside.held (contents outlet.sink.now) []
@@ -90,93 +80,82 @@ module _ {W : Type 0} (contents : W → Option (List ℕ)) (outside : Outside) w
       → StandsIn outlet base writer
   stands_new outlet {base} {writer} is appends kept same count =
       record {
-        given = ∣ begun ∣₁;
+        given = subst (λ (w : WriterState). HasGiven contents outside outlet w.emitter w.levels) (sym is) ∣ begun ∣₁;
         kept = kept;
         same = same;
         base_is = count ∙ ap (λ (w : WriterState). length w.levels) is;
         canonical = ap (λ (w : WriterState). w.canonical) is;
-        above = ap (λ (w : WriterState). take (length outside.start.levels) w.levels) is ∙ take-length outside.start.levels;
       }
     where
-      begun : Given outlet writer.emitter
+      begun : Given outlet outside.start
       begun =
-          let gave : GaveEvents outside.start.emitter [] writer.emitter =
-          subst (λ (w : WriterState). GaveEvents outside.start.emitter [] w.emitter) (sym is) (gave_none outside.start.emitter) in
+          let gave : GaveEvents outside.form outside.start.emitter [] outside.start.emitter = gave_none outside.form outside.start.emitter in
           record {
             taken = [];
             more = [];
             handed = record { sends = appends; none = λ unfailed. refl; kept = λ kept. refl };
             gave = gave;
-            begins = left_begins [] gave.emits (record { rest = output_left writer.emitter.page; parts = refl });
+            begins = left_begins [] gave.emits (record { rest = output_left outside.start.emitter.page; parts = refl });
+            opened = sym (append-nil outside.start.levels);
           }
 
-  -- nothing changes but properties of the next node
-  stands_kept : (outlet : Outlet W) (base : ℕ) (before after : WriterState) → after.emitter ≡ before.emitter → after.canonical ≡ before.canonical
-      → after.levels ≡ before.levels → StandsIn outlet base before → StandsIn outlet base after
-  stands_kept outlet base before after emitter canonical levels stands = record {
-    given = subst (HasGiven contents outside.held outside.start.emitter outlet) (sym emitter) stands.given;
-    kept = stands.kept;
-    same = stands.same;
-    base_is = stands.base_is;
-    canonical = canonical ∙ stands.canonical;
-    above = ap (take (length outside.start.levels)) levels ∙ stands.above;
-  }
-
+  -- nothing changes
   stands_same : (outlet : Outlet W) (base : ℕ) (before after : WriterState) → after ≡ before → StandsIn outlet base before → StandsIn outlet base after
-  stands_same outlet base before after is =
-      stands_kept outlet base before after (ap (λ (w : WriterState). w.emitter) is) (ap (λ (w : WriterState). w.canonical) is)
-      (ap (λ (w : WriterState). w.levels) is)
+  stands_same outlet base before after is stands = subst (StandsIn outlet base) (sym is) stands
 
   -- an event more
   stands_more : (outlet : Outlet W) (base : ℕ) (before after : WriterState) (event : Event) {answer : Result (Unit {0}) yaml_error_t}
-      → IsWriterEvent event → Emits before.emitter (event ∷ []) answer after.emitter → after.canonical ≡ before.canonical
-      → take (length outside.start.levels) after.levels ≡ outside.start.levels → StandsIn outlet base before → StandsIn outlet base after
-  stands_more outlet base before after event call emits canonical above stands =
+      → IsWriterEvent outside.form.flow event → Emits before.emitter (event ∷ []) answer after.emitter → after.canonical ≡ before.canonical
+      → Leaves outside.form.depth outside.start.levels event before.levels after.levels → StandsIn outlet base before → StandsIn outlet base after
+  stands_more outlet base before after event call emits canonical leaves stands =
       record {
         given = ∥∥₁_map stands.given more;
         kept = stands.kept;
         same = stands.same;
         base_is = stands.base_is;
         canonical = canonical ∙ stands.canonical;
-        above = above;
       }
     where
-      more : Given outlet before.emitter → Given outlet after.emitter
-      more given = record {
-        taken = given.taken;
-        more = given.more;
-        handed = given.handed;
-        gave = gave_more outside.start.emitter given.taken before.emitter after.emitter event call emits given.gave;
-        begins = prefix_then given.begins emits.grows.output;
-      }
+      more : Given outlet before → Given outlet after
+      more given =
+          let left = leaves (levels_after given.gave.events []) given.opened (nests_all outside.form.depth given.gave.events given.gave.are.1) in
+          record {
+            taken = given.taken;
+            more = given.more;
+            handed = given.handed;
+            gave = gave_more event call emits given.gave left.1;
+            begins = prefix_then given.begins emits.grows.output;
+            opened = left.0 ∙ ap (λ (own : List CollectionKind). outside.start.levels ++ own) (sym (levels_after-append given.gave.events (event ∷ []) []));
+          }
 
-  gave_one : (outlet : Outlet W) (base : ℕ) (before inside after : WriterState) (event : Event) (answer : Result (Unit {0}) yaml_error_t) → IsWriterEvent event
-      → inside.emitter ≡ before.emitter → inside.canonical ≡ before.canonical → take (length outside.start.levels) inside.levels ≡ outside.start.levels
-      → GaveEvent inside event answer after → StandsIn outlet base before → StandsIn outlet base after
-  gave_one outlet base before inside after event answer call emitter canonical above gave =
-      stands_more outlet base before after event call (subst (λ (e : State). Emits e (event ∷ []) answer after.emitter) emitter gave.emits)
-      (gave.canonical ∙ canonical)
-      (ap (take (length outside.start.levels)) gave.levels ∙ above)
+  gave_scalar : (outlet : Outlet W) (base : ℕ) (before after : WriterState) (event : Event) (answer : Result (Unit {0}) yaml_error_t)
+      → IsScalarCall event → GaveEvent before event answer after → StandsIn outlet base before → StandsIn outlet base after
+  gave_scalar outlet base before after event answer call gave =
+      stands_more outlet base before after event (scalar_call call) gave.emits gave.canonical
+      (leaves_scalar outside.form.depth outside.start.levels call gave.levels)
 
-  -- an event was given, or there was no memory for it
+  -- a scalar was given, or there was no memory for it
   pub stands_given : (answer : Result (Unit {0}) yaml_error_t) {outlet : Outlet W} {base : ℕ} {before after : WriterState} {event : Event}
-      → IsWriterEvent event → Gives before event answer after → StandsIn outlet base before → StandsIn outlet base after
-  stands_given (Ok done) {outlet} {base} {before} {after} {event} call gave stands =
-      gave_one outlet base before before after event (Ok done) call refl refl stands.above gave stands
-  stands_given (Err error) {outlet} {base} {before} {after} {event} call (inl failed) stands =
-      gave_one outlet base before before after event (Err error) call refl refl stands.above failed stands
-  stands_given (Err error) {outlet} {base} {before} {after} {event} call (inr none) stands = stands_same outlet base before after none.1 stands
+      → IsScalarCall event → Gives before event answer after → StandsIn outlet base before → StandsIn outlet base after
+  stands_given (Ok done) {outlet} {base} {before} {after} {event} call gave = gave_scalar outlet base before after event (Ok done) call gave
+  stands_given (Err error) {outlet} {base} {before} {after} {event} call (inl failed) = gave_scalar outlet base before after event (Err error) call failed
+  stands_given (Err error) {outlet} {base} {before} {after} {event} call (inr none) = stands_same outlet base before after none.1
 
-  -- the start of a collection was given, or there was no memory for it
+  gave_begin : (outlet : Outlet W) (base : ℕ) (before after : WriterState) (kind : CollectionKind) (answer : Result (Unit {0}) yaml_error_t)
+      → length before.levels < base + outside.form.depth → GaveEvent (with_collection before kind) (begin_event outside.form.flow kind before) answer after
+      → StandsIn outlet base before → StandsIn outlet base after
+  gave_begin outlet base before after kind answer room gave stands =
+      stands_more outlet base before after (begin_event outside.form.flow kind before) (begin_call kind before) gave.emits gave.canonical
+      (leaves_begin outside.form.depth outside.start.levels outside.form.flow kind before (omega (arith, room, stands.base_is)) gave.levels)
+      stands
+
+  -- the start of a collection was given, for which there was room, or there was no memory for it
   pub stands_begun : (answer : Result (Unit {0}) yaml_error_t) (kind : CollectionKind) {outlet : Outlet W} {base : ℕ} {before after : WriterState}
-      {event : Event} → IsWriterEvent event → Begins kind before event answer after → StandsIn outlet base before → StandsIn outlet base after
-  stands_begun (Ok done) kind {outlet} {base} {before} {after} {event} call gave stands =
-      gave_one outlet base before (with_collection before kind) after event (Ok done) call refl refl
-      (open_more outside.start.levels before.levels kind stands.above) gave stands
-  stands_begun (Err error) kind {outlet} {base} {before} {after} {event} call (inl failed) stands =
-      gave_one outlet base before (with_collection before kind) after event (Err error) call refl refl
-      (open_more outside.start.levels before.levels kind stands.above) failed stands
-  stands_begun (Err error) kind {outlet} {base} {before} {after} {event} call (inr none) stands = stands_same outlet base before after none.1 stands
+      → length before.levels < base + outside.form.depth → Begins kind before (begin_event outside.form.flow kind before) answer after
+      → StandsIn outlet base before → StandsIn outlet base after
+  stands_begun (Ok done) kind {outlet} {base} {before} {after} room gave = gave_begin outlet base before after kind (Ok done) room gave
+  stands_begun (Err error) kind {outlet} {base} {before} {after} room (inl failed) = gave_begin outlet base before after kind (Err error) room failed
+  stands_begun (Err error) kind {outlet} {base} {before} {after} room (inr none) = stands_same outlet base before after none.1
 
   -- a collection of the document was ended
   stands_end : (answer : Result (Unit {0}) yaml_error_t) (outlet : Outlet W) (base : ℕ) (before after : WriterState) → base < length before.levels
@@ -185,9 +164,8 @@ module _ {W : Type 0} (contents : W → Option (List ℕ)) (outside : Outside) w
   stands_end answer outlet base before after inner (inr ended) stands =
       stands_more outlet base before after (end_event ended.kind) (end_call ended.kind) ended.emits
       (ap (λ (w : WriterState). w.canonical) ended.rest)
-      (ap (λ (w : WriterState). take (length outside.start.levels) w.levels) ended.rest
-      ∙ open_less outside.start.levels ended.outer ended.kind (omega (arith, inner, stands.base_is, ap length ended.levels))
-      (ap (take (length outside.start.levels)) (sym ended.levels) ∙ stands.above))
+      (leaves_end outside.form.depth outside.start.levels ended.kind (omega (arith, inner, stands.base_is))
+      (ended.levels ∙ ap (λ (w : WriterState). w.levels ++ ended.kind ∷ []) (sym ended.rest)))
       stands
 
   -- or a tag awaited its node
@@ -204,15 +182,15 @@ module _ {W : Type 0} (contents : W → Option (List ℕ)) (outside : Outside) w
   pub stands_tagged : (answer : Result (Unit {0}) yaml_error_t) (tag : Text) {outlet : Outlet W} {base : ℕ} {before after : WriterState}
       → OnOk answer (after ≡ record before { tag = Some tag }) → IfErr answer (λ error. (error ≡ Memory) × (after ≡ before))
       → StandsIn outlet base before → StandsIn outlet base after
-  stands_tagged (Ok done) tag {outlet} {base} {before} {after} tagged none =
-      stands_kept outlet base before after (ap (λ (w : WriterState). w.emitter) tagged) (ap (λ (w : WriterState). w.canonical) tagged)
-      (ap (λ (w : WriterState). w.levels) tagged)
-  stands_tagged (Err error) tag {outlet} {base} {before} {after} tagged none = stands_same outlet base before after none.1
+  stands_tagged (Ok done) tag {outlet} {base} {before} {after} tagged none stands =
+      stands_same outlet base (record before { tag = Some tag }) after tagged
+      (record { given = stands.given; kept = stands.kept; same = stands.same; base_is = stands.base_is; canonical = stands.canonical })
+  stands_tagged (Err error) tag {outlet} {base} {before} {after} tagged none stands = stands_same outlet base before after none.1 stands
 
   -- a sink that didn't fail has what was taken
-  sends_taken : (outlet : Outlet W) (emitter : State) → has_failed outlet.handing ≡ false → (gave : Given outlet emitter)
+  sends_taken : (outlet : Outlet W) (writer : WriterState) → has_failed outlet.handing ≡ false → (gave : Given outlet writer)
       → Appends outside.held (contents outlet.sink.now) gave.taken
-  sends_taken outlet emitter unfailed gave =
+  sends_taken outlet writer unfailed gave =
       subst (Appends outside.held (contents outlet.sink.now))
       (ap (λ (l : List ℕ). gave.taken ++ l) (gave.handed.none unfailed) ∙ append-nil gave.taken) gave.handed.sends
 
@@ -226,27 +204,28 @@ module _ {W : Type 0} (contents : W → Option (List ℕ)) (outside : Outside) w
   stands_sent : (old new : Outlet W) (base : ℕ) (before after : WriterState) → old.handing ≡ Open → HandsAll contents old before new after
       → new.sink.ghost_name ≡ old.sink.ghost_name → StandsIn old base before → StandsIn new base after
   stands_sent old new base before after is hands same stands =
-      record {
+      stands_same new base sent after hands.writer
+      (record {
         given = ∥∥₁_map stands.given handed;
         kept = ap is_kept hands.stays ∙ stands.kept;
         same = λ sent. same ∙ stands.same sent;
         base_is = stands.base_is;
-        canonical = ap (λ (w : WriterState). w.canonical) hands.writer ∙ stands.canonical;
-        above = ap (λ (w : WriterState). take (length outside.start.levels) w.levels) hands.writer ∙ stands.above;
-      }
+        canonical = stands.canonical;
+      })
     where
+      sent : WriterState
+      sent = record before { emitter = with_all_taken before.emitter }
+
       left : List ℕ
       left = output_left before.emitter.page
 
       is_open : new.handing ≡ Open
       is_open = hands.stays ∙ is
 
-      handed : Given old before.emitter → Given new after.emitter
+      handed : Given old before → Given new sent
       handed given =
-          let sends = sends_taken old before.emitter (ap has_failed is) given in
-          let gave : GaveEvents outside.start.emitter (given.taken ++ left) after.emitter =
-          subst (λ (w : WriterState). GaveEvents outside.start.emitter (given.taken ++ left) w.emitter) (sym hands.writer)
-          (gave_taken outside.start.emitter given.taken before.emitter given.gave) in
+          let sends = sends_taken old before (ap has_failed is) given in
+          let gave : GaveEvents outside.form outside.start.emitter (given.taken ++ left) sent.emitter = gave_taken given.gave in
           record {
             taken = given.taken ++ left;
             more = [];
@@ -257,7 +236,8 @@ module _ {W : Type 0} (contents : W → Option (List ℕ)) (outside : Outside) w
               kept = λ kept. absurd (not_kept (sym (ap is_kept is_open) ∙ kept));
             };
             gave = gave;
-            begins = left_begins [] gave.emits (record { rest = output_left after.emitter.page; parts = refl });
+            begins = left_begins [] gave.emits (record { rest = output_left sent.emitter.page; parts = refl });
+            opened = given.opened;
           }
 
   -- a beginning of what is left was handed on
@@ -271,12 +251,11 @@ module _ {W : Type 0} (contents : W → Option (List ℕ)) (outside : Outside) w
         same = λ sent. same ∙ stands.same sent;
         base_is = stands.base_is;
         canonical = stands.canonical;
-        above = stands.above;
       })
     where
-      handed : Given old before.emitter → Given new before.emitter
+      handed : Given old before → Given new before
       handed given =
-          let sends = sends_taken old before.emitter (ap has_failed is) given in
+          let sends = sends_taken old before (ap has_failed is) given in
           record {
             taken = given.taken;
             more = hands.sends.0;
@@ -287,6 +266,7 @@ module _ {W : Type 0} (contents : W → Option (List ℕ)) (outside : Outside) w
             };
             gave = given.gave;
             begins = left_begins hands.sends.0 given.gave.emits hands.sends.1;
+            opened = given.opened;
           }
 
   -- bytes were handed on
@@ -306,14 +286,14 @@ module _ {W : Type 0} (contents : W → Option (List ℕ)) (outside : Outside) w
 
   -- all its bytes stayed with the writer
   kept_gives : (outlet : Outlet W) (base : ℕ) (writer : WriterState) → outside.keeps ≡ true → StandsIn outlet base writer
-      → GivesEvents outside.start.emitter writer.emitter
+      → GivesEvents outside.form outside.start.emitter writer.emitter
   kept_gives outlet base writer kept stands = ∥∥₁_map stands.given gives
     where
-      gives : Given outlet writer.emitter → GaveEvents outside.start.emitter [] writer.emitter
+      gives : Given outlet writer → GaveEvents outside.form outside.start.emitter [] writer.emitter
       gives given =
-          subst (λ (bytes : List ℕ). GaveEvents outside.start.emitter bytes writer.emitter) (given.handed.kept (stands.kept ∙ kept)) given.gave
-      -- bytes that were written before stay
+          subst (λ (bytes : List ℕ). GaveEvents outside.form outside.start.emitter bytes writer.emitter) (given.handed.kept (stands.kept ∙ kept)) given.gave
 
+  -- bytes that were written before stay
   given_grows : (outlet : Outlet W) (base : ℕ) (writer : WriterState) → StandsIn outlet base writer → Grows outside.start.emitter.page writer.emitter.page
   given_grows outlet base writer stands =
       record {
@@ -321,38 +301,46 @@ module _ {W : Type 0} (contents : W → Option (List ℕ)) (outside : Outside) w
         output = prefix_had outside.start.emitter.page.output writer.emitter.page.output (∥∥₁_map stands.given (λ given. given.gave.grows.output));
       }
 
+  -- what was open before stays so
+  had_above : (outlet : Outlet W) (base : ℕ) (writer : WriterState) → StandsIn outlet base writer
+      → take (length outside.start.levels) writer.levels ≡ outside.start.levels
+  had_above outlet base writer stands =
+      ∥∥₁_elim {P = take (length outside.start.levels) writer.levels ≡ outside.start.levels} stands.given (hlevel props)
+      (λ given. ap (take (length outside.start.levels)) given.opened ∙ take-append_seam outside.start.levels (levels_after given.gave.events []))
+
   -- whatever it is, it is a part of a value
-  gave_part : (outlet : Outlet W) (base : ℕ) (writer : WriterState) → outside.keeps ≡ true → StandsIn outlet base writer → GavePart outside.start writer
+  gave_part : (outlet : Outlet W) (base : ℕ) (writer : WriterState) → outside.keeps ≡ true → StandsIn outlet base writer
+      → GavePart outside.form outside.start writer
   gave_part outlet base writer kept stands = record {
     gives = kept_gives outlet base writer kept stands;
     grows = given_grows outlet base writer stands;
     canonical = stands.canonical;
-    above = stands.above;
+    above = had_above outlet base writer stands;
   }
-      -- and a whole one, if the writer has no error, and nothing more is open than before
 
+  -- and a whole one, if the writer has no error, and nothing more is open than before
   pub gives_value : (answer : Result (Unit {0}) Error) {outlet : Outlet W} {base : ℕ} {writer : WriterState} → outside.keeps ≡ true
       → StandsIn outlet base writer → OnOk answer ((length writer.levels ≡ base) × (awaits_node writer ≡ false))
-      → OnOk answer (writer.emitter.error ≡ None) → GivesValue outside.start answer writer
+      → OnOk answer (writer.emitter.error ≡ None) → GivesValue outside.form outside.start answer writer
   gives_value (Ok done) {outlet} {base} {writer} kept stands whole sound = record {
     part = gave_part outlet base writer kept stands;
     whole = (
-      sym (take-length writer.levels) ∙ ap (λ (count : ℕ). take count writer.levels) (whole.0 ∙ stands.base_is) ∙ stands.above,
+      sym (take-length writer.levels) ∙ ap (λ (count : ℕ). take count writer.levels) (whole.0 ∙ stands.base_is) ∙ had_above outlet base writer stands,
       whole.1,
     );
     sound = sound;
   }
   gives_value (Err error) {outlet} {base} {writer} kept stands whole sound = gave_part outlet base writer kept stands
-      -- if the sink didn't fail, it has the bytes that were taken
 
+  -- if the sink didn't fail, it has the bytes that were taken
   sent_events : (outlet : Outlet W) (base : ℕ) (writer : WriterState) → has_failed outlet.handing ≡ false → StandsIn outlet base writer
-      → SendsEvents outside.held outside.start.emitter (contents outlet.sink.now) writer.emitter
+      → SendsEvents outside.form outside.held outside.start.emitter (contents outlet.sink.now) writer.emitter
   sent_events outlet base writer unfailed stands =
-      ∥∥₁_map stands.given (λ gave. (gave.taken, sends_taken outlet writer.emitter unfailed gave, gave.gave))
+      ∥∥₁_map stands.given (λ gave. (gave.taken, sends_taken outlet writer unfailed gave, gave.gave))
 
   -- nothing more was handed on
   pub sent_part : {outlet : Outlet W} {base : ℕ} {writer : WriterState} → IsPromised writer.emitter → StandsIn outlet base writer
-      → SendsBeginning outside.held outside.start.emitter (contents outlet.sink.now)
+      → SendsBeginning outside.form outside.held outside.start.emitter (contents outlet.sink.now)
   sent_part {outlet} {base} {writer} promised stands opened untaken = ∥∥₁_map stands.given part
     where
       given : Settings
@@ -361,8 +349,9 @@ module _ {W : Type 0} (contents : W → Option (List ℕ)) (outside : Outside) w
       output : List ℕ
       output = writer.emitter.page.output
 
-      part : Given outlet writer.emitter
-          → (bytes : List ℕ) × AppendsFirst outside.held (contents outlet.sink.now) bytes × ((bytes ≡ []) ⊎ (IsPartial given bytes ⊎ IsDocument given bytes))
+      part : Given outlet writer
+          → (bytes : List ℕ) × AppendsFirst outside.held (contents outlet.sink.now) bytes
+          × ((bytes ≡ []) ⊎ (IsPartial given outside.form bytes ⊎ IsDocument given outside.form bytes))
       part gave =
           let handed_on = gave.taken ++ gave.more in
           let begins : IsPrefix handed_on output =
@@ -382,6 +371,6 @@ module _ {W : Type 0} (contents : W → Option (List ℕ)) (outside : Outside) w
 
   -- all that was taken was handed on
   pub sent_value : {outlet : Outlet W} {base : ℕ} {writer : WriterState} → has_failed outlet.handing ≡ false → IsPromised writer.emitter
-      → StandsIn outlet base writer → SentValue outside.held outside.start.emitter (contents outlet.sink.now) writer.emitter
+      → StandsIn outlet base writer → SentValue outside.form outside.held outside.start.emitter (contents outlet.sink.now) writer.emitter
   sent_value {outlet} {base} {writer} unfailed promised stands =
       record { whole = sent_events outlet base writer unfailed stands; first = sent_part promised stands }

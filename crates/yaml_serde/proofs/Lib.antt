@@ -1,4 +1,5 @@
 pub mod Common
+pub mod Nesting
 pub mod Handing
 pub mod Gave
 pub mod Giving

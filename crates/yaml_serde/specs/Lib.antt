@@ -1,4 +1,5 @@
 pub mod Documents
+pub mod Forms
 pub mod Outlets
 pub mod ValueCalls
 pub mod Variants

@@ -1,13 +1,16 @@
 -- The outlets for the bytes of a document, and what was written of it so far.
 use Rattle.std.specs.Io.KnownBytes.{Appends}
-use Rattle.std.specs.Prelude.{◌≡◌, ℕ, Bool, true, false, Option, None, Result, Ok, Err, List, [], ◌++◌, length, take}
+use Rattle.std.specs.Prelude.{◌≡◌, ℕ, Bool, true, false, Option, None, Result, Ok, Err, List, [], ◌++◌, length}
 use Rattle.std.specs.Borrow.{GName}
 use Rattle.yaml_base.specs.Prefix.{IsPrefix}
 use Rattle.yaml_pen.specs.Page.{output_left}
 use Rattle.yaml_base.specs.Sinks.{AppendsFirst}
+use Rattle.yaml_base.specs.declared.kinds.CollectionKind.{CollectionKind}
 use Rattle.yaml_emitter.specs.State.{State, bytes_taken, new_state, with_all_taken}
+use Rattle.yaml_writer.specs.WasGiven.{levels_after}
 use Rattle.yaml_writer.specs.Writing.{WriterState}
 use Rattle.yaml_serde.specs.Documents.{GaveEvents}
+use Rattle.yaml_serde.specs.Forms.{Form, form_for_values}
 use Rattle.yaml_serde.specs.declared.error.Error.{Error}
 use Rattle.yaml_serde.specs.declared.error.Cause.{Cause}
 use Rattle.yaml_serde.specs.declared.error.Cause.TheVariants as causes
@@ -70,27 +73,15 @@ pub record Handed {W : Type 0} (contents : W → Option (List ℕ)) (held : Opti
   pub none : has_failed outlet.handing ≡ false → more ≡ []
   pub kept : is_kept outlet.handing ≡ true → taken ≡ []
 
--- the writer was given the events of some calls, and what was handed on is a beginning of its output; what was written before stays
-pub record GaveAndHandedOn {W : Type 0} (contents : W → Option (List ℕ)) (held : Option (List ℕ)) (start : State) (outlet : Outlet W)
-    (emitter : State) : Type 0 where
-  pub taken : List ℕ
-  pub more : List ℕ
-  pub handed : Handed contents held outlet taken more
-  pub gave : GaveEvents start taken emitter
-  pub begins : IsPrefix ((bytes_taken start ++ taken) ++ more) emitter.page.output
-
--- and so, whatever was given
-abbrev pub HasGiven : {W : Type 0} → (W → Option (List ℕ)) → Option (List ℕ) → State → Outlet W → State → Type 0
-HasGiven contents held start outlet emitter = ∥ GaveAndHandedOn contents held start outlet emitter ∥₁
-
 -- the state before a document: its writer and the name of the reference to it, the bytes of its sink if they are known and the name
--- of the reference to that, and whether the document's bytes stay with the writer
+-- of the reference to that, whether the document's bytes stay with the writer, and the form of its collections
 pub record Outside : Type 0 where
   pub start : WriterState
   pub lent : GName
   pub held : Option (List ℕ)
   pub name : GName
   pub keeps : Bool
+  pub form : Form
 
 -- of which nothing is known
 abbrev pub some_outside : Outside
@@ -101,31 +92,48 @@ some_outside =
       held = None;
       name = 0;
       keeps = true;
+      form = form_for_values;
     }
 
--- a document begins whose bytes stay with this writer
-pub record BeginsKept (outside : Outside) (writer : WriterState) (writer_name : GName) : Type 0 where
+-- the writer was given the events of some calls, and what was handed on is a beginning of its output; what was written before stays; the
+-- collections that were open before still are, and those that the events leave open
+pub record GaveAndHandedOn {W : Type 0} (contents : W → Option (List ℕ)) (outside : Outside) (outlet : Outlet W) (emitter : State)
+    (levels : List CollectionKind) : Type 0 where
+  pub taken : List ℕ
+  pub more : List ℕ
+  pub handed : Handed contents outside.held outlet taken more
+  pub gave : GaveEvents outside.form outside.start.emitter taken emitter
+  pub begins : IsPrefix ((bytes_taken outside.start.emitter ++ taken) ++ more) emitter.page.output
+  pub opened : levels ≡ outside.start.levels ++ levels_after gave.events []
+
+-- and so, whatever was given
+abbrev pub HasGiven : {W : Type 0} → (W → Option (List ℕ)) → Outside → Outlet W → State → List CollectionKind → Type 0
+HasGiven contents outside outlet emitter levels = ∥ GaveAndHandedOn contents outside outlet emitter levels ∥₁
+
+-- a document of this form begins whose bytes stay with this writer
+pub record BeginsKept (outside : Outside) (form : Form) (writer : WriterState) (writer_name : GName) : Type 0 where
   pub start : writer ≡ outside.start
   pub lent : writer_name ≡ outside.lent
   pub held : outside.held ≡ None
   pub keeps : outside.keeps ≡ true
+  pub form_is : form ≡ outside.form
 
 -- or whose bytes are handed on to the sink that has these bytes
-pub record BeginsSent (outside : Outside) (writer : WriterState) (writer_name : GName) (bytes : Option (List ℕ)) (sink_name : GName)
+pub record BeginsSent (outside : Outside) (form : Form) (writer : WriterState) (writer_name : GName) (bytes : Option (List ℕ)) (sink_name : GName)
     : Type 0 where
   pub start : writer ≡ outside.start
   pub lent : writer_name ≡ outside.lent
   pub held : outside.held ≡ bytes
   pub name : outside.name ≡ sink_name
   pub keeps : outside.keeps ≡ false
+  pub form_is : form ≡ outside.form
 
 -- a document within a writer, which is handed on by the reference of this name: the collections that were open before stay so, and below the
 -- base of the document
 pub record Stands {W : Type 0} (contents : W → Option (List ℕ)) (outside : Outside) (outlet : Outlet W) (base : ℕ) (writer : WriterState)
     : Type 0 where
-  pub given : HasGiven contents outside.held outside.start.emitter outlet writer.emitter
+  pub given : HasGiven contents outside outlet writer.emitter writer.levels
   pub kept : is_kept outlet.handing ≡ outside.keeps
   pub same : outside.keeps ≡ false → outlet.sink.ghost_name ≡ outside.name
   pub base_is : base ≡ length outside.start.levels
   pub canonical : writer.canonical ≡ outside.start.canonical
-  pub above : take (length outside.start.levels) writer.levels ≡ outside.start.levels

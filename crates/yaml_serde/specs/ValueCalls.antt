@@ -4,40 +4,41 @@ use Rattle.yaml_pen.specs.Wrote.{Grows}
 use Rattle.yaml_emitter.specs.State.{State, bytes_taken}
 use Rattle.yaml_writer.specs.Writing.{WriterState, awaits_node, opening}
 use Rattle.yaml_serde.specs.Documents.{AppendsBeginning, GivesEvents, SendsEvents}
+use Rattle.yaml_serde.specs.Forms.{Form}
 use Rattle.yaml_serde.specs.declared.error.Error.{Error}
 
 -- ---- a value that stays with the writer
 
--- the events of some calls were given; what was written before stays, and so does what was open
-pub record GavePart (before after : WriterState) : Type 0 where
-  pub gives : GivesEvents before.emitter after.emitter
+-- the events of some calls were given, in this form; what was written before stays, and so does what was open
+pub record GavePart (form : Form) (before after : WriterState) : Type 0 where
+  pub gives : GivesEvents form before.emitter after.emitter
   pub grows : Grows before.emitter.page after.emitter.page
   pub canonical : after.canonical ≡ before.canonical
   pub above : take (length before.levels) after.levels ≡ before.levels
 
 -- they are whole: nothing else is open, no anchor and no tag awaits its node, and the emitter has no error
-pub record GaveValue (before after : WriterState) : Type 0 where
-  pub part : GavePart before after
+pub record GaveValue (form : Form) (before after : WriterState) : Type 0 where
+  pub part : GavePart form before after
   pub whole : (after.levels ≡ before.levels) × (awaits_node after ≡ false)
   pub sound : after.emitter.error ≡ None
 
 -- a value was given; or, with an error, a part of it
-abbrev pub GivesValue : WriterState → Result (Unit {0}) Error → WriterState → Type 0
-GivesValue before (Ok done) after = GaveValue before after
-GivesValue before (Err error) after = GavePart before after
+abbrev pub GivesValue : Form → WriterState → Result (Unit {0}) Error → WriterState → Type 0
+GivesValue form before (Ok done) after = GaveValue form before after
+GivesValue form before (Err error) after = GavePart form before after
 
 -- ---- a value that is handed on to a sink
 
 -- if a document began in the emitter, and nothing was taken, the known bytes of the sink grow by a beginning of one
-abbrev pub SendsBeginning : Option (List ℕ) → State → Option (List ℕ) → Type 0
-SendsBeginning held before now = before.events ≡ opening → bytes_taken before ≡ [] → AppendsBeginning before.given held now
+abbrev pub SendsBeginning : Form → Option (List ℕ) → State → Option (List ℕ) → Type 0
+SendsBeginning form held before now = before.events ≡ opening → bytes_taken before ≡ [] → AppendsBeginning before.given form held now
 
 -- the sink was handed on what is taken of the emitter's output
-pub record SentValue (held : Option (List ℕ)) (before : State) (now : Option (List ℕ)) (after : State) : Type 0 where
-  pub whole : SendsEvents held before now after
-  pub first : SendsBeginning held before now
+pub record SentValue (form : Form) (held : Option (List ℕ)) (before : State) (now : Option (List ℕ)) (after : State) : Type 0 where
+  pub whole : SendsEvents form held before now after
+  pub first : SendsBeginning form held before now
 
 -- a value was given and handed on; or, with an error, a beginning of it
-abbrev pub SendsValue : Option (List ℕ) → State → Result (Unit {0}) Error → Option (List ℕ) → State → Type 0
-SendsValue held before (Ok done) now after = SentValue held before now after
-SendsValue held before (Err error) now after = SendsBeginning held before now
+abbrev pub SendsValue : Form → Option (List ℕ) → State → Result (Unit {0}) Error → Option (List ℕ) → State → Type 0
+SendsValue form held before (Ok done) now after = SentValue form held before now after
+SendsValue form held before (Err error) now after = SendsBeginning form held before now

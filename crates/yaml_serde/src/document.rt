@@ -1,9 +1,10 @@
 //! A document that is being written.
-ghost use Rattle.std.specs.Prelude.{◌≡◌, chars, false, true, None, Ok, OnOk, Some, length};
-ghost use Rattle.yaml_writer.specs.Writing.{WriterState, awaits_node, text_event};
+ghost use Rattle.std.specs.Prelude.{◌≡◌, ◌+◌, ◌≤◌, ℕ, chars, Bool, false, true, None, Ok, OnOk, Some, length};
+ghost use Rattle.yaml_writer.specs.Writing.{Begins, WriterState, awaits_node, text_event};
+ghost use Rattle.yaml_serde.specs.Forms.{begin_event, form_of};
 ghost use Rattle.yaml_serde.specs.Outlets.{BeginsKept, BeginsSent, HandsOn, Outside, Stands, some_outside};
 ghost use Rattle.yaml_serde.specs.ValueCalls.{GivesValue, SendsValue};
-ghost use Rattle.yaml_serde.specs.Variants.{GivesAndSends, GivesMapping};
+ghost use Rattle.yaml_serde.specs.Variants.{GivesAndSends, GivesCollection};
 
 use crate::error::{Cause, Error};
 use crate::outlet::{Handing, Outlet, hand_on};
@@ -11,7 +12,10 @@ use crate::scalars::{Scalar, give_scalar};
 use std::alloc::Global;
 use std::io::Write;
 use std::marker::{Brand, PhantomData};
-use yaml_writer::{Writer, YAML_BLOCK_MAPPING_STYLE, YAML_BLOCK_SEQUENCE_STYLE, yaml_error_t};
+use yaml_writer::{
+    CollectionKind, ValueSettings, Writer, YAML_BLOCK_MAPPING_STYLE, YAML_BLOCK_SEQUENCE_STYLE,
+    YAML_FLOW_MAPPING_STYLE, YAML_FLOW_SEQUENCE_STYLE, yaml_error_t,
+};
 
 /// A type that names the state before a document.
 pub(crate) trait Given {
@@ -22,16 +26,21 @@ pub(crate) trait Given {
 pub(crate) trait Target {
     ghost state: { Self → WriterState };
 
+    ghost in_flow: { Self → Bool };
+
+    /// The most collections that the writer may have open.
+    ghost most: { Self → ℕ };
+
     /// Writes a node that is neither a text nor a collection.
     fn scalar(&mut self, scalar: Scalar<'_>) -> Result<(), Error>;
 
     fn text(&mut self, value: &str) -> Result<(), Error>
         ensures { OnOk result (GivesAndSends (state self.old) (text_event (state self.old) (chars value.now)) (state self.new)) };
 
-    fn begin_mapping(&mut self) -> Result<(), Error>
-        ensures { OnOk result (GivesMapping (state self.old) (state self.new)) };
-
-    fn begin_sequence(&mut self) -> Result<(), Error>;
+    /// Begins a collection, unless it is too deep.
+    fn begin(&mut self, kind: CollectionKind) -> Result<(), Error>
+        ensures begun { OnOk result (GivesCollection (in_flow self.old) kind (state self.old) (state self.new)) }
+        ensures depth { OnOk result (length (state self.new).levels ≤ most self.old) };
 
     /// Ends the innermost collection that was begun here.
     fn end(&mut self) -> Result<(), Error>;
@@ -53,15 +62,21 @@ pub(crate) struct Document<'w, 'a, G: Given, W: Write> {
     outlet: Outlet<'a, W>,
     /// The number of the writer's collections that are no part of the document.
     base: usize,
+    settings: ValueSettings,
     marker: PhantomData<G>,
     ghost stands: { Stands W.contents G.outside outlet base writer.now },
     ghost lent: { writer.ghost_name ≡ G.outside.lent },
+    ghost form: { form_of settings ≡ G.outside.form },
 }
 
 impl<'w, 'a, G: Given, W: Write> Document<'w, 'a, G, W> {
     /// Makes a document whose bytes stay with the writer; the sink gets none.
-    pub(crate) fn kept(writer: &'w mut Writer<Global>, nowhere: &'a mut W) -> Document<'w, 'a, G, W>
-        requires { BeginsKept G.outside writer.now writer.ghost_name }
+    pub(crate) fn kept(
+        writer: &'w mut Writer<Global>,
+        nowhere: &'a mut W,
+        settings: ValueSettings,
+    ) -> Document<'w, 'a, G, W>
+        requires { BeginsKept G.outside (form_of settings) writer.now writer.ghost_name }
     {
         let base = writer.depth();
         Document {
@@ -71,13 +86,18 @@ impl<'w, 'a, G: Given, W: Write> Document<'w, 'a, G, W> {
                 handing: Handing::Kept,
             },
             base,
+            settings,
             marker: PhantomData,
         }
     }
 
     /// Makes a document whose bytes are handed on to a sink.
-    pub(crate) fn sent(writer: &'w mut Writer<Global>, sink: &'a mut W) -> Document<'w, 'a, G, W>
-        requires { BeginsSent G.outside writer.now writer.ghost_name (W.contents sink.now) sink.ghost_name }
+    pub(crate) fn sent(
+        writer: &'w mut Writer<Global>,
+        sink: &'a mut W,
+        settings: ValueSettings,
+    ) -> Document<'w, 'a, G, W>
+        requires { BeginsSent G.outside (form_of settings) writer.now writer.ghost_name (W.contents sink.now) sink.ghost_name }
     {
         let base = writer.depth();
         Document {
@@ -87,6 +107,7 @@ impl<'w, 'a, G: Given, W: Write> Document<'w, 'a, G, W> {
                 handing: Handing::Open,
             },
             base,
+            settings,
             marker: PhantomData,
         }
     }
@@ -106,7 +127,7 @@ impl<'w, 'a, G: Given, W: Write> Document<'w, 'a, G, W> {
         requires { G.outside.keeps ≡ false }
         ensures lent { result.0.ghost_name ≡ G.outside.lent }
         ensures same { result.1.ghost_name ≡ G.outside.name }
-        ensures sends { SendsValue G.outside.held G.outside.start.emitter result.2 (W.contents result.1.now) result.0.now.emitter }
+        ensures sends { SendsValue G.outside.form G.outside.held G.outside.start.emitter result.2 (W.contents result.1.now) result.0.now.emitter }
     {
         let Document { writer, outlet, .. } = self;
         let Outlet { sink, handing } = outlet;
@@ -122,7 +143,7 @@ impl<'w, 'a, G: Given, W: Write> Document<'w, 'a, G, W> {
     pub(crate) fn into_writer(self) -> (&'w mut Writer<Global>, &'a mut W, Result<(), Error>)
         requires { G.outside.keeps ≡ true }
         ensures lent { result.0.ghost_name ≡ G.outside.lent }
-        ensures gives { GivesValue G.outside.start result.2 result.0.now }
+        ensures gives { GivesValue G.outside.form G.outside.start result.2 result.0.now }
     {
         let Document {
             writer,
@@ -139,6 +160,10 @@ impl<'w, 'a, G: Given, W: Write> Document<'w, 'a, G, W> {
 impl<G: Given, W: Write> Target for Document<'_, '_, G, W> {
     ghost state = { λ document. document.writer.now };
 
+    ghost in_flow = { λ document. document.settings.flow };
+
+    ghost most = { λ document. document.base + document.settings.depth };
+
     fn scalar(&mut self, scalar: Scalar<'_>) -> Result<(), Error> {
         let given = give_scalar(self.writer, scalar);
         self.settle(given)
@@ -149,13 +174,11 @@ impl<G: Given, W: Write> Target for Document<'_, '_, G, W> {
         self.settle(given)
     }
 
-    fn begin_mapping(&mut self) -> Result<(), Error> {
-        let begun = self.writer.begin_mapping(YAML_BLOCK_MAPPING_STYLE);
-        self.settle(begun)
-    }
-
-    fn begin_sequence(&mut self) -> Result<(), Error> {
-        let begun = self.writer.begin_sequence(YAML_BLOCK_SEQUENCE_STYLE);
+    fn begin(&mut self, kind: CollectionKind) -> Result<(), Error> {
+        if self.writer.depth().saturating_sub(self.base) >= self.settings.depth {
+            return Err(Error::from(Cause::TooDeep));
+        }
+        let begun = start(self.writer, kind, &self.settings);
         self.settle(begun)
     }
 
@@ -169,6 +192,28 @@ impl<G: Given, W: Write> Target for Document<'_, '_, G, W> {
 
     fn tagged(&mut self, tag: &str) -> Result<(), Error> {
         Ok(self.writer.tagged(tag)?)
+    }
+}
+
+/// Gives a writer the start of a collection.
+fn start(
+    writer: &mut Writer<Global>,
+    kind: CollectionKind,
+    settings: &ValueSettings,
+) -> Result<(), yaml_error_t>
+    ensures { Begins kind writer.old (begin_event settings.now.flow kind writer.old) result writer.new }
+{
+    match kind {
+        CollectionKind::Sequence => writer.begin_sequence(if settings.flow {
+            YAML_FLOW_SEQUENCE_STYLE
+        } else {
+            YAML_BLOCK_SEQUENCE_STYLE
+        }),
+        CollectionKind::Mapping => writer.begin_mapping(if settings.flow {
+            YAML_FLOW_MAPPING_STYLE
+        } else {
+            YAML_BLOCK_MAPPING_STYLE
+        }),
     }
 }
 

@@ -8,7 +8,8 @@ use yaml_writer::yaml_error_t;
 
 /// The reason why a value isn't written, and the place in it. `Display` prints the path, a colon and the cause; without a path, the
 /// cause alone.
-#[derive(Debug, Drop)]
+#[derive(Debug, Drop, thiserror::Error)]
+#[error(fmt = print_located)]
 pub struct Error {
     pub cause: Cause,
     /// The keys and indices that lead to the place at which the value's own `serialize` failed, as `jobs.build.steps[2].with`. A key
@@ -20,48 +21,43 @@ pub struct Error {
 }
 
 /// The reason why a value isn't written.
-#[derive(Debug, Drop)]
+#[derive(Debug, Drop, thiserror::Error)]
 pub enum Cause {
-    /// The emitter's error: `TooDeep`, `WriteError`, that of a `Serialize` by hand that writes no value, several, or a
-    /// variant's name without its data, or an error that the writer had before.
+    /// The emitter's error: `WriteError`, that of a `Serialize` by hand that writes no value, several, or a variant's name without its
+    /// data, or an error that the writer had before. `TooDeep` is the emitter's own limit of 1,000,000 levels.
+    #[error("{0}")]
     Emitter(yaml_error_t),
     /// The message of the value's own `serialize`.
+    #[error("{0}")]
     Custom(String),
+    /// A sequence or a map lies deeper than was allowed. Its start isn't written.
+    #[error("sequences and maps nest too deep")]
+    TooDeep,
     /// A node would have two tags: the data of a variant with a tag is a variant with data, or bytes.
+    #[error("the data of a variant has a tag of its own")]
     TwoTags,
     /// A flattened value is neither a struct nor a map.
+    #[error("a flattened value is neither a struct nor a map")]
     Flattened,
     /// The sink failed.
+    #[error("cannot write: {0}")]
     Sink(io::Error),
     /// An allocation failed.
+    #[error("out of memory")]
     Memory,
 }
 
-impl fmt::Display for Cause {
-    fn fmt<W: fmt::Write>(&self, f: &mut fmt::Formatter<W>) -> fmt::Result {
-        let text = match self {
-            Cause::Emitter(error) => return write!(f, "{error}"),
-            Cause::Sink(error) => return write!(f, "cannot write: {error}"),
-            Cause::Custom(message) => message.as_str(),
-            Cause::TwoTags => "the data of a variant has a tag of its own",
-            Cause::Flattened => "a flattened value is neither a struct nor a map",
-            Cause::Memory => "out of memory",
-        };
-        f.write_str(text)
+/// Prints a path, if there is one, and a cause.
+fn print_located<W: fmt::Write>(
+    cause: &Cause,
+    path: &Option<String>,
+    f: &mut fmt::Formatter<W>,
+) -> fmt::Result {
+    match path {
+        Some(path) => write!(f, "{path}: {cause}"),
+        None => write!(f, "{cause}"),
     }
 }
-
-impl fmt::Display for Error {
-    fn fmt<W: fmt::Write>(&self, f: &mut fmt::Formatter<W>) -> fmt::Result {
-        let cause = &self.cause;
-        match &self.path {
-            Some(path) => write!(f, "{path}: {cause}"),
-            None => write!(f, "{cause}"),
-        }
-    }
-}
-
-impl std::error::Error for Error {}
 
 impl From<Cause> for Error {
     ghost from_gives = { λ cause error. error ≡ without_path cause };

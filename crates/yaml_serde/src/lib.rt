@@ -16,7 +16,7 @@ pub use serializing::{
 };
 pub use settings::{SerdeSettings, Variants};
 pub use yaml_writer::{
-    DocumentEnd, Quotes, Settings, Writer, YAML_ANY_BREAK, YAML_ANY_ENCODING, YAML_CR_BREAK,
-    YAML_CRLN_BREAK, YAML_LN_BREAK, YAML_UTF8_ENCODING, YAML_UTF16BE_ENCODING,
+    DocumentEnd, Quotes, Settings, ValueSettings, Writer, YAML_ANY_BREAK, YAML_ANY_ENCODING,
+    YAML_CR_BREAK, YAML_CRLN_BREAK, YAML_LN_BREAK, YAML_UTF8_ENCODING, YAML_UTF16BE_ENCODING,
     YAML_UTF16LE_ENCODING, value_settings, yaml_break_t, yaml_encoding_t, yaml_error_t,
 };

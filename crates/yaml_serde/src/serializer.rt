@@ -1,8 +1,9 @@
 //! The serializer over a document.
-ghost use Rattle.std.specs.Prelude.{◌++◌, ◌≡◌, chars, IfOk, OnOk, string_bytes};
+ghost use Rattle.std.specs.Prelude.{◌++◌, ◌≡◌, ◌≤◌, chars, IfOk, OnOk, length, string_bytes};
 ghost use Rattle.serde.specs.Spelling.{spelled};
 ghost use Rattle.serde.specs.declared.name.NameKind.TheVariants as kind;
-ghost use Rattle.yaml_serde.specs.Variants.{BeginsVariant, GivesAndSends, GivesMapping};
+ghost use Rattle.yaml_base.specs.declared.kinds.CollectionKind.TheVariants.{Mapping};
+ghost use Rattle.yaml_serde.specs.Variants.{BeginsVariant, GivesAndSends, GivesCollection};
 ghost use Rattle.yaml_writer.specs.Writing.{text_event};
 ghost use Rattle.yaml_serde.specs.declared.settings.Variants.TheVariants as variants;
 
@@ -14,6 +15,7 @@ use crate::settings::Variants;
 use serde::{Case, NameKind, Serialize, Serializer};
 use std::alloc::{AllocError, Global};
 use std::fmt::Display;
+use yaml_writer::CollectionKind;
 
 /// The subject of the next call.
 #[derive(Clone, Copy)]
@@ -42,9 +44,9 @@ struct ValueSerializer<D: Target> {
 /// Returns a document with a value more, and the answer of the value's own `serialize`, with the path to its error.
 pub(crate) fn with_value<T: Serialize, D: Target>(
     alloc: Global,
-    variants: Variants,
     document: D,
     value: &T,
+    variants: Variants,
 ) -> (D, Result<(), Error>) {
     let mut serializer = ValueSerializer {
         alloc,
@@ -86,11 +88,12 @@ impl<D: Target> ValueSerializer<D> {
     }
 
     fn open_map(&mut self) -> Result<(), Error>
-        ensures { OnOk result (GivesMapping (D.state self.old.document) (D.state self.new.document)) }
+        ensures begun { OnOk result (GivesCollection (D.in_flow self.old.document) Mapping (D.state self.old.document) (D.state self.new.document)) }
+        ensures depth { OnOk result (length (D.state self.new.document).levels ≤ D.most self.old.document) }
     {
         self.path.enter(LevelKind::Map)?;
         self.next = Next::Node;
-        self.document.begin_mapping()
+        self.document.begin(CollectionKind::Mapping)
     }
 
     fn enter_unwritten(&mut self, next: Next) -> Result<(), Error>
@@ -103,7 +106,7 @@ impl<D: Target> ValueSerializer<D> {
 
     /// Begins a variant with data, in place of a map of one entry.
     fn begin_variant(&mut self, name: &str, case: Case) -> Result<(), Error>
-        ensures { OnOk result (BeginsVariant self.old.variants (spelled case kind.Variant name.now)
+        ensures { OnOk result (BeginsVariant self.old.variants (D.in_flow self.old.document) (spelled case kind.Variant name.now)
             (D.state self.old.document) (D.state self.new.document)) }
     {
         match self.variants {
@@ -114,7 +117,7 @@ impl<D: Target> ValueSerializer<D> {
 
     /// Gives the next node the tag of a variant.
     fn begin_tagged(&mut self, name: &str, case: Case) -> Result<(), Error>
-        ensures { OnOk result (BeginsVariant variants.Tags (spelled case kind.Variant name.now)
+        ensures { OnOk result (BeginsVariant variants.Tags (D.in_flow self.old.document) (spelled case kind.Variant name.now)
             (D.state self.old.document) (D.state self.new.document)) }
     {
         let tag = spelled_text(self.alloc, "!", NameKind::Variant, name, case)?;
@@ -124,7 +127,7 @@ impl<D: Target> ValueSerializer<D> {
 
     /// Begins a map, whose first key is the name of a variant.
     fn begin_keyed(&mut self, name: &str, case: Case) -> Result<(), Error>
-        ensures { OnOk result (BeginsVariant variants.OneKeyMap (spelled case kind.Variant name.now)
+        ensures { OnOk result (BeginsVariant variants.OneKeyMap (D.in_flow self.old.document) (spelled case kind.Variant name.now)
             (D.state self.old.document) (D.state self.new.document)) }
     {
         let key = spelled_text(self.alloc, "", NameKind::Variant, name, case)?;
@@ -247,7 +250,7 @@ impl<D: Target> Serializer for ValueSerializer<D> {
 
     fn begin_seq(&mut self, _len: Option<usize>) -> Result<(), Error> {
         self.prepare_node()?;
-        self.document.begin_sequence()?;
+        self.document.begin(CollectionKind::Sequence)?;
         self.path.enter(LevelKind::Sequence)
     }
 

@@ -1,4 +1,4 @@
-use Rattle.yaml_serde.proofs.Common.{false}
+use Rattle.yaml_serde.proofs.Common.{false, form_of}
 use Rattle.yaml_serde.proofs.serializing.write_and_send.Given as goal
 
 abbrev pub ghosts-handed : goal.ghosts-handed
@@ -10,5 +10,6 @@ ghosts-handed g a =
         held = g.W.Write.contents a.sink.now;
         name = a.sink.ghost_name;
         keeps = false;
+        form = form_of a.settings.values;
       };
     }

@@ -12,4 +12,5 @@ invariant_of-result g c =
           (subst (λ (held : Option (List ℕ)). Appends held now []) (sym c.requires.held) tt) (sym c.requires.keeps)
           (λ sent. cc) c.depth-base.ensures;
       lent = c.requires.lent;
+      form = c.requires.form_is;
     }

@@ -13,4 +13,5 @@ invariant_of-result g c =
           (subst (λ (held : Option (List ℕ)). Appends held now []) (sym c.requires.held) (Appends-nil now)) (sym c.requires.keeps)
           (λ sent. sym c.requires.name) c.depth-base.ensures;
       lent = c.requires.lent;
+      form = c.requires.form_is;
     }

@@ -7,4 +7,5 @@ invariant_of-self g c =
     record {
       stands = stands_handed _ _ c.hand_on.result c.hand_on.ensures.hands c.hand_on.ensures.same self.stands;
       lent = self.lent;
+      form = self.form;
     }

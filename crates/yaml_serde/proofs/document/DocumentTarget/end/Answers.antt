@@ -10,4 +10,5 @@ invariant_of-self-2 g c =
     record {
       stands = stands_ended _ _ answer.result inner answer.ensures.awaited answer.ensures.ended self.stands;
       lent = self.lent;
+      form = self.form;
     }

@@ -5,4 +5,4 @@ pub invariant_of-self : goal.invariant_of-self
 invariant_of-self g c =
     let self = c.args.self.now in
     let answer = c.give_scalar-given in
-    record { stands = stands_given _ _ answer.result answer.ensures.1 answer.ensures.2 self.stands; lent = self.lent }
+    record { stands = stands_given _ _ answer.result answer.ensures.1 answer.ensures.2 self.stands; lent = self.lent; form = self.form }

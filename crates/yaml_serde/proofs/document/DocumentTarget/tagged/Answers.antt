@@ -9,4 +9,5 @@ invariant_of-self g c =
     record {
       stands = stands_tagged _ _ answer.result (chars c.args.tag.now) answer.ensures.tagged answer.ensures.memory self.stands;
       lent = self.lent;
+      form = self.form;
     }

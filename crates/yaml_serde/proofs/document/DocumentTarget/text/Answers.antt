@@ -12,6 +12,7 @@ invariant_of-self g c =
     record {
       stands = stands_given _ _ answer.result (text_call self.writer.now (chars c.args.value.now)) answer.ensures self.stands;
       lent = self.lent;
+      form = self.form;
     }
 
 pub returns : goal.returns
