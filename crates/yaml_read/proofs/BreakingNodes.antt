@@ -4,7 +4,7 @@ use Rattle.yaml_base.proofs.Common.{arith, append_assoc, append-nil, codes, flat
 use Rattle.yaml_base.specs.values.TypedValues.{TypedValue, most_nested}
 use Rattle.yaml_base.{specs.scalars.DoubleQuoted.quote, specs.values.ValueText.in_quotes}
 use Rattle.std.proofs.lemmas.Str.{IsUtf8-past_char, encode_ascii, encodes-append}
-use Rattle.std.specs.Prelude.{Err, ℤ, ◌^◌}
+use Rattle.std.specs.Prelude.{ℤ, ◌^◌}
 use Rattle.std.{proofs.lemmas.Bool.cases_lt, specs.Fmt.signed_decimal, specs.Int.Signed.mag, specs.Str.IsUtf8}
 use Rattle.yaml_read.specs.Grammar.{behind_in, behind_tag, characters, these_or_those, integer, line_then, node, nothing, quoted_text, unless_deep, word_then}
 use Rattle.yaml_read.specs.Heads.{ReadsCharacter, tag_word}
@@ -12,7 +12,7 @@ use Rattle.yaml_read.specs.Places.{BreaksAt, BreaksOff, IsHere, IsHereOrMemory, 
 use Rattle.yaml_value.specs.OpenLevels.{OpenLevel, items_open, pairs_open, value_due}
 use Rattle.yaml_value.specs.declared.keys.Keys.{Keys}
 use Rattle.yaml_read.specs.AllowedKeys.{KeysAllow, OpenKeysAllow}
-use Rattle.yaml_read.specs.{Opened.HasRead, Opened.IsOpen, Opened.OpenCanBeRead, Places.no_end, Sound.IsCharacter, Words.OrMemory}
+use Rattle.yaml_read.specs.{Opened.HasRead, Opened.IsOpen, Opened.OpenCanBeRead, Places.no_end, Sound.IsCharacter, Words.IsMemory}
 use Rattle.yaml_read.specs.{Words.past_word, declared.errors.Stop.Stop, declared.heads.Kind.Kind}
 use Rattle.yaml_read.proofs.{Breaking.here, Breaking.missing, Breaking.passed, Breaking.passed_at, Breaking.second_of}
 use Rattle.yaml_read.proofs.{CharactersRead.ReadSoFar}
@@ -85,11 +85,10 @@ no_character whole bytes error passes utf8 none reads place =
         (unread (character_text true goes.0) bytes utf8 (λ rest is. reads goes.0 rest goes.1 is))
 
 -- a text that is refused as a whole
-pub whole_refused : {T : Type 0} (Holds : T → Type 0) (bytes : List ℕ) (reason error : Stop) → IsWholeWord bytes reason error
-    → OrMemory Holds (Err reason) → OrMemory Holds (Err error)
-whole_refused Holds bytes stop.Memory error is reads = subst (λ (e : Stop). OrMemory Holds (Err e)) (sym is) tt
-whole_refused Holds bytes (stop.Refused left) error is reads = absurd reads
-whole_refused Holds bytes (stop.TooDeep left) error is reads = absurd reads
+pub whole_refused : (bytes : List ℕ) (reason error : Stop) → IsWholeWord bytes reason error → IsMemory reason → IsMemory error
+whole_refused bytes stop.Memory error is reads = subst IsMemory (sym is) tt
+whole_refused bytes (stop.Refused left) error is reads = absurd reads
+whole_refused bytes (stop.TooDeep left) error is reads = absurd reads
 
 pub whole_placed : (bytes : List ℕ) (reason error : Stop) → IsWholeWord bytes reason error → IsHereOrMemory bytes error
 whole_placed bytes stop.Memory error is = inl is
@@ -97,15 +96,14 @@ whole_placed bytes (stop.Refused left) error is = inr is
 whole_placed bytes (stop.TooDeep left) error is = inr is
 
 -- the bytes begin with no integer
-pub no_integer : {T : Type 0} (Holds : ℤ → Text → T → Type 0) (bytes : List ℕ) (error : Stop) → IsUtf8 bytes → IsHereOrMemory bytes error
-    → ((n : ℤ) (rest : Text) → mag n < 2 ^ 63 → bytes ≡ encode_utf8_all (in_quotes (signed_decimal n) ++ rest) → OrMemory (Holds n rest) (Err error))
+pub no_integer : (bytes : List ℕ) (error : Stop) → IsUtf8 bytes → IsHereOrMemory bytes error
+    → ((n : ℤ) (rest : Text) → mag n < 2 ^ 63 → bytes ≡ encode_utf8_all (in_quotes (signed_decimal n) ++ rest) → IsMemory error)
     → BreaksAt integer bytes error
-no_integer Holds bytes error utf8 (inl memory) reads = subst (BreaksAt integer bytes) (sym memory) tt
-no_integer Holds bytes error utf8 (inr place) reads =
+no_integer bytes error utf8 (inl memory) reads = subst (BreaksAt integer bytes) (sym memory) tt
+no_integer bytes error utf8 (inr place) reads =
     here integer bytes error (encode_utf8_all (in_quotes (signed_decimal (pos 0)))) [] place (pos 0, few, (refl, tt))
     (λ next after is. subst (λ (w : List ℕ). past_word w bytes ≡ None) (sym is.2.0)
-    (unread (in_quotes (signed_decimal is.0)) bytes utf8 (λ rest starts.
-    subst (λ (e : Stop). OrMemory (Holds is.0 rest) (Err e)) place (reads is.0 rest is.1 starts))))
+    (unread (in_quotes (signed_decimal is.0)) bytes utf8 (λ rest starts. subst IsMemory place (reads is.0 rest is.1 starts))))
   where
     few : mag (pos 0) < 2 ^ 63
     few = omega arith

@@ -1,5 +1,5 @@
 -- Texts between quotes can be read in one way only.
-use Rattle.yaml_base.proofs.Common.{ℕ, true, false, true≢false, None, Some, Option, List, [], ◌∷◌, ◌++◌, refl, ◌≡◌, ap, sym, ◌∙◌, ◌⊎◌, inl, inr}
+use Rattle.yaml_base.proofs.Common.{ℕ, true, true≢false, None, Some, Option, List, [], ◌∷◌, ◌++◌, refl, ◌≡◌, ap, sym, ◌∙◌, ◌⊎◌, inl, inr}
 use Rattle.yaml_base.proofs.Common.{append_assoc, append-nil, arith, codes, flat_map, all_scalars, encode_utf8, encode_utf8_all, character_text, ◌==◌, ◌&&◌}
 use Rattle.yaml_base.proofs.Common.{and_parts, escape_after_backslash, hex_digits, letter_among, needs_escape, short_escapes, Text}
 use Rattle.yaml_base.specs.{scalars.DoubleQuoted.quote, values.ValueText.in_quotes, Characters.backslash, reading.ReadDouble.letter_meaning}

@@ -10,7 +10,7 @@ use lib.Utf8.{scalar}
 use Rattle.std.{specs.Prelude.String, specs.Prelude.IfSome, specs.Prelude.MatchOption, specs.Str.IsUtf8, specs.String.string_bytes}
 use Rattle.std.{proofs.lemmas.Str.cons_from_encodes, proofs.lemmas.Str.encodes-append, proofs.lemmas.Option.same_Some, specs.Borrow.Bor}
 use Rattle.yaml_read.specs.Sound.{NumberRead, IsByNumber, IsCharacter, IsEscape}
-use Rattle.yaml_read.{proofs.Encoded.word_encoded, proofs.Firsts.four_text}
+use Rattle.yaml_read.proofs.{Encoded.word_encoded, Escapes.is_answer, Escapes.is_answer-is, Firsts.four_text}
 
 -- the first character of a text is a Unicode scalar value
 pub scalar_of : (bytes rest : List ℕ) (c : ℕ) → IsUtf8 bytes → bytes ≡ encode_utf8 c ++ rest → all_scalars (c ∷ []) ≡ true
@@ -68,15 +68,6 @@ four_read bytes behind rest upper lower few first second =
         ∙ sym (four_text (upper * 256 + lower) []) ∙ append-nil (hex_digits 4 (upper * 256 + lower))
 
 -- ---- letters
-
--- an answer is there and is this number
-abbrev is_answer : Option ℕ → ℕ → Bool
-is_answer None n = false
-is_answer (Some m) n = m == n
-
-is_answer-is : (o : Option ℕ) (n : ℕ) → is_answer o n ≡ true → o ≡ Some n
-is_answer-is None n h = cc
-is_answer-is (Some m) n h = ap (λ k. Some k) (eqb-true m n h)
 
 -- each letter is that of its meaning, if that needs an escape
 abbrev letters_fit : (letters meanings : Text) → Bool

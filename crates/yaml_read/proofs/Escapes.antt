@@ -5,11 +5,11 @@ use Rattle.yaml_base.specs.scalars.DoubleQuoted.{ShortEscape, short_escapes, let
 use Rattle.yaml_base.{proofs.Common.character_text, specs.reading.ReadDouble.letter_meaning, specs.reading.ReadDouble.digit_meaning, specs.Characters.backslash}
 
 -- an answer is there and is this number
-abbrev is_answer : Option ℕ → ℕ → Bool
+abbrev pub is_answer : Option ℕ → ℕ → Bool
 is_answer None n = false
 is_answer (Some m) n = m == n
 
-is_answer-is : (o : Option ℕ) (n : ℕ) → is_answer o n ≡ true → o ≡ Some n
+pub is_answer-is : (o : Option ℕ) (n : ℕ) → is_answer o n ≡ true → o ≡ Some n
 is_answer-is None n h = cc
 is_answer-is (Some m) n h = ap (λ k. Some k) (eqb-true m n h)
 

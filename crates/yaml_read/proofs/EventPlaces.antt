@@ -7,7 +7,8 @@ use Rattle.yaml_read.specs.{EventSteps.trail_behind_opening, declared.leads.Awai
 use Rattle.yaml_read.specs.EventTexts.{Pending, closing_text, lead_text, outside, trail_text}
 use Rattle.yaml_read.specs.Places.{IsHere, IsWholeWord}
 use Rattle.yaml_read.specs.RunPlaces.{IsEventPlace, IsNodePlace, StopsBy, after_bracket, after_node, in_event_at}
-use Rattle.yaml_read.specs.Words.{OrMemory, past_word}
+use Rattle.yaml_read.specs.Words.{IsMemory, past_word}
+use Rattle.yaml_read.proofs.Words.{memory_only}
 use Rattle.yaml_read.specs.declared.errors.Stop.{Stop}
 use Rattle.yaml_read.specs.declared.errors.Stop.TheVariants as stop
 
@@ -29,10 +30,8 @@ whole_placed_at IsPlace bytes (stop.Refused left) error place is = subst (StopsB
 whole_placed_at IsPlace bytes (stop.TooDeep left) error place is = subst (StopsBy IsPlace) (sym is) place
 
 -- memory has no place
-pub memory_placed : (IsPlace : ℕ → Type 0) (error : Stop) → OrMemory (λ (_ : List ℕ). Unit {0}) (Err error) → StopsBy IsPlace error
-memory_placed IsPlace stop.Memory is = tt
-memory_placed IsPlace (stop.Refused left) is = absurd is
-memory_placed IsPlace (stop.TooDeep left) is = absurd is
+pub memory_placed : (IsPlace : ℕ → Type 0) (error : Stop) → IsMemory error → StopsBy IsPlace error
+memory_placed IsPlace error is = subst (StopsBy IsPlace) (sym (memory_only error is)) tt
 
 -- another place has the property, too
 placed_then : {T : Type 0} (One Other : ℕ → Type 0) (answer : Result T Stop) → ((left : ℕ) → One left → Other left) → IfErr answer (StopsBy One)

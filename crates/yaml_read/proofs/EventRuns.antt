@@ -15,7 +15,8 @@ use Rattle.yaml_read.specs.EventReads.{EndDue, EndRead, IsEventRead, RootRead, R
 use Rattle.yaml_read.proofs.NameEnds.{longer_over, nothing_over, opening_some}
 use Rattle.yaml_read.proofs.EventSteps.{behind_text, end_shorter, mapping_ends, node_event, sequence_ends}
 use Rattle.yaml_read.specs.EventSteps.{ReadsEvent, await_opened, text_behind_lead, trail_behind_opening}
-use Rattle.yaml_read.{specs.Words.OrMemory, specs.declared.errors.Stop.Stop, proofs.Encoded.word_encoded, proofs.Words.no_word}
+use Rattle.yaml_read.{specs.Words.OrMemory, specs.declared.errors.Stop.Stop, proofs.Encoded.word_encoded, proofs.EventPlaces.memory_placed}
+use Rattle.yaml_read.proofs.Words.{memory_only, no_word}
 use Rattle.yaml_read.specs.declared.errors.Stop.TheVariants as stop
 
 -- ---- a name ends before an event in a collection
@@ -309,9 +310,6 @@ run_sound whole found final bytes ended is end = (
 
 -- ---- why reading stops
 
-pub memory_stops : (whole : List ℕ) (error : Stop) → error ≡ stop.Memory → RunStops whole error
-memory_stops whole error is = subst (λ (e : Stop). RunStops whole e) (sym is) tt
-
 -- no event goes on
 no_run : (whole : List ℕ) (found : List Event) (levels : List Pending) (bytes : List ℕ) → RunDue whole found (Some levels) bytes
     → NoEventBegins levels bytes → (error : Stop) (events : List Event) (node : Text) → HasRunText [] events node → All IsInNode events
@@ -332,7 +330,7 @@ fails_at_event whole found levels bytes (stop.Refused left) begun due none place
 fails_at_event whole found levels bytes (stop.TooDeep left) begun due none place = absurd place
 
 pub memory_fails : (whole : List ℕ) (error : Stop) → error ≡ stop.Memory → RunFails whole error
-memory_fails whole error is = record { stops = memory_stops whole error is; reads = λ events node run in_node whole_is. is }
+memory_fails whole error is = record { stops = subst (λ (e : Stop). RunStops whole e) (sym is) tt; reads = λ events node run in_node whole_is. is }
 
 -- the root has ended
 pub root_ended : (whole : List ℕ) (found : List Event) (bytes : List ℕ) → RunEnded whole found bytes × RunDue whole found None bytes
@@ -366,9 +364,7 @@ pub end_answer : {T E : Type 0} (seen : E → Event) (bytes : List ℕ) (old new
     → bytes ≡ codes "\n" → OrMemory (λ _. new ≡ old ++ last ∷ []) result → EndRead (map seen old) bytes (map seen new) result
 end_answer seen bytes old new last (Ok given) ends is pushed =
     (ap (map seen) pushed ∙ map-append seen old (last ∷ []) ∙ ap (λ (e : Event). map seen old ++ e ∷ []) ends, is)
-end_answer seen bytes old new last (Err stop.Memory) ends is pushed = (tt, λ _. refl)
-end_answer seen bytes old new last (Err (stop.Refused left)) ends is pushed = absurd pushed
-end_answer seen bytes old new last (Err (stop.TooDeep left)) ends is pushed = absurd pushed
+end_answer seen bytes old new last (Err error) ends is pushed = (memory_placed _ error pushed, λ _. memory_only error pushed)
 
 -- why the document's end isn't read
 pub end_lacking : (bytes : List ℕ) (error : Stop) → LacksEnd bytes error

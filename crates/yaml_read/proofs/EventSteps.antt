@@ -9,7 +9,7 @@ use Rattle.yaml_read.specs.EventTexts.{Pending, BeginsNode, IsInNode, begins_nod
 use Rattle.yaml_read.specs.EventTexts.{is_mapping, is_scalar, is_sequence, item_awaited, key_awaited, lead_text, may_come, next_open, left_open, opening_text}
 use Rattle.yaml_read.specs.EventTexts.{IsOver, outside, trail_text, value_awaited}
 use Rattle.yaml_read.proofs.NameEnds.{behind_over, end_over, longer_over, opening_some}
-use Rattle.yaml_read.specs.{Awaits.IsInnermostAwait, Awaits.LeadStands, Awaits.can_end, Awaits.closing_event, Awaits.seen_await, declared.leads.Await.Await}
+use Rattle.yaml_read.specs.{Awaits.LeadStands, Awaits.can_end, Awaits.closing_event, Awaits.seen_await, declared.leads.Await.Await}
 use Rattle.yaml_read.specs.{declared.errors.Stop.Stop, declared.steps.Progress.TheVariants.Continues}
 use Rattle.yaml_read.proofs.{Awaits.closing_encoded, Awaits.lead_encoded, Awaits.lead_or_end, Awaits.trail_encoded, Words.no_word}
 

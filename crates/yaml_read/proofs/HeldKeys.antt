@@ -3,14 +3,14 @@ use Rattle.yaml_base.proofs.Common.{ℕ, ◌+◌, ◌≤◌, suc, Bool, true, fa
 use Rattle.yaml_base.proofs.Common.{append_assoc, append-nil, length-append, take, ◌||◌, bytes_eq}
 use Rattle.yaml_base.specs.values.TypedValues.{TypedValue}
 use Rattle.yaml_base.specs.values.ValueText.{line_at, value_text}
-use Rattle.std.specs.Prelude.{Ok, Err, String}
+use Rattle.std.specs.Prelude.{Ok, Err, Result, String}
 use Rattle.std.specs.BTreeSet.{BTreeSet, contains_text}
 use Rattle.std.proofs.Math.Seq.{take-append_seam}
 use Rattle.std.proofs.lemmas.Str.{encodes-append}
 use Rattle.yaml_base.proofs.Common.{codes, encode_utf8_all}
 use Rattle.yaml_value.specs.OpenLevels.{OpenLevel, items_open, pairs_open, seen_level, seen_levels, value_due, with_value}
 use Rattle.yaml_read.specs.HeldKeys.{FollowsKeys, HasKeys, HeldAtNode, HeldKeys, HoldKeys, HoldsKeys, InnermostIsNew, IsLastLevel, KeyEndsBefore}
-use Rattle.yaml_read.specs.HeldKeys.{KeysFollowed, TakenOff, key_bytes}
+use Rattle.yaml_read.specs.HeldKeys.{FollowedBy, KeysFollowed, TakenOff, key_bytes}
 use Rattle.yaml_read.specs.Opened.{IsOpen}
 use Rattle.yaml_read.specs.Remaining.{column_in}
 use Rattle.yaml_read.specs.Settled.{BeginsLevel, Ended, Moved, begins_list, begins_map, value_given, none_ended, one_ended, level_opened}
@@ -20,6 +20,8 @@ use Rattle.yaml_read.specs.declared.keys.OpenKeys.{OpenKeys}
 use Rattle.yaml_read.proofs.KeyTexts.{key_between}
 use Rattle.yaml_read.proofs.SeenLevels.{levels_length}
 use Rattle.yaml_value.proofs.SeenLevels.{level_more}
+use Rattle.yaml_value.specs.declared.keys.Keys.{Keys}
+use Rattle.yaml_value.specs.declared.keys.Keys.TheVariants as keys
 use Rattle.yaml_value.specs.declared.levels.Level.{Level}
 
 -- a text more in a set
@@ -203,7 +205,7 @@ pub record OffAt {A : Type 0} (whole : List ℕ) (level : OpenLevel) (levels : L
   pub off : IsOff whole level outer new held
 
 pub off_at : {A : Type 0} (old new : List (OpenKeys A)) (levels : List (Level A)) (level : Level A) (rest : List ℕ) (held : OpenKeys A)
-    (can : FollowsKeys old (seen_levels levels) rest) → IsLastLevel level levels → TakenOff (length levels) old new rest held
+    (can : FollowsKeys keys.Unique old (seen_levels levels) rest) → IsLastLevel level levels → TakenOff (length levels) old new rest held
     → OffAt can.whole (seen_level level) (seen_levels levels) new held
 off_at old new levels level rest held can last taken =
     let outer = seen_levels last.outer in
@@ -218,9 +220,21 @@ off_at old new levels level rest held can last taken =
     }
 
 pub node_may : {A : Type 0} (old new : List (OpenKeys A)) (levels : List (Level A)) (level : Level A) (rest : List ℕ) (held : OpenKeys A)
-    → FollowsKeys old (seen_levels levels) rest → IsLastLevel level levels → TakenOff (length levels) old new rest held
+    → FollowsKeys keys.Unique old (seen_levels levels) rest → IsLastLevel level levels → TakenOff (length levels) old new rest held
     → KeyEndsBefore (seen_level level) held.start.now rest
 node_may old new levels level rest held can last taken =
     let at = off_at old new levels level rest held can last taken in
     ends_before can.whole (seen_level level) at.outer held rest at.off.0
     (subst (λ (l : List OpenLevel). IsOpen can.whole l rest) at.is can.opened)
+
+-- ---- by whether keys must differ
+
+pub unique_follows : {A : Type 0} (mode : Keys) (old new : List (OpenKeys A)) (after : List OpenLevel) (rest : List ℕ) (result : Result (Unit {0}) KeyStop)
+    → mode ≡ keys.Unique → ((can : FollowsKeys keys.Unique old after rest) → KeysFollowed can.whole after new result)
+    → (can : FollowsKeys mode old after rest) → FollowedBy mode can.whole after new result
+unique_follows keys.Unique old new after rest result is followed can = followed can
+unique_follows keys.MayRepeat old new after rest result is followed can = absurd (let never = is in cc)
+
+pub any_follows : {A : Type 0} (mode : Keys) (whole : List ℕ) (after : List OpenLevel) (new : List (OpenKeys A)) → mode ≡ keys.MayRepeat
+    → FollowedBy mode whole after new (Ok tt)
+any_follows {A} mode whole after new is = subst (λ (m : Keys). FollowedBy {A = A} m whole after new (Ok tt)) (sym is) tt

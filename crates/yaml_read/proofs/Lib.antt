@@ -9,7 +9,6 @@ pub mod Firsts
 pub mod QuotedTexts
 pub mod Scalars
 pub mod FirstCharacters
-pub mod Completeness
 pub mod Texts
 pub mod ReadBack
 pub mod UniqueSoFar
@@ -24,8 +23,8 @@ pub mod WrittenValues
 pub mod KeyTexts
 pub mod HeldKeys
 pub mod SettledLevels
-pub mod UniqueTexts
 pub mod ChosenKeys
+pub mod UniqueTexts
 pub mod Breaking
 pub mod Entries
 pub mod BreakingNodes

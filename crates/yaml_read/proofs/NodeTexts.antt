@@ -6,13 +6,13 @@ use Rattle.yaml_base.specs.{scalars.DoubleQuoted.quote, values.ValueText.in_quot
 use Rattle.std.{specs.Prelude.Result, specs.Prelude.Ok, specs.Prelude.Err, specs.Prelude.String, proofs.lemmas.List.append_cancel_left}
 use Rattle.std.{proofs.lemmas.Str.encodes-append, proofs.lemmas.Str.IsUtf8-string_bytes, proofs.lemmas.Str.scalars-chars, specs.String.string_bytes}
 use Rattle.yaml_read.proofs.TagTexts.{IsSpelled, is_spelled, of_document, of_type, whole}
-use Rattle.yaml_read.specs.{Places.IsWholeWord, Words.OrMemory, Words.past_word}
+use Rattle.yaml_read.specs.{Places.IsWholeWord, Words.IsMemory, Words.past_word}
 use Rattle.yaml_read.specs.EventTexts.{BeginsNode, IsAnchor, IsOver, ends_name, is_alias, is_mapping, is_scalar, is_sequence, opening_text}
 use Rattle.yaml_read.specs.WrittenTags.{HasHeldText, mapping_opened, sequence_opened, value_quoted}
 use Rattle.yaml_read.specs.Beginnings.{IsHeldRead, IsOpeningRead, IsScalarRead, IsTaggedRead, ReadOr}
 use Rattle.yaml_read.proofs.NameEnds.{held_over}
 use Rattle.yaml_read.proofs.NameTexts.{anchor_absent, anchor_there, space_there}
-use Rattle.yaml_read.proofs.{Encoded.word_encoded, TagBytes.same_first, Turns.cut_is, Words.no_word}
+use Rattle.yaml_read.proofs.{Encoded.word_encoded, TagBytes.same_first, Turns.cut_is, Words.memory_only, Words.no_word}
 use Rattle.yaml_read.specs.declared.errors.Stop.{Stop}
 use Rattle.yaml_read.specs.declared.errors.Stop.TheVariants as stop
 
@@ -162,18 +162,25 @@ at_alias _ _ rest text inside (of_alias name named) is cut =
 at_alias _ _ rest text inside (of_parts anchor tag held written named sound scalars has) is cut =
     absurd (no_alias_mark anchor tag written rest inside sound (sym is ∙ cut))
 
--- and else the parts of a node
-pub record IsNodeOf (event : Event) (rest : Text) (text : List ℕ) : Type 0 where
-  pub anchor : Option Text
+-- an event with this anchor begins there; its tag, and the text after it
+pub record IsTaggedAt (anchor : Option Text) (event : Event) (rest : Text) (behind : List ℕ) : Type 0 where
   pub tag : Text
   pub held : Held
   pub written : Text
   pub is : opening_event_of anchor tag held ≡ event
-  pub named : IsAnchor anchor
   pub sound : tag_fault tag ≡ None
   pub scalars : all_scalars tag ≡ true
   pub has : HasHeldText held written
-  pub stands : text ≡ encode_utf8_all (anchor_text anchor ++ (tag_text (Some tag) false ++ (written ++ rest)))
+  pub stands : behind ≡ encode_utf8_all (tag_text (Some tag) false ++ (written ++ rest))
+
+-- and else the parts of a node
+pub record IsNodeOf (event : Event) (rest : Text) (text : List ℕ) : Type 0 where
+  pub anchor : Option Text
+  pub named : IsAnchor anchor
+  pub behind : Text
+  pub stands : text ≡ encode_utf8_all (anchor_text anchor ++ behind)
+  pub none : past_word (codes "&") (encode_utf8_all behind) ≡ None
+  pub tagged : IsTaggedAt anchor event rest (encode_utf8_all behind)
 
 pub at_parts : (event : Event) (written rest : Text) (text : List ℕ) → HasOpening event written → text ≡ encode_utf8_all (written ++ rest)
     → past_word (codes "*") text ≡ None → IsNodeOf event rest text
@@ -182,15 +189,11 @@ at_parts _ _ rest text (of_alias name named) is none =
 at_parts _ _ rest text (of_parts anchor tag held written named sound scalars has) is none =
     record {
       anchor = anchor;
-      tag = tag;
-      held = held;
-      written = written;
-      is = refl;
       named = named;
-      sound = sound;
-      scalars = scalars;
-      has = has;
+      behind = tag_text (Some tag) false ++ (written ++ rest);
       stands = is ∙ ap encode_utf8_all (opening_parts anchor tag written rest);
+      none = no_anchor_mark tag (written ++ rest) sound;
+      tagged = record { tag = tag; held = held; written = written; is = refl; sound = sound; scalars = scalars; has = has; stands = refl };
     }
 
 both_read : (first second : Text) (text behind rest : List ℕ) → text ≡ encode_utf8_all first ++ behind → behind ≡ encode_utf8_all second ++ rest
@@ -247,33 +250,14 @@ pub alias_read : (name : Text) (inside rest : List ℕ) → inside ≡ encode_ut
     → codes "*" ++ inside ≡ encode_utf8_all (opening_text (alias name)) ++ rest
 alias_read name inside rest read = ap (λ t. 0x2A ∷ t) read ∙ ap (λ t. t ++ rest) (sym (word_encoded (codes "*") name refl))
 
--- an event with this anchor begins there; its tag, and the text after it
-pub record IsTaggedAt (anchor : Option Text) (event : Event) (rest : Text) (behind : List ℕ) : Type 0 where
-  pub tag : Text
-  pub held : Held
-  pub written : Text
-  pub is : opening_event_of anchor tag held ≡ event
-  pub sound : tag_fault tag ≡ None
-  pub scalars : all_scalars tag ≡ true
-  pub has : HasHeldText held written
-  pub stands : behind ≡ encode_utf8_all (tag_text (Some tag) false ++ (written ++ rest))
-
 -- no event has an anchor if the text doesn't begin with `&`
 pub behind_none : (text : List ℕ) → past_word (codes "*") text ≡ None → past_word (codes "&") text ≡ None
     → (event : Event) (rest : Text) → BeginsNode event → text ≡ encode_utf8_all (opening_text event ++ rest) → IsTaggedAt None event rest text
 behind_none text none also event rest begins is =
     let at = at_parts event (opening_text event) rest text (opening_of event begins) is none in
-    let absent = anchor_absent at.anchor (tag_text (Some at.tag) false ++ (at.written ++ rest)) text also at.stands in
-    record {
-      tag = at.tag;
-      held = at.held;
-      written = at.written;
-      is = ap (λ (a : Option Text). opening_event_of a at.tag at.held) absent.0 ∙ at.is;
-      sound = at.sound;
-      scalars = at.scalars;
-      has = at.has;
-      stands = absent.1;
-    }
+    let absent = anchor_absent at.anchor at.behind text also at.stands in
+    subst (IsTaggedAt None event rest) (sym absent.1)
+    (subst (λ (a : Option Text). IsTaggedAt a event rest (encode_utf8_all at.behind)) (sym absent.0) at.tagged)
 
 -- an anchor follows `&`, and its tag follows a space
 pub record IsAnchoredAt (event : Event) (rest : Text) (inside : List ℕ) : Type 0 where
@@ -287,23 +271,15 @@ pub behind_mark : (inside : List ℕ) (event : Event) (rest : Text) → BeginsNo
     → codes "&" ++ inside ≡ encode_utf8_all (opening_text event ++ rest) → IsAnchoredAt event rest inside
 behind_mark inside event rest begins is =
     let at = at_parts event (opening_text event) rest (codes "&" ++ inside) (opening_of event begins) is refl in
-    let more = tag_text (Some at.tag) false ++ (at.written ++ rest) in
-    let there = anchor_there at.anchor more (codes "&" ++ inside) inside at.named (no_anchor_mark at.tag (at.written ++ rest) at.sound) refl at.stands in
+    let there = anchor_there at.anchor at.behind (codes "&" ++ inside) inside at.named at.none refl at.stands in
     record {
       name = there.name;
       named = there.named;
-      more = more;
+      more = at.behind;
       stands = there.text;
-      tagged = λ behind stands. record {
-        tag = at.tag;
-        held = at.held;
-        written = at.written;
-        is = ap (λ (a : Option Text). opening_event_of a at.tag at.held) there.is ∙ at.is;
-        sound = at.sound;
-        scalars = at.scalars;
-        has = at.has;
-        stands = stands;
-      };
+      tagged = λ behind stands.
+          subst (IsTaggedAt (Some there.name) event rest) (sym stands)
+          (subst (λ (a : Option Text). IsTaggedAt a event rest (encode_utf8_all at.behind)) (sym there.is) at.tagged);
     }
 
 -- an anchor was read, and the space after it
@@ -366,13 +342,8 @@ none_read Absent stop.Memory by = tt
 none_read Absent (stop.Refused left) by = by (λ e. cc)
 none_read Absent (stop.TooDeep left) by = by (λ e. cc)
 
-pub memory_only : {T : Type 0} (Held : T → Type 0) (error : Stop) → OrMemory Held (Err error) → error ≡ stop.Memory
-memory_only Held stop.Memory is = refl
-memory_only Held (stop.Refused left) is = absurd is
-memory_only Held (stop.TooDeep left) is = absurd is
-
-pub memory_reads : (Absent : Type 0) (error : Stop) → OrMemory (λ (_ : List ℕ). Unit {0}) (Err error) → ReadOr (λ (_ : List ℕ). Unit {0}) Absent (Err error)
-memory_reads Absent error is = none_read Absent error (λ other. absurd (other (memory_only (λ (_ : List ℕ). Unit {0}) error is)))
+pub memory_reads : (Absent : Type 0) (error : Stop) → IsMemory error → ReadOr (λ (_ : List ℕ). Unit {0}) Absent (Err error)
+memory_reads Absent error is = none_read Absent error (λ other. absurd (other (memory_only error is)))
 
 -- with it something else is absent
 pub absent_then : (P Q : Type 0) (error : Stop) → (P → Q) → ReadOr (λ (_ : List ℕ). Unit {0}) P (Err error) → ReadOr (λ (_ : List ℕ). Unit {0}) Q (Err error)

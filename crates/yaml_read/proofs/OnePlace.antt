@@ -2,17 +2,21 @@
 use Rattle.yaml_base.proofs.Common.{ℕ, ◌+◌, ◌*◌, ◌-◌, ◌<◌, ◌≤◌, suc, Bool, true, false, true≢false, Option, None, Some, List, [], ◌∷◌, ◌++◌, refl, ◌≡◌, ap}
 use Rattle.yaml_base.proofs.Common.{subst, sym, ◌∙◌, ◌⊎◌, inl, inr, append_assoc, append-nil, arith, codes, encode, encode_utf8_all, length, line_feed, Text, utf8}
 use Rattle.yaml_base.specs.values.TypedValues.{TypedPairs, TypedValue, most_nested}
+use Rattle.yaml_base.specs.Positions.{IsPositionOf}
 use Rattle.yaml_base.specs.values.LinesAndColumns.{column_of, line_of}
+use Rattle.yaml_base.specs.declared.places.Position.{Position}
 use Rattle.yaml_base.specs.values.ValueText.{document_text, entry_lead, has_no_value_pairs, line_at, pairs_text, value_text}
+use Rattle.std.proofs.Common.{ap₂}
 use Rattle.std.proofs.lemmas.List.{append_cancel_left}
 use Rattle.std.proofs.lemmas.Str.{utf8_valid_len-IsValidUpTo}
-use Rattle.std.specs.Str.{IsUtf8, IsValidUpTo}
+use Rattle.std.specs.Str.{IsUtf8}
 use Rattle.yaml_value.specs.OpenLevels.{OpenLevel, items_open, pairs_open, value_due}
 use Rattle.yaml_read.specs.Grammar.{behind_value, entry_end, line_then, node, nothing, word_then}
 use Rattle.yaml_read.specs.Opened.{HasRead, IsOpen, OpenCanBeRead, opened_text}
-use Rattle.yaml_read.specs.Places.{BreaksInValue, BreaksOff, CannotStand, IsBehindMarker, IsPlaced, OpensPastDepth, behind_all, behind_node, in_node}
+use Rattle.yaml_read.specs.Places.{BreaksInValue, BreaksOff, CannotStand, IsBehindMarker, IsDepthPlace, IsWordPlace, OpensPastDepth, behind_all, behind_node, in_node}
 use Rattle.yaml_read.specs.Readable.{AllCanBeReadAt, CanBeRead, CanBeReadAt, PairsCanBeReadAt}
 use Rattle.yaml_read.specs.Remaining.{column_in}
+use Rattle.yaml_read.specs.RepeatedKeys.{IsPlacedBy}
 use Rattle.yaml_value.specs.declared.keys.Keys.TheVariants as keys
 use Rattle.yaml_read.specs.declared.errors.ReadError.{ReadError}
 use Rattle.yaml_read.specs.declared.errors.ReadError.TheVariants as told
@@ -238,47 +242,47 @@ not_both bytes left other (inr first) second =
 
 -- ---- errors
 
-abbrev IsFault : List ℕ → ℕ → Type 0
-IsFault bytes offset = ((IsUtf8 bytes → ⊥) × IsValidUpTo bytes offset) ⊎ ((left : ℕ) × IsUtf8 bytes × (offset ≡ length bytes - left) × CannotStand keys.MayRepeat bytes left)
+-- an offset has one position
+position_once : (bytes : List ℕ) (one other : ℕ) (first second : Position) → one ≡ other → IsPositionOf bytes one first → IsPositionOf bytes other second
+    → first ≡ second
+position_once bytes one other first second same is are =
+    ap₂ at (is.line ∙ ap (line_of bytes) same ∙ sym are.line) (is.column ∙ ap (column_of bytes) same ∙ sym are.column)
+  where
+    at : ℕ → ℕ → Position
+    at line column = record { line = line; column = column }
 
-fault_once : (bytes : List ℕ) (one other : ℕ) → IsFault bytes one → IsFault bytes other → one ≡ other
-fault_once bytes one other (inl first) (inl second) =
-    sym (utf8_valid_len-IsValidUpTo bytes one first.1) ∙ utf8_valid_len-IsValidUpTo bytes other second.1
-fault_once bytes one other (inl first) (inr second) = absurd (first.0 second.1)
-fault_once bytes one other (inr first) (inl second) = absurd (second.0 first.1)
-fault_once bytes one other (inr first) (inr second) =
-    first.2 ∙ ap (λ n. length bytes - n) (stands_once bytes first.0 second.0 first.3 second.3) ∙ sym second.2
+word_once : (bytes : List ℕ) (first second : Position) → IsWordPlace keys.MayRepeat bytes first → IsWordPlace keys.MayRepeat bytes second → first ≡ second
+word_once bytes first second (inl one) (inl other) =
+    position_once bytes one.at other.at first second
+    (sym (utf8_valid_len-IsValidUpTo bytes one.at one.valid) ∙ utf8_valid_len-IsValidUpTo bytes other.at other.valid) one.position_is other.position_is
+word_once bytes first second (inl one) (inr other) = absurd (one.not_utf8 other.utf8)
+word_once bytes first second (inr one) (inl other) = absurd (other.not_utf8 one.utf8)
+word_once bytes first second (inr one) (inr other) =
+    position_once bytes _ _ first second (ap (λ n. length bytes - n) (stands_once bytes one.left other.left one.holds other.holds)) one.position_is
+    other.position_is
 
-no_fault : (bytes : List ℕ) (one other : ℕ) → IsFault bytes one → IsUtf8 bytes → IsBehindMarker bytes (λ whole. OpensPastDepth keys.MayRepeat whole other) → ⊥
-no_fault bytes one other (inl first) valid second = first.0 valid
-no_fault bytes one other (inr first) valid second = not_both bytes first.0 other first.3 second
+-- no word is impossible where a list or a map lies too deep
+no_word : (bytes : List ℕ) (first second : Position) → IsWordPlace keys.MayRepeat bytes first → IsDepthPlace keys.MayRepeat bytes second → ⊥
+no_word bytes first second (inl one) deep = one.not_utf8 deep.utf8
+no_word bytes first second (inr one) deep = not_both bytes one.left deep.left one.holds deep.holds
 
--- the same place
-lines_same : (Error : ℕ → ℕ → ReadError) (bytes : List ℕ) (one other line column next across : ℕ) → one ≡ other → line ≡ line_of bytes one
-    → column ≡ column_of bytes one → next ≡ line_of bytes other → across ≡ column_of bytes other → Error line column ≡ Error next across
-lines_same Error bytes one other line column next across same first second third fourth =
-    ap (λ n. Error n column) (first ∙ ap (line_of bytes) same ∙ sym third) ∙ ap (λ n. Error next n) (second ∙ ap (column_of bytes) same ∙ sym fourth)
-
--- bytes have one fault, at one place
-pub one_place : (bytes : List ℕ) (one other : ReadError) → IsPlaced bytes one → IsPlaced bytes other
+-- bytes have one fault, at one position
+pub one_place : (bytes : List ℕ) (one other : ReadError) → IsPlacedBy keys.MayRepeat bytes one → IsPlacedBy keys.MayRepeat bytes other
     → (one ≡ told.Memory) ⊎ ((other ≡ told.Memory) ⊎ (one ≡ other))
 one_place bytes told.Memory other first second = inl refl
 one_place bytes told.NotNumbered other first second = absurd first
-one_place bytes (told.DuplicateKey line column) other first second = absurd first
+one_place bytes (told.DuplicateKey position) other first second = let never = first.0 in cc
 one_place bytes one told.Memory first second = inr (inl refl)
 one_place bytes one told.NotNumbered first second = absurd second
-one_place bytes one (told.DuplicateKey line column) first second = absurd second
-one_place bytes (told.NotCanonical line column) (told.NotCanonical next across) first second =
-    inr (inr (lines_same (λ l c. told.NotCanonical l c) bytes first.0 second.0 line column next across
-    (fault_once bytes first.0 second.0 first.3 second.3) first.1 first.2 second.1 second.2))
-one_place bytes (told.NotCanonical line column) (told.TooDeep next across) first second =
-    absurd (no_fault bytes first.0 second.3.0 first.3 second.3.1 second.3.3)
-one_place bytes (told.TooDeep line column) (told.NotCanonical next across) first second =
-    absurd (no_fault bytes second.0 first.3.0 second.3 first.3.1 first.3.3)
-one_place bytes (told.TooDeep line column) (told.TooDeep next across) first second =
-    inr (inr (lines_same (λ l c. told.TooDeep l c) bytes first.0 second.0 line column next across
-    (first.3.2 ∙ ap (λ n. length bytes - n) (deep_once bytes first.3.0 second.3.0 first.3.3 second.3.3) ∙ sym second.3.2)
-    first.1 first.2 second.1 second.2))
+one_place bytes one (told.DuplicateKey position) first second = let never = second.0 in cc
+one_place bytes (told.NotCanonical one) (told.NotCanonical other) first second =
+    inr (inr (ap (λ p. told.NotCanonical p) (word_once bytes one other first second)))
+one_place bytes (told.NotCanonical one) (told.TooDeep other) first second = absurd (no_word bytes one other first second)
+one_place bytes (told.TooDeep one) (told.NotCanonical other) first second = absurd (no_word bytes other one second first)
+one_place bytes (told.TooDeep one) (told.TooDeep other) first second =
+    inr (inr (ap (λ p. told.TooDeep p)
+    (position_once bytes _ _ one other (ap (λ n. length bytes - n) (deep_once bytes first.left second.left first.holds second.holds)) first.position_is
+    second.position_is)))
 
 -- ---- the bytes of a value
 
@@ -313,23 +317,21 @@ stands_not value bytes left readable is (inr first) =
 
 -- they have no place of a fault
 nowhere : (value : TypedValue) (bytes : List ℕ) (error : ReadError) → CanBeReadAt 0 value → IsUtf8 bytes
-    → bytes ≡ codes "---\n" ++ encode_utf8_all (value_text 0 value ++ line_feed ∷ []) → IsPlaced bytes error → error ≡ told.Memory
+    → bytes ≡ codes "---\n" ++ encode_utf8_all (value_text 0 value ++ line_feed ∷ []) → IsPlacedBy keys.MayRepeat bytes error → error ≡ told.Memory
 nowhere value bytes told.Memory readable valid is placed = refl
 nowhere value bytes told.NotNumbered readable valid is placed = absurd placed
-nowhere value bytes (told.DuplicateKey line column) readable valid is placed = absurd placed
-nowhere value bytes (told.NotCanonical line column) readable valid is placed = absurd (by placed.3)
-  where
-    by : IsFault bytes placed.0 → ⊥
-    by (inl first) = first.0 valid
-    by (inr first) = stands_not value bytes first.0 readable is first.3
-nowhere value bytes (told.TooDeep line column) readable valid is placed =
-    let deep = placed.3.3 in
-    absurd (not_found value deep.0 true placed.3.0 readable
+nowhere value bytes (told.DuplicateKey position) readable valid is placed = let never = placed.0 in cc
+nowhere value bytes (told.NotCanonical position) readable valid is (inl ends) = absurd (ends.not_utf8 valid)
+nowhere value bytes (told.NotCanonical position) readable valid is (inr place) =
+    absurd (stands_not value bytes place.left readable is place.holds)
+nowhere value bytes (told.TooDeep position) readable valid is placed =
+    let deep = placed.holds in
+    absurd (not_found value deep.0 true placed.left readable
     (append_cancel_left (codes "---\n") deep.0 (encode_utf8_all (value_text 0 value ++ line_feed ∷ [])) (sym deep.1 ∙ is))
-    (deep_found deep.0 placed.3.0 deep.2))
+    (deep_found deep.0 placed.left deep.2))
 
-pub no_place : (value : TypedValue) (error : ReadError) → CanBeRead value → IsPlaced (encode (Some utf8) (document_text value)) error
-    → error ≡ told.Memory
+pub no_place : (value : TypedValue) (error : ReadError) → CanBeRead value
+    → IsPlacedBy keys.MayRepeat (encode (Some utf8) (document_text value)) error → error ≡ told.Memory
 no_place value error readable placed =
     let text = document_text value in
     nowhere value (encode (Some utf8) text) error (readable_root value readable) (subst IsUtf8 (sym (text_bytes-utf8 text)) (document_utf8 value readable))

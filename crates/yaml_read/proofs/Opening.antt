@@ -251,15 +251,6 @@ pub end_there : (bytes : List ℕ) (error : Stop) → LacksEnd bytes error → b
 end_there bytes error (no_end none place) is = no_word (codes "\n") bytes [] none is
 end_there bytes error (more_follows rest cut some place) is = absurd (omega (arith, some, ap length (cut_is (codes "\n") bytes rest [] cut is)))
 
--- a document's text after its first line
-pub record TextOpen (text : List ℕ) (levels : List OpenLevel) (bytes : List ℕ) : Type 0 where
-  pub whole : List ℕ
-  pub text_is : text ≡ codes "---\n" ++ whole
-  pub opened : IsOpen whole levels bytes
-
-pub text_open : (text bytes : List ℕ) → text ≡ codes "---\n" ++ bytes → TextOpen text [] bytes
-text_open text bytes is = record { whole = bytes; text_is = is; opened = record { text = refl; readable = tt } }
-
 pub text_read : (value : TypedValue) (text whole : List ℕ) → text ≡ codes "---\n" ++ whole
     → whole ≡ encode_utf8_all (value_text 0 value ++ line_feed ∷ []) → text ≡ encode_utf8_all (document_text value)
 text_read value text whole is read =

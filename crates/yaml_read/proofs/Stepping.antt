@@ -15,26 +15,25 @@ use Rattle.yaml_read.specs.Opened.{IsOpen}
 use Rattle.yaml_read.specs.Places.{BreaksAt, IsHere, IsHereOrMemory}
 use Rattle.yaml_value.specs.OpenLevels.{OpenLevel, items_open, pairs_open}
 use Rattle.yaml_value.proofs.SeenLevels.{seen_null, seen_string}
-use Rattle.yaml_read.specs.Remaining.{IsDue, Reached, column_in}
+use Rattle.yaml_read.specs.Remaining.{IsDue, column_in}
 use Rattle.yaml_base.specs.values.UniqueKeys.{HasUniqueKeys}
 use Rattle.yaml_read.specs.Settled.{NextMoved, NextTook, begins_list, begins_map, level_opened, value_given}
 use Rattle.yaml_read.specs.Stepped.{BracketLacks, Entered, EntryLacks, NextShorter, ScalarRead, ValueSettled, NodeStepped, no_bracket, no_lead, no_line}
 use Rattle.yaml_read.specs.Stepped.{no_memory, no_room}
-use Rattle.yaml_read.specs.{Readable.CanBeReadAt, Sound.IsInteger, Sound.IsScalarValue, Sound.IsTruth, Words.OrMemory, Words.past_word}
+use Rattle.yaml_read.specs.{Readable.CanBeReadAt, Sound.IsInteger, Sound.IsScalarValue, Sound.IsTruth, Words.IsMemory, Words.OrMemory, Words.past_word}
 use Rattle.yaml_read.proofs.{Breaking.line_lacks, Breaking.missing, Entries.lead_breaks}
 use Rattle.yaml_read.proofs.BreakingNodes.{list_line_breaks, map_line_breaks, no_integer, no_list, no_map, no_tag_there, node_stops, opens_deep, tag_passed}
 use Rattle.yaml_read.proofs.HeadTexts.{list_bracket, list_empty, map_bracket, map_empty, no_tag, tail_of}
 use Rattle.yaml_read.proofs.HeadsRead.{empty_list, empty_map, integer_read, null_read, string_read, truth_read}
 use Rattle.yaml_read.proofs.Opening.{list_in, map_in, value_in}
 use Rattle.yaml_read.proofs.Turns.{Opens, cut_is, into, list_opens, map_opens, whole_read}
-use Rattle.yaml_read.proofs.{Encoded.word_encoded, UniqueSoFar.scalar_unique, UniqueSoFar.unique_allows, Words.error_stays, Words.no_word}
+use Rattle.yaml_read.proofs.{Encoded.word_encoded, UniqueSoFar.scalar_unique, UniqueSoFar.unique_allows, Words.no_word}
 use Rattle.yaml_value.{specs.SeenValues.seen_value, specs.declared.value.Value.Value}
 use Rattle.yaml_value.specs.declared.value.Value as declared
 use Rattle.yaml_read.specs.declared.errors.Stop.{Stop}
 use Rattle.yaml_read.specs.declared.heads.Kind.{Kind}
 use Rattle.yaml_read.specs.declared.levels.Next.{Next}
 use Rattle.yaml_read.specs.declared.levels.Next.TheVariants.{Done, Node}
-use Rattle.yaml_read.specs.declared.errors.Stop.TheVariants as stop
 use Rattle.yaml_read.specs.declared.heads.Kind.TheVariants as kind
 
 -- less is left after something that begins no sooner
@@ -84,19 +83,11 @@ scalar_steps before after k text behind rest value result tagged found reads les
     (λ root due. reads (length before) (column_in before) due.value due.rest due.readable (sym tagged ∙ due.text))
     (omega (arith, less, behind_tag_less k text behind tagged)) settled
 
-no_scalar_reached : {T : Type 0} (A : Type 0) (Holds : T → Type 0) (root : TypedValue) (after : List OpenLevel) (error : Stop) → OrMemory Holds (Err error)
-    → Reached {A = A} root after (Err error)
-no_scalar_reached A Holds root after stop.Memory is = tt
-no_scalar_reached A Holds root after (stop.Refused n) is = is
-no_scalar_reached A Holds root after (stop.TooDeep n) is = is
-
 pub no_scalar_steps : (A : Type 0) (before after : List OpenLevel) (k : Kind) (text behind : List ℕ) (error : Stop) → text ≡ tag_word k ++ behind
     → ScalarRead {A = A} k behind (Err error) → NodeStepped {A = A} before after text (Err error)
 no_scalar_steps A before after k text behind error tagged lacks =
     record {
-      reached = λ root due.
-          no_scalar_reached A (IsWhole {A = A} due.value due.rest) root after error
-          (lacks.reads (length before) (column_in before) due.value due.rest due.readable (sym tagged ∙ due.text));
+      reached = λ root due. lacks.reads (length before) (column_in before) due.value due.rest due.readable (sym tagged ∙ due.text);
       read = λ whole opened. tt;
       stops = λ mode whole opened allow. node_stops mode whole before text error opened allow
           (tag_passed (length before) k k text behind error refl tagged (lacks.breaks (length before)));
@@ -182,14 +173,11 @@ integer_scalar bytes result reads sound breaks shorter =
       shorter = shorter;
     }
 
-pub no_integer_scalar : {T : Type 0} (A : Type 0) (Holds : ℤ → Text → T → Type 0) (bytes : List ℕ) (error : Stop) → IsUtf8 bytes
-    → IsHereOrMemory bytes error
-    → ((n : ℤ) (rest : Text) → mag n < 2 ^ 63 → bytes ≡ encode_utf8_all (in_quotes (signed_decimal n) ++ rest) → OrMemory (Holds n rest) (Err error))
+pub no_integer_scalar : (A : Type 0) (bytes : List ℕ) (error : Stop) → IsUtf8 bytes → IsHereOrMemory bytes error
+    → ((n : ℤ) (rest : Text) → mag n < 2 ^ 63 → bytes ≡ encode_utf8_all (in_quotes (signed_decimal n) ++ rest) → IsMemory error)
     → ScalarRead {A = A} kind.Int bytes (Err error)
-no_integer_scalar A Holds bytes error utf8 place reads =
-    integer_scalar {A = A} bytes (Err error)
-    (λ n rest few is. error_stays (Holds n rest) (IsWhole {A = A} (int_value n) rest) error (reads n rest few is)) tt
-    (no_integer Holds bytes error utf8 place reads) tt
+no_integer_scalar A bytes error utf8 place reads =
+    integer_scalar {A = A} bytes (Err error) reads tt (no_integer bytes error utf8 place reads) tt
 
 pub text_found : {A : Type 0} (bytes : List ℕ) (text : String A) (rest : Bor (List ℕ))
     → ((value behind : Text) → all_scalars value ≡ true → bytes ≡ encode_utf8_all (in_quotes value ++ behind)
@@ -209,15 +197,14 @@ text_found bytes text rest reads sound shorter =
       shorter = shorter;
     }
 
-pub no_text : {T : Type 0} (A : Type 0) (Holds : Text → Text → T → Type 0) (bytes : List ℕ) (error : Stop)
-    → ((value rest : Text) → all_scalars value ≡ true → bytes ≡ encode_utf8_all (in_quotes value ++ rest) → OrMemory (Holds value rest) (Err error))
+pub no_text : (A : Type 0) (bytes : List ℕ) (error : Stop)
+    → ((value rest : Text) → all_scalars value ≡ true → bytes ≡ encode_utf8_all (in_quotes value ++ rest) → IsMemory error)
     → BreaksAt quoted_text bytes error → ScalarRead {A = A} kind.Text bytes (Err error)
-no_text A Holds bytes error reads breaks =
+no_text A bytes error reads breaks =
     record {
       reads = λ depth column value rest readable there.
           let tail = tail_of kind.Text column value rest (tag_word kind.Text ++ bytes) bytes there refl in
-          error_stays (Holds tail.0 rest) (IsWhole {A = A} value rest) error
-          (reads tail.0 rest (subst (CanBeReadAt depth) tail.1 readable) tail.2);
+          reads tail.0 rest (subst (CanBeReadAt depth) tail.1 readable) tail.2;
       sound = tt;
       breaks = λ depth. breaks;
       shorter = tt;
@@ -290,13 +277,13 @@ twice : (n : ℕ) → n * 2 + 2 ≡ suc n * 2
 twice n = omega arith
 
 -- nothing is due if no entry follows
-no_entry_reached : (A : Type 0) (root : TypedValue) (before inner after : List OpenLevel) (lead inside : List ℕ) (error : Stop)
-    → Opens root before inner lead inside → EntryLacks (suc (length before)) lead inside error → Reached {A = A} root after (Err error)
-no_entry_reached A root before inner after lead inside error opens (no_memory is) = subst (λ (e : Stop). Reached {A = A} root after (Err e)) (sym is) tt
-no_entry_reached A root before inner after lead inside error opens (no_line none lacks) =
+no_entry_reached : (root : TypedValue) (before inner : List OpenLevel) (lead inside : List ℕ) (error : Stop) → Opens root before inner lead inside
+    → EntryLacks (suc (length before)) lead inside error → IsMemory error
+no_entry_reached root before inner lead inside error opens (no_memory is) = subst IsMemory (sym is) tt
+no_entry_reached root before inner lead inside error opens (no_line none lacks) =
     absurd (no_word (line_at (suc (length before) * 2)) inside (lead ++ opens.tail) none
     (opens.inside_is ∙ ap (λ n. line_at n ++ (lead ++ opens.tail)) (twice (length before))))
-no_entry_reached A root before inner after lead inside error opens (no_lead line is none place) =
+no_entry_reached root before inner lead inside error opens (no_lead line is none place) =
     absurd (no_word lead line opens.tail none (cut_is (line_at (suc (length before) * 2)) inside line (lead ++ opens.tail) is
     (opens.inside_is ∙ ap (λ n. line_at n ++ (lead ++ opens.tail)) (twice (length before)))))
 
@@ -329,7 +316,7 @@ list_steps {A} before after text behind inside (Err error) tagged bracket none e
     let there = tagged ∙ ap (λ t. codes "!!seq " ++ t) bracket.0 in
     record {
       reached = λ root due.
-          no_entry_reached A root before (items_open no_values ∷ before) after [] inside error (list_opens root before text inside due there none) entered;
+          no_entry_reached root before (items_open no_values ∷ before) [] inside error (list_opens root before text inside due there none) entered;
       read = λ whole opened. tt;
       stops = λ mode whole opened allow. node_stops mode whole before text error opened allow
           (list_line_breaks (length before) text inside error bracket.1 (there, none) (list_breaks (length before) inside error entered));
@@ -398,7 +385,7 @@ map_steps {A} before after text behind inside (Err error) tagged bracket none en
     let there = tagged ∙ ap (λ t. codes "!!map " ++ t) bracket.0 in
     record {
       reached = λ root due.
-          no_entry_reached A root before (pairs_open no_value_pairs ∷ before) after (codes "? ") inside error
+          no_entry_reached root before (pairs_open no_value_pairs ∷ before) (codes "? ") inside error
           (map_opens root before text inside due there none) entered;
       read = λ whole opened. tt;
       stops = λ mode whole opened allow. node_stops mode whole before text error opened allow

@@ -10,7 +10,7 @@ use Rattle.yaml_value.specs.OpenLevels.{OpenLevel, items_open, pairs_open, seen_
 use Rattle.yaml_value.specs.declared.levels.Level.{Level}
 use Rattle.yaml_value.proofs.SeenLevels.{level_more}
 use Rattle.yaml_read.specs.Remaining.{column_in, Completes, text_ends, item_follows, list_ends, value_follows}
-use Rattle.yaml_read.specs.Remaining.{pair_follows, map_ends, IsDue, IsRead, TurnReached, Reached}
+use Rattle.yaml_read.specs.Remaining.{pair_follows, map_ends, IsDue, IsRead}
 use Rattle.yaml_read.proofs.Remaining.{Begins, items_begin, pairs_begin, items_behind, pairs_behind, readable_root}
 use Rattle.yaml_read.specs.{Entries.EntryFound, Readable.CanBeRead, Words.past_word, declared.errors.Stop.Stop}
 use Rattle.yaml_read.specs.{Readable.CanBeReadAt, declared.levels.Entry.Entry, declared.levels.Entry.TheVariants.Another, declared.levels.Entry.TheVariants.End}
@@ -248,10 +248,6 @@ root_due value bytes readable is = (
   },
 )
 
--- the rest of a text of a whole value, by the lists and maps that are open
-pub record TextDue (whole : List ℕ) (levels : List OpenLevel) (bytes : List ℕ) : Type 0 where
-  pub due : (value : TypedValue) → CanBeRead value → whole ≡ encode_utf8_all (document_text value) → IsDue value levels bytes
-
 -- the rest of a text after a value that was given to the lists and maps that end
 pub record GoesOn (before : List OpenLevel) (first : TypedValue) (text : List ℕ) (levels : List OpenLevel) (value : TypedValue) (bytes : List ℕ) : Type 0 where
   pub read : (root : TypedValue) → IsRead root before first text → IsRead root levels value bytes
@@ -279,13 +275,6 @@ pub popped : {A : Type 0} (before : List OpenLevel) (first value : TypedValue) (
     → IsRead root (seen_level level ∷ seen_levels new) value bytes
 popped before first value text bytes old new level root goes is read =
     subst (λ (levels : List OpenLevel). IsRead root levels value bytes) (level_more new old level is) (goes.read root read)
-
--- no error but want of memory
-pub turn_error : (A : Type 0) (root : TypedValue) (levels inner : List OpenLevel) (error : Stop)
-    → TurnReached {A = A} root levels (Err error) → Reached {A = A} root inner (Err error)
-turn_error A root levels inner stop.Memory is = tt
-turn_error A root levels inner (stop.Refused n) is = is
-turn_error A root levels inner (stop.TooDeep n) is = is
 
 -- the text after the last item of a list
 pub item_reached : (root : TypedValue) (levels : List OpenLevel) (items : TypedValues) (item : TypedValue) (depth : ℕ) (text : List ℕ)
@@ -318,10 +307,8 @@ whole_read root value levels bytes rest due is =
     record { rest = due.rest; text = is.1; completes = subst (λ value. Completes root levels value due.rest) (sym is.0) due.completes }
 
 -- after a document's first line its value is due
-pub text_due : (whole bytes : List ℕ) → whole ≡ codes "---\n" ++ bytes → TextDue whole [] bytes
-text_due whole bytes cut =
-    record {
-      due = λ value readable is.
-          let root = root_due value whole readable is in
-          subst (IsDue value []) (sym (cut_is (codes "---\n") whole bytes root.0 cut root.1)) root.2;
-    }
+pub text_due : (whole bytes : List ℕ) → whole ≡ codes "---\n" ++ bytes → (value : TypedValue) → CanBeRead value
+    → whole ≡ encode_utf8_all (document_text value) → IsDue value [] bytes
+text_due whole bytes cut value readable is =
+    let root = root_due value whole readable is in
+    subst (IsDue value []) (sym (cut_is (codes "---\n") whole bytes root.0 cut root.1)) root.2

@@ -1,6 +1,6 @@
--- A document's text in which keys must differ, from node to node.
-use Rattle.yaml_base.proofs.Common.{ℕ, ◌+◌, ◌-◌, List, [], ◌∷◌, ◌++◌, refl, ◌≡◌, ◌∙◌, ap, subst, sym, inl, inr, length, codes, encode_utf8_all, encode, utf8, Some}
-use Rattle.std.specs.Prelude.{Ok, Err, ◌⊎◌, ◌≢◌}
+-- A document's text from node to node, by whether keys must differ.
+use Rattle.yaml_base.proofs.Common.{ℕ, ◌+◌, List, [], ◌∷◌, ◌++◌, refl, ◌≡◌, ◌∙◌, ap, subst, sym, inl, inr, codes, encode_utf8_all}
+use Rattle.std.specs.Prelude.{Ok, Err}
 use Rattle.std.specs.Borrow.{Bor}
 use Rattle.std.specs.Str.{IsUtf8}
 use Rattle.yaml_base.proofs.Decoding.{text_bytes-utf8}
@@ -9,41 +9,55 @@ use Rattle.yaml_base.specs.values.UniqueKeys.{HasUniqueKeys, IsNewKey}
 use Rattle.yaml_base.specs.values.ValueText.{document_text}
 use Rattle.yaml_value.specs.OpenLevels.{OpenLevel, items_open, pairs_open, seen_levels, value_due}
 use Rattle.yaml_value.specs.declared.levels.Level.{Level}
+use Rattle.yaml_value.specs.declared.keys.Keys.{Keys}
 use Rattle.yaml_value.specs.declared.keys.Keys.TheVariants as keys
-use Rattle.yaml_read.specs.Errors.{HasKeyPlaceOf, TellsKey}
-use Rattle.yaml_read.specs.HeldKeys.{FollowsKeys, HoldKeys, InnermostIsNew, KeyRepeats, KeyStopsAt, KeysFollowed, UniqueRead}
+use Rattle.yaml_read.specs.Errors.{TellsKey}
+use Rattle.yaml_read.specs.HeldKeys.{FollowedBy, FollowsKeys, HoldBy, InnermostIsNew, KeyRepeats, KeyStopsAt, TextRead}
 use Rattle.yaml_read.specs.Opened.{IsOpen}
 use Rattle.yaml_read.specs.Places.{StopsAt}
 use Rattle.yaml_read.specs.Readable.{CanBeRead}
-use Rattle.yaml_read.specs.Remaining.{IsDue, Reached, column_in}
-use Rattle.yaml_read.specs.{AllowedKeys.OpenHasUniqueKeys, RepeatedKeys.IsPlacedBy, RepeatedKeys.RepeatsKey}
-use Rattle.yaml_read.specs.Settled.{Ended}
+use Rattle.yaml_read.specs.Remaining.{IsDue, column_in}
+use Rattle.yaml_read.specs.{AllowedKeys.KeysAllow, AllowedKeys.OpenHasUniqueKeys, AllowedKeys.OpenKeysAllow, RepeatedKeys.IsPlacedBy}
+use Rattle.yaml_read.specs.Settled.{Ended, Moved}
 use Rattle.yaml_read.specs.Stepped.{NodeStepped}
 use Rattle.yaml_read.specs.declared.errors.KeyStop.{KeyStop}
 use Rattle.yaml_read.specs.declared.errors.KeyStop.TheVariants as key
 use Rattle.yaml_read.specs.declared.errors.ReadError.{ReadError}
-use Rattle.yaml_read.specs.declared.errors.ReadError.TheVariants as told
-use Rattle.yaml_read.specs.declared.errors.Stop.{Stop}
 use Rattle.yaml_read.specs.declared.errors.Stop.TheVariants as stop
 use Rattle.yaml_read.specs.declared.keys.OpenKeys.{OpenKeys}
 use Rattle.yaml_read.specs.declared.levels.Next.{Next}
 use Rattle.yaml_read.specs.declared.levels.Next.TheVariants.{Node}
 use Rattle.yaml_read.proofs.KeyTexts.{key_again, new_key}
-use Rattle.yaml_read.proofs.Placing.{stops_placed_by}
-use Rattle.yaml_read.proofs.Turns.{TextDue}
-use Rattle.yaml_read.proofs.UniqueSoFar.{HasNewKey, completes_unique, ended_unique, key_unique, moved_unique}
+use Rattle.yaml_read.proofs.Placing.{stops_placed}
+use Rattle.yaml_read.proofs.ChosenKeys.{NoneAllowed}
+use Rattle.yaml_read.proofs.Turns.{text_due}
+use Rattle.yaml_read.proofs.UniqueSoFar.{HasNewKey, completes_unique, ended_allows, key_unique, moved_unique, unique_allows}
 
--- a document's text up to a node: no key repeats, and these keys are held
-pub record TextUnique {A : Type 0} (text : List ℕ) (levels : List OpenLevel) (bytes : List ℕ) (held : List (OpenKeys A)) : Type 0 where
+-- a document's text up to a node: the value that is due there, what is open, and the keys that are held of it
+pub record TextAt {A : Type 0} (mode : Keys) (text : List ℕ) (levels : List OpenLevel) (bytes : List ℕ) (held : List (OpenKeys A)) : Type 0 where
   pub whole : List ℕ
   pub text_is : text ≡ codes "---\n" ++ whole
+  pub due : (value : TypedValue) → CanBeRead value → text ≡ encode_utf8_all (document_text value) → IsDue value levels bytes
   pub opened : IsOpen whole levels bytes
-  pub hold : HoldKeys whole levels held
-  pub unique : OpenHasUniqueKeys levels
+  pub hold : HoldBy mode whole levels held
+  pub allow : OpenKeysAllow mode levels
 
-pub unique_begins : {A : Type 0} (text bytes : List ℕ) (held : List (OpenKeys A)) → text ≡ codes "---\n" ++ bytes → held ≡ [] → TextUnique text [] bytes held
-unique_begins text bytes held is none =
-    record { whole = bytes; text_is = is; opened = record { text = refl; readable = tt }; hold = none; unique = tt }
+hold_none : {A : Type 0} (mode : Keys) (whole : List ℕ) (held : List (OpenKeys A)) → held ≡ [] → HoldBy mode whole [] held × OpenKeysAllow mode []
+hold_none keys.Unique whole held none = (none, tt)
+hold_none keys.MayRepeat whole held none = (tt, tt)
+
+pub text_begins : {A : Type 0} (mode : Keys) (text bytes : List ℕ) (held : List (OpenKeys A)) → text ≡ codes "---\n" ++ bytes → held ≡ []
+    → TextAt mode text [] bytes held
+text_begins mode text bytes held is none =
+    let begun = hold_none mode bytes held none in
+    record {
+      whole = bytes;
+      text_is = is;
+      due = text_due text bytes is;
+      opened = record { text = refl; readable = tt };
+      hold = begun.0;
+      allow = begun.1;
+    }
 
 new_innermost : (levels : List OpenLevel) → InnermostIsNew levels → HasNewKey levels
 new_innermost [] is = tt
@@ -51,10 +65,16 @@ new_innermost (items_open items ∷ outer) is = tt
 new_innermost (pairs_open pairs ∷ outer) is = tt
 new_innermost (value_due pairs key ∷ outer) is = new_key (column_in outer + 2) pairs key is
 
-module _ {A : Type 0} (text : List ℕ) (before after : List OpenLevel) (bytes : List ℕ) (rest : Bor (List ℕ)) (old : List (OpenKeys A))
-    (so_far : TextUnique text before bytes old) (stepped : NodeStepped {A = A} before after bytes (Ok (Node rest))) where
+hold_on : {A : Type 0} (mode : Keys) (whole : List ℕ) (before after : List OpenLevel) (new : List (OpenKeys A)) → Moved before after
+    → OpenKeysAllow mode before → FollowedBy mode whole after new (Ok tt) → HoldBy mode whole after new × OpenKeysAllow mode after
+hold_on keys.Unique whole before after new moved unique followed =
+    (followed.0, moved_unique before after moved unique (new_innermost after followed.1))
+hold_on keys.MayRepeat whole before after new moved unique followed = (tt, tt)
+
+module _ {A : Type 0} (mode : Keys) (text : List ℕ) (before after : List OpenLevel) (bytes : List ℕ) (rest : Bor (List ℕ)) (old : List (OpenKeys A))
+    (so_far : TextAt mode text before bytes old) (stepped : NodeStepped {A = A} before after bytes (Ok (Node rest))) where
   -- the next node is open
-  abbrev pub follows : FollowsKeys old after rest.now
+  abbrev pub follows : FollowsKeys mode old after rest.now
   follows =
       record {
         whole = so_far.whole;
@@ -64,57 +84,70 @@ module _ {A : Type 0} (text : List ℕ) (before after : List OpenLevel) (bytes :
         opened = stepped.read so_far.whole so_far.opened;
       }
 
-  pub unique_on : (new : List (OpenKeys A)) → KeysFollowed follows.whole after new (Ok tt) → TextUnique text after rest.now new
-  unique_on new followed =
+  pub text_on : (new : List (OpenKeys A)) → FollowedBy mode follows.whole after new (Ok tt) → TextAt mode text after rest.now new
+  text_on new followed =
+      let held = hold_on mode so_far.whole before after new stepped.moved so_far.allow followed in
       record {
         whole = so_far.whole;
         text_is = so_far.text_is;
+        due = λ value readable is. stepped.reached value (so_far.due value readable is);
         opened = stepped.read so_far.whole so_far.opened;
-        hold = followed.0;
-        unique = moved_unique before after stepped.moved so_far.unique (new_innermost after followed.1);
+        hold = held.0;
+        allow = held.1;
       }
 
-  -- a key repeats
-  known : (left : ℕ) (again : KeyRepeats so_far.whole after left) → IsNewKey again.pairs again.key → ⊥
-  known left again =
+-- a key repeats
+module _ {A : Type 0} (text : List ℕ) (before after : List OpenLevel) (bytes : List ℕ) (rest : Bor (List ℕ)) (old : List (OpenKeys A))
+    (so_far : TextAt keys.Unique text before bytes old) (stepped : NodeStepped {A = A} before after bytes (Ok (Node rest))) (left : ℕ)
+    (again : KeyRepeats so_far.whole after left) where
+  known : IsNewKey again.pairs again.key → ⊥
+  known =
       let now = subst (λ (l : List OpenLevel). IsOpen so_far.whole l rest.now) again.is (stepped.read so_far.whole so_far.opened) in
       key_again again.outer again.pairs again.key again.opened.readable.1.1 now.readable.1.1.1 again.opened.readable.1.0 again.again
 
-  repeats : (left : ℕ) → KeyRepeats so_far.whole after left → RepeatsKey so_far.whole left
-  repeats left again =
-      record {
-        pairs = again.pairs;
-        outer = again.outer;
-        text = again.text;
-        opened = again.opened;
-        unique = key_unique before after again.outer again.pairs again.key stepped.moved again.is so_far.unique;
-        place = again.place;
-        key = again.key;
-        rest = again.rest;
-        begins = again.begins;
-        again = known left again;
-      }
-
-  none_repeats : (left : ℕ) (root : TypedValue) → KeyRepeats so_far.whole after left → IsDue root after rest.now → HasUniqueKeys root → ⊥
-  none_repeats left root again due unique =
+  none_repeats : (root : TypedValue) → IsDue root after rest.now → HasUniqueKeys root → ⊥
+  none_repeats root due unique =
       let open_unique = (completes_unique root after due.value due.rest due.completes unique).0 in
-      known left again (subst OpenHasUniqueKeys again.is open_unique).1.1.0
+      known (subst OpenHasUniqueKeys again.is open_unique).1.1.0
 
-  pub follow_stops : (new : List (OpenKeys A)) (reason : KeyStop) → TextDue text before bytes → KeysFollowed follows.whole after new (Err reason)
-      → UniqueRead {A = A} text (Err reason)
-  follow_stops new (key.Other reason) due followed =
+  repeats : TextRead {A = A} keys.Unique text (Err (key.Repeats left))
+  repeats =
       record {
-        complete = λ value readable unique is. ap key.Other followed;
+        complete = λ value readable unique is. absurd (none_repeats value (stepped.reached value (so_far.due value readable is)) unique);
         sound = tt;
-        stops = subst (StopsAt keys.Unique text) (sym followed) tt;
+        stops = (
+          refl,
+          (
+            so_far.whole,
+            so_far.text_is,
+            record {
+              pairs = again.pairs;
+              outer = again.outer;
+              text = again.text;
+              opened = again.opened;
+              unique = key_unique before after again.outer again.pairs again.key stepped.moved again.is so_far.allow;
+              place = again.place;
+              key = again.key;
+              rest = again.rest;
+              begins = again.begins;
+              again = known;
+            },
+          ),
+        );
       }
-  follow_stops new (key.Repeats left) due followed =
-      record {
-        complete = λ value readable unique is.
-            absurd (none_repeats left value followed (stepped.reached value (due.due value readable is)) unique);
-        sound = tt;
-        stops = (so_far.whole, so_far.text_is, repeats left followed);
-      }
+
+pub follow_stops : {A : Type 0} (mode : Keys) (text : List ℕ) (before after : List OpenLevel) (bytes : List ℕ) (rest : Bor (List ℕ))
+    (old new : List (OpenKeys A)) (so_far : TextAt mode text before bytes old) → NodeStepped {A = A} before after bytes (Ok (Node rest))
+    → (reason : KeyStop) → FollowedBy mode so_far.whole after new (Err reason) → TextRead {A = A} mode text (Err reason)
+follow_stops keys.MayRepeat text before after bytes rest old new so_far stepped reason followed = absurd followed
+follow_stops keys.Unique text before after bytes rest old new so_far stepped (key.Repeats left) followed =
+    repeats text before after bytes rest old so_far stepped left followed
+follow_stops keys.Unique text before after bytes rest old new so_far stepped (key.Other reason) followed =
+    record {
+      complete = λ value readable unique is. ap key.Other followed;
+      sound = tt;
+      stops = subst (StopsAt keys.Unique text) (sym followed) tt;
+    }
 
 -- the step to a node, with the levels after it as a slice
 pub stepped_at : {A : Type 0} (before : List OpenLevel) (bytes : List ℕ) (next : Next A) (rest : Bor (List ℕ)) (levels slice : List (Level A))
@@ -124,42 +157,30 @@ stepped_at {A} before bytes next rest levels slice same is stepped =
     subst (λ (l : List (Level A)). NodeStepped {A = A} before (seen_levels l) bytes (Ok (Node rest))) (sym same)
     (subst (λ (n : Next A). NodeStepped before (seen_levels levels) bytes (Ok n)) is stepped)
 
--- no error but want of memory, at a node
-pub only_memory : (A : Type 0) (root : TypedValue) (levels : List OpenLevel) (error : Stop) → Reached {A = A} root levels (Err error)
-    → key.Other error ≡ key.Other stop.Memory
-only_memory A root levels stop.Memory is = refl
-only_memory A root levels (stop.Refused n) is = absurd is
-only_memory A root levels (stop.TooDeep n) is = absurd is
-
--- the value that ended the text repeats no key
-pub whole_unique : (before : List OpenLevel) (value : TypedValue) → OpenHasUniqueKeys before
-    → (first : TypedValue) × HasUniqueKeys first × Ended before first [] value → HasUniqueKeys value
-whole_unique before value unique gave = (ended_unique before gave.0 [] value gave.2 unique gave.1).1
+-- the value that ended the text has such keys
+pub whole_allows : (mode : Keys) (before : List OpenLevel) (value : TypedValue) → OpenKeysAllow mode before
+    → (first : TypedValue) × HasUniqueKeys first × Ended before first [] value → KeysAllow mode value
+whole_allows mode before value allow gave = (ended_allows mode before gave.0 [] value gave.2 allow (unique_allows mode gave.0 gave.1)).1
 
 -- ---- errors
 
--- bytes of no value without keys that repeat
-abbrev pub NoneIsUnique : List ℕ → ReadError → Type 0
-NoneIsUnique bytes error =
-    (error ≡ told.Memory) ⊎ ((value : TypedValue) → CanBeRead value → HasUniqueKeys value → encode (Some utf8) (document_text value) ≢ bytes)
+pub key_stopped : (mode : Keys) (bytes text : List ℕ) (why : KeyStop) (error : ReadError) → text ≡ bytes → TellsKey bytes why error
+    → ((value : TypedValue) → CanBeRead value → KeysAllow mode value → text ≡ encode_utf8_all (document_text value) → why ≡ key.Other stop.Memory)
+    → NoneAllowed mode bytes error
+key_stopped mode bytes text (key.Other stop.Memory) error same tells complete = inl tells
+key_stopped mode bytes text (key.Other (stop.Refused n)) error same tells complete =
+    inr (λ value readable allow is.
+    let never = complete value readable allow (same ∙ sym is ∙ text_bytes-utf8 (document_text value)) in cc)
+key_stopped mode bytes text (key.Other (stop.TooDeep n)) error same tells complete =
+    inr (λ value readable allow is.
+    let never = complete value readable allow (same ∙ sym is ∙ text_bytes-utf8 (document_text value)) in cc)
+key_stopped mode bytes text (key.Repeats n) error same tells complete =
+    inr (λ value readable allow is.
+    let never = complete value readable allow (same ∙ sym is ∙ text_bytes-utf8 (document_text value)) in cc)
 
-pub key_stopped : (bytes text : List ℕ) (why : KeyStop) (error : ReadError) → text ≡ bytes → TellsKey why error
-    → ((value : TypedValue) → CanBeRead value → HasUniqueKeys value → text ≡ encode_utf8_all (document_text value) → why ≡ key.Other stop.Memory)
-    → NoneIsUnique bytes error
-key_stopped bytes text (key.Other stop.Memory) error same tells complete = inl tells
-key_stopped bytes text (key.Other (stop.Refused n)) error same tells complete =
-    inr (λ value readable unique is.
-    let never = complete value readable unique (same ∙ sym is ∙ text_bytes-utf8 (document_text value)) in cc)
-key_stopped bytes text (key.Other (stop.TooDeep n)) error same tells complete =
-    inr (λ value readable unique is.
-    let never = complete value readable unique (same ∙ sym is ∙ text_bytes-utf8 (document_text value)) in cc)
-key_stopped bytes text (key.Repeats n) error same tells complete =
-    inr (λ value readable unique is.
-    let never = complete value readable unique (same ∙ sym is ∙ text_bytes-utf8 (document_text value)) in cc)
-
-pub key_placed : (bytes : List ℕ) (why : KeyStop) (error : ReadError) → IsUtf8 bytes → HasKeyPlaceOf bytes why error → TellsKey why error
-    → KeyStopsAt bytes why → IsPlacedBy keys.Unique bytes error
-key_placed bytes (key.Other reason) error text place tells stops =
-    stops_placed_by keys.Unique bytes reason error text place tells stops
-key_placed bytes (key.Repeats left) error text place tells stops =
-    subst (IsPlacedBy keys.Unique bytes) (sym place) (refl, (length bytes - left, refl, refl, (left, text, refl, stops)))
+pub key_placed : (mode : Keys) (bytes : List ℕ) (why : KeyStop) (error : ReadError) → IsUtf8 bytes → TellsKey bytes why error
+    → KeyStopsAt mode bytes why → IsPlacedBy mode bytes error
+key_placed mode bytes (key.Other reason) error utf8 tells stops = stops_placed mode bytes reason error utf8 tells stops
+key_placed mode bytes (key.Repeats left) error utf8 tells stops =
+    subst (IsPlacedBy mode bytes) (sym tells.2)
+    (stops.0, record { utf8 = utf8; left = left; position_is = tells.1; holds = stops.1 })

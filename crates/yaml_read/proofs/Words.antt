@@ -3,7 +3,7 @@ use Rattle.yaml_base.proofs.Common.{ℕ, ◌==◌, ◌+◌, ◌*◌, ◌-◌, �
 use Rattle.yaml_base.proofs.Common.{if◌then◌else◌, option_and_then, eqb-true, arith, nat_tests, append_assoc, replicate, space, codes}
 use Rattle.std.proofs.lemmas.List.{replicate-append-replicate}
 use Rattle.std.specs.{Prelude.Result, Prelude.Ok, Prelude.Err, Borrow.Bor}
-use Rattle.yaml_read.{specs.Words.past_word, specs.Words.Cuts, specs.Words.OrMemory, specs.declared.errors.Stop.Stop}
+use Rattle.yaml_read.{specs.Words.past_word, specs.Words.Cuts, specs.Words.IsMemory, specs.declared.errors.Stop.Stop}
 use Rattle.yaml_read.specs.declared.errors.Stop.TheVariants as stop
 
 eqb-self : (n : ℕ) → (n == n) ≡ true
@@ -90,11 +90,11 @@ pub cuts_behind : (first second text rest : List ℕ) (result : Result (Bor (Lis
 cuts_behind first second text rest (Ok found) is cut = is ∙ ap (λ t. first ++ t) cut ∙ sym (append_assoc first second found.now)
 cuts_behind first second text rest (Err error) is cut = longer_none first second text rest is cut
 
--- an error that is want of memory, or can't be
-pub memory_is : {T : Type 0} (Holds : T → Type 0) (error : Stop) → error ≡ stop.Memory → OrMemory Holds (Err error)
-memory_is Holds error is = subst (λ (e : Stop). OrMemory Holds (Err e)) (sym is) tt
+-- an error that is want of memory, and no other
+pub memory_is : (error : Stop) → error ≡ stop.Memory → IsMemory error
+memory_is error is = subst IsMemory (sym is) tt
 
-pub error_stays : {S T : Type 0} (Held : S → Type 0) (Holds : T → Type 0) (error : Stop) → OrMemory Held (Err error) → OrMemory Holds (Err error)
-error_stays Held Holds stop.Memory is = tt
-error_stays Held Holds (stop.Refused n) is = is
-error_stays Held Holds (stop.TooDeep n) is = is
+pub memory_only : (error : Stop) → IsMemory error → error ≡ stop.Memory
+memory_only stop.Memory is = refl
+memory_only (stop.Refused left) is = absurd is
+memory_only (stop.TooDeep left) is = absurd is

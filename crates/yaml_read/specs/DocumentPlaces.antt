@@ -1,18 +1,17 @@
 -- The reasons why bytes are not read as a document, and their places.
-use Rattle.std.specs.Prelude.{ℕ, ◌-◌, ◌≡◌, ◌≢◌, ◌⊎◌, None, Result, Ok, Err, IfErr, IfOk, List, Vec, [], ◌∷◌, ◌++◌, All, codes, length, map}
-use Rattle.std.specs.Str.{IsUtf8, IsValidUpTo, encode_utf8_all}
+use Rattle.std.specs.Prelude.{ℕ, ◌≡◌, ◌≢◌, ◌⊎◌, None, Result, Ok, Err, IfErr, IfOk, List, Vec, [], ◌∷◌, ◌++◌, All, codes, length, map}
+use Rattle.std.specs.Str.{encode_utf8_all}
 use Rattle.yaml_base.specs.Characters.{Text, line_feed}
 use Rattle.yaml_base.specs.Event.{Event}
 use Rattle.yaml_base.specs.Seen.{seen_event}
 use Rattle.yaml_base.specs.graphs.Documents.{graph_of}
 use Rattle.yaml_base.specs.graphs.Meetings.{Graph, document_event_list}
 use Rattle.yaml_base.specs.graphs.Unfolding.{IsWholeGraph}
-use Rattle.yaml_base.specs.values.LinesAndColumns.{column_of, line_of}
 use Rattle.yaml_base.specs.declared.documents.yaml_document_t.{yaml_document_t}
 use Rattle.yaml_base.specs.declared.events.yaml_event_t.{yaml_event_t}
 use Rattle.yaml_dump.specs.InOrder.{in_order}
 use Rattle.yaml_read.specs.EventTexts.{HasRunText, IsInNode}
-use Rattle.yaml_read.specs.Places.{IsBehindMarker}
+use Rattle.yaml_read.specs.Places.{EndsUtf8, IsBehindMarker, IsPlaceOf}
 use Rattle.yaml_read.specs.RunPlaces.{StopsInRun, in_document}
 use Rattle.yaml_read.specs.Words.{OrMemory, past_word}
 use Rattle.yaml_read.specs.declared.errors.ReadError.{ReadError}
@@ -44,16 +43,13 @@ pub record AreNotNumbered (bytes : List ℕ) : Type 0 where
   pub run : AreRunBytes bytes events
   pub none : (graph : Graph) → IsWholeGraph graph → document_event_list graph ≢ in_document events
 
--- An error has the line and the column of the place at which the bytes stop to be UTF-8, or else of the place at which they stop to be those of
--- events; or they are those of events that no graph has.
+-- An error has the position at which the bytes stop to be UTF-8, or else at which they stop to be those of events; or they are those of
+-- events that no graph has.
 abbrev pub IsDocumentPlaced : (bytes : List ℕ) → ReadError → Type 0
-IsDocumentPlaced bytes (told.NotCanonical line column) =
-    (at : ℕ) × (line ≡ line_of bytes at) × (column ≡ column_of bytes at)
-    × (((IsUtf8 bytes → ⊥) × IsValidUpTo bytes at) ⊎ ((left : ℕ) × IsUtf8 bytes × (at ≡ length bytes - left) × StopsInDumpedBytes bytes left))
-IsDocumentPlaced bytes (told.TooDeep line column) = ⊥
-IsDocumentPlaced bytes (told.DuplicateKey line column) = ⊥
+IsDocumentPlaced bytes (told.NotCanonical position) = EndsUtf8 bytes position ⊎ IsPlaceOf (StopsInDumpedBytes bytes) bytes position
 IsDocumentPlaced bytes told.NotNumbered = AreNotNumbered bytes
 IsDocumentPlaced bytes told.Memory = Unit {0}
+IsDocumentPlaced bytes _ = ⊥
 
 -- ---- the code's answers
 

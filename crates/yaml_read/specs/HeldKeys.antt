@@ -1,25 +1,22 @@
 -- The keys that the reader holds of the maps that are open.
-use Rattle.std.specs.Prelude.{ℕ, ◌+◌, ◌<◌, ◌≤◌, ◌≡◌, ◌||◌, ◌⊎◌, ◌≢◌, Bool, true, false, Result, Ok, Err, IfErr, IfOk, Some, List, [], ◌∷◌, ◌++◌, String, bytes_eq, codes, length, take}
+use Rattle.std.specs.Prelude.{ℕ, ◌+◌, ◌<◌, ◌≤◌, ◌≡◌, ◌||◌, Bool, true, false, Result, Ok, Err, IfErr, IfOk, List, [], ◌∷◌, ◌++◌, String, bytes_eq, codes, length, take}
 use Rattle.std.specs.BTreeSet.{BTreeSet, contains_text}
 use Rattle.std.specs.Str.{encode_utf8_all}
-use Rattle.yaml_base.specs.Encoding.{encode}
-use Rattle.yaml_base.specs.Settings.{utf8}
-use Rattle.yaml_base.specs.values.TypedValues.{TypedPairs, TypedValue, WritesValue, no_value_pairs, null_value, value_pairs_and}
-use Rattle.yaml_base.specs.values.UniqueKeys.{HasUniqueKeys}
+use Rattle.yaml_base.specs.values.TypedValues.{TypedPairs, TypedValue, no_value_pairs, null_value, value_pairs_and}
 use Rattle.yaml_base.specs.values.ValueText.{document_text, line_at, value_text}
 use Rattle.yaml_value.specs.OpenLevels.{OpenLevel, items_open, pairs_open, value_due}
 use Rattle.yaml_value.specs.{SeenValues.seen_value, declared.levels.Level.Level, declared.value.Value.Value}
+use Rattle.yaml_read.specs.AllowedKeys.{KeysAllow}
 use Rattle.yaml_read.specs.Opened.{IsOpen}
 use Rattle.yaml_read.specs.Places.{IsBehindMarker, StopsAt}
 use Rattle.yaml_read.specs.Readable.{CanBeRead, CanBeReadAt}
 use Rattle.yaml_read.specs.Remaining.{column_in}
-use Rattle.yaml_read.specs.RepeatedKeys.{IsPlacedBy, RepeatsKey}
+use Rattle.yaml_read.specs.RepeatedKeys.{RepeatsKey}
 use Rattle.yaml_read.specs.Settled.{Moved}
 use Rattle.yaml_read.specs.declared.errors.KeyStop.{KeyStop}
 use Rattle.yaml_read.specs.declared.errors.KeyStop.TheVariants as stop
-use Rattle.yaml_read.specs.declared.errors.ReadError.{ReadError}
-use Rattle.yaml_read.specs.declared.errors.ReadError.TheVariants as told
 use Rattle.yaml_read.specs.declared.errors.Stop.TheVariants.{Memory}
+use Rattle.yaml_value.specs.declared.keys.Keys.{Keys}
 use Rattle.yaml_value.specs.declared.keys.Keys.TheVariants as keys
 use Rattle.yaml_read.specs.declared.keys.OpenKeys.{OpenKeys}
 
@@ -53,6 +50,11 @@ abbrev pub HoldKeys : {A : Type 0} → (whole : List ℕ) → List OpenLevel →
 HoldKeys whole [] all = all ≡ []
 HoldKeys {A} whole (level ∷ outer) all =
     (init : List (OpenKeys A)) × (last : OpenKeys A) × (all ≡ init ++ last ∷ []) × HoldsKeys whole level outer last × HoldKeys whole outer init
+
+-- the same if keys must differ, else nothing
+abbrev pub HoldBy : {A : Type 0} → Keys → (whole : List ℕ) → List OpenLevel → List (OpenKeys A) → Type 0
+HoldBy keys.Unique whole levels all = HoldKeys whole levels all
+HoldBy keys.MayRepeat whole levels all = Unit {0}
 
 -- ---- the code's answers
 
@@ -92,10 +94,10 @@ pub record IsLastLevel {A : Type 0} (level : Level A) (levels : List (Level A)) 
   pub is : levels ≡ outer ++ level ∷ []
 
 -- what is held before a node is read, with what is open before and after it
-pub record FollowsKeys {A : Type 0} (old : List (OpenKeys A)) (after : List OpenLevel) (rest : List ℕ) : Type 0 where
+pub record FollowsKeys {A : Type 0} (mode : Keys) (old : List (OpenKeys A)) (after : List OpenLevel) (rest : List ℕ) : Type 0 where
   pub whole : List ℕ
   pub before : List OpenLevel
-  pub held : HoldKeys whole before old
+  pub held : HoldBy mode whole before old
   pub moved : Moved before after
   pub opened : IsOpen whole after rest
 
@@ -123,22 +125,21 @@ KeysFollowed whole after new (Ok _) = HoldKeys whole after new × InnermostIsNew
 KeysFollowed whole after new (Err (stop.Repeats left)) = KeyRepeats whole after left
 KeysFollowed whole after new (Err (stop.Other reason)) = reason ≡ Memory
 
--- why reading stops if keys must differ
-abbrev pub KeyStopsAt : (bytes : List ℕ) → KeyStop → Type 0
-KeyStopsAt bytes (stop.Other reason) = StopsAt keys.Unique bytes reason
-KeyStopsAt bytes (stop.Repeats left) = IsBehindMarker bytes (λ whole. RepeatsKey whole left)
+-- the same if keys must differ, else success
+abbrev pub FollowedBy : {A : Type 0} → Keys → (whole : List ℕ) → (after : List OpenLevel) → (new : List (OpenKeys A)) → Result (Unit {0}) KeyStop → Type 0
+FollowedBy keys.Unique whole after new result = KeysFollowed whole after new result
+FollowedBy keys.MayRepeat whole after new (Ok _) = Unit {0}
+FollowedBy keys.MayRepeat whole after new (Err reason) = ⊥
 
--- a document's text was read as a value in which no map has a key twice
-pub record UniqueRead {A : Type 0} (text : List ℕ) (result : Result (Value A) KeyStop) : Type 0 where
-  pub complete : (value : TypedValue) → CanBeRead value → HasUniqueKeys value → text ≡ encode_utf8_all (document_text value)
+-- why reading stops
+abbrev pub KeyStopsAt : Keys → (bytes : List ℕ) → KeyStop → Type 0
+KeyStopsAt mode bytes (stop.Other reason) = StopsAt mode bytes reason
+KeyStopsAt mode bytes (stop.Repeats left) = (mode ≡ keys.Unique) × IsBehindMarker bytes (λ whole. RepeatsKey whole left)
+
+-- a document's text was read as a value with such keys
+pub record TextRead {A : Type 0} (mode : Keys) (text : List ℕ) (result : Result (Value A) KeyStop) : Type 0 where
+  pub complete : (value : TypedValue) → CanBeRead value → KeysAllow mode value → text ≡ encode_utf8_all (document_text value)
       → IfErr result (λ error. error ≡ stop.Other Memory)
   pub sound : IfOk result (λ value. (text ≡ encode_utf8_all (document_text (seen_value value))) × CanBeReadAt 0 (seen_value value)
-      × HasUniqueKeys (seen_value value))
-  pub stops : IfErr result (KeyStopsAt text)
-
--- so were bytes
-pub record UniqueBytesRead {A : Type 0} (bytes : List ℕ) (result : Result (Value A) ReadError) : Type 0 where
-  pub read : IfOk result (λ value. WritesValue (seen_value value) bytes × HasUniqueKeys (seen_value value))
-  pub complete : IfErr result (λ error. (error ≡ told.Memory)
-      ⊎ ((value : TypedValue) → CanBeRead value → HasUniqueKeys value → encode (Some utf8) (document_text value) ≢ bytes))
-  pub placed : IfErr result (IsPlacedBy keys.Unique bytes)
+      × KeysAllow mode (seen_value value))
+  pub stops : IfErr result (KeyStopsAt mode text)

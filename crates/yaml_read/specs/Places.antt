@@ -4,18 +4,16 @@ use Rattle.std.specs.Prelude.{IfErr, IfOk, IfSome}
 use Rattle.std.specs.Borrow.{Bor}
 use Rattle.std.specs.Str.{IsUtf8, IsValidUpTo}
 use Rattle.yaml_base.specs.Characters.{space}
-use Rattle.yaml_base.specs.values.LinesAndColumns.{column_of, line_of}
+use Rattle.yaml_base.specs.Positions.{IsPositionOf}
+use Rattle.yaml_base.specs.declared.places.Position.{Position}
 use Rattle.yaml_base.specs.values.TypedValues.{TypedValue, most_nested}
 use Rattle.yaml_base.specs.values.ValueText.{line_at}
 use Rattle.yaml_value.specs.declared.keys.Keys.{Keys}
-use Rattle.yaml_value.specs.declared.keys.Keys.TheVariants as keys
 use Rattle.yaml_read.specs.AllowedKeys.{KeysAllow, OpenKeysAllow}
 use Rattle.yaml_read.specs.Grammar.{behind_value, node, nothing, word_then}
 use Rattle.yaml_read.specs.Opened.{HasRead, IsOpen}
 use Rattle.yaml_value.specs.OpenLevels.{OpenLevel}
 use Rattle.yaml_read.specs.Words.{Cuts, CutsIf, past_word}
-use Rattle.yaml_read.specs.declared.errors.ReadError.{ReadError}
-use Rattle.yaml_read.specs.declared.errors.ReadError.TheVariants as told
 use Rattle.yaml_read.specs.declared.errors.Stop.{Stop}
 use Rattle.yaml_read.specs.declared.errors.Stop.TheVariants as stop
 
@@ -63,25 +61,27 @@ abbrev pub CannotStand : Keys → (bytes : List ℕ) → (left : ℕ) → Type 0
 CannotStand mode bytes left =
     BreaksOff (word_then (codes "---\n") nothing) bytes left ⊎ IsBehindMarker bytes (λ whole. BreaksInValue mode whole left)
 
--- the line and the column at which the bytes stop to be UTF-8, or else of the first word that is impossible there
-abbrev pub IsWordPlace : Keys → (bytes : List ℕ) → (line column : ℕ) → Type 0
-IsWordPlace mode bytes line column =
-    (at : ℕ) × (line ≡ line_of bytes at) × (column ≡ column_of bytes at)
-    × (((IsUtf8 bytes → ⊥) × IsValidUpTo bytes at) ⊎ ((left : ℕ) × IsUtf8 bytes × (at ≡ length bytes - left) × CannotStand mode bytes left))
+-- The position at which bytes stop to be UTF-8.
+pub record EndsUtf8 (bytes : List ℕ) (position : Position) : Type 0 where
+  pub not_utf8 : IsUtf8 bytes → ⊥
+  pub at : ℕ
+  pub valid : IsValidUpTo bytes at
+  pub position_is : IsPositionOf bytes at position
 
--- those of the first list or map that lies too deep
-abbrev pub IsDepthPlace : Keys → (bytes : List ℕ) → (line column : ℕ) → Type 0
-IsDepthPlace mode bytes line column =
-    (at : ℕ) × (line ≡ line_of bytes at) × (column ≡ column_of bytes at)
-    × ((left : ℕ) × IsUtf8 bytes × (at ≡ length bytes - left) × IsBehindMarker bytes (λ whole. OpensPastDepth mode whole left))
+-- The position in UTF-8 at which something holds of the number of bytes that are left.
+pub record IsPlaceOf (Holds : ℕ → Type 0) (bytes : List ℕ) (position : Position) : Type 0 where
+  pub utf8 : IsUtf8 bytes
+  pub left : ℕ
+  pub position_is : IsPositionOf bytes (length bytes - left) position
+  pub holds : Holds left
 
--- An error has such a place; keys may repeat
-abbrev pub IsPlaced : (bytes : List ℕ) → ReadError → Type 0
-IsPlaced bytes (told.NotCanonical line column) = IsWordPlace keys.MayRepeat bytes line column
-IsPlaced bytes (told.TooDeep line column) = IsDepthPlace keys.MayRepeat bytes line column
-IsPlaced bytes (told.DuplicateKey line column) = ⊥
-IsPlaced bytes told.NotNumbered = ⊥
-IsPlaced bytes told.Memory = Unit {0}
+-- The position at which the bytes stop to be UTF-8, or else of the first word that is impossible there.
+abbrev pub IsWordPlace : Keys → (bytes : List ℕ) → Position → Type 0
+IsWordPlace mode bytes position = EndsUtf8 bytes position ⊎ IsPlaceOf (CannotStand mode bytes) bytes position
+
+-- That of the first list or map that lies too deep.
+abbrev pub IsDepthPlace : Keys → (bytes : List ℕ) → Position → Type 0
+IsDepthPlace mode bytes position = IsPlaceOf (λ left. IsBehindMarker bytes (λ whole. OpensPastDepth mode whole left)) bytes position
 
 -- ---- the code's answers
 
@@ -157,16 +157,3 @@ abbrev pub StopsAt : Keys → (bytes : List ℕ) → Stop → Type 0
 StopsAt mode bytes (stop.Refused left) = CannotStand mode bytes left
 StopsAt mode bytes (stop.TooDeep left) = IsBehindMarker bytes (λ whole. OpensPastDepth mode whole left)
 StopsAt mode bytes stop.Memory = Unit {0}
-
--- the error of an offset
-abbrev pub IsNotCanonicalAt : (bytes : List ℕ) → (at : ℕ) → ReadError → Type 0
-IsNotCanonicalAt bytes at error = error ≡ told.NotCanonical (line_of bytes at) (column_of bytes at)
-
-abbrev pub IsTooDeepAt : (bytes : List ℕ) → (at : ℕ) → ReadError → Type 0
-IsTooDeepAt bytes at error = error ≡ told.TooDeep (line_of bytes at) (column_of bytes at)
-
--- the error tells of why reading stops
-abbrev pub HasPlaceOf : (bytes : List ℕ) → Stop → ReadError → Type 0
-HasPlaceOf bytes (stop.Refused left) error = IsNotCanonicalAt bytes (length bytes - left) error
-HasPlaceOf bytes (stop.TooDeep left) error = IsTooDeepAt bytes (length bytes - left) error
-HasPlaceOf bytes stop.Memory error = Unit {0}

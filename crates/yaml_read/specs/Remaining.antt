@@ -7,8 +7,8 @@ use Rattle.yaml_base.specs.values.ValueText.{line_at, value_text}
 use Rattle.yaml_value.specs.OpenLevels.{OpenLevel, items_open, pairs_open, seen_level, value_due}
 use Rattle.yaml_value.specs.SeenValues.{seen_value}
 use Rattle.yaml_read.specs.Readable.{CanBeReadAt}
+use Rattle.yaml_read.specs.Words.{IsMemory}
 use Rattle.yaml_read.specs.declared.errors.Stop.{Stop}
-use Rattle.yaml_read.specs.declared.errors.Stop.TheVariants as stop
 use Rattle.yaml_read.specs.declared.levels.Turn.{Turn}
 use Rattle.yaml_read.specs.declared.levels.Turn.TheVariants.{Continues, Ends}
 use Rattle.yaml_read.specs.declared.levels.Next.{Next}
@@ -66,12 +66,10 @@ pub record IsRead (root : TypedValue) (levels : List OpenLevel) (value : TypedVa
 abbrev pub TurnReached : {A : Type 0} → TypedValue → List OpenLevel → Result (Turn A) Stop → Type 0
 TurnReached root levels (Ok (Continues level rest)) = IsDue root (seen_level level ∷ levels) rest.now
 TurnReached root levels (Ok (Ends value rest)) = IsRead root levels (seen_value value) rest.now
-TurnReached root levels (Err stop.Memory) = Unit {0}
-TurnReached root levels (Err _) = ⊥
+TurnReached root levels (Err error) = IsMemory error
 
 -- after a value, unless memory gave out
 abbrev pub Reached : {A : Type 0} → TypedValue → List OpenLevel → Result (Next A) Stop → Type 0
 Reached root levels (Ok (Done value)) = seen_value value ≡ root
 Reached root levels (Ok (Node rest)) = IsDue root levels rest.now
-Reached root levels (Err stop.Memory) = Unit {0}
-Reached root levels (Err _) = ⊥
+Reached root levels (Err error) = IsMemory error

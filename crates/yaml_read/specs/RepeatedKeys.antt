@@ -1,7 +1,6 @@
 -- Keys that repeat, and their places.
-use Rattle.std.specs.Prelude.{ℕ, ◌+◌, ◌-◌, ◌≡◌, List, ◌∷◌, ◌++◌, length}
-use Rattle.std.specs.Str.{IsUtf8, encode_utf8_all}
-use Rattle.yaml_base.specs.values.LinesAndColumns.{column_of, line_of}
+use Rattle.std.specs.Prelude.{ℕ, ◌+◌, ◌≡◌, List, ◌∷◌, ◌++◌, length}
+use Rattle.std.specs.Str.{encode_utf8_all}
 use Rattle.yaml_base.specs.values.TypedValues.{TypedPairs, TypedValue}
 use Rattle.yaml_base.specs.values.UniqueKeys.{IsNewKey}
 use Rattle.yaml_base.specs.values.ValueText.{value_text}
@@ -10,7 +9,7 @@ use Rattle.yaml_value.specs.declared.keys.Keys.{Keys}
 use Rattle.yaml_value.specs.declared.keys.Keys.TheVariants as keys
 use Rattle.yaml_read.specs.AllowedKeys.{OpenHasUniqueKeys}
 use Rattle.yaml_read.specs.Opened.{IsOpen}
-use Rattle.yaml_read.specs.Places.{IsBehindMarker, IsDepthPlace, IsWordPlace}
+use Rattle.yaml_read.specs.Places.{IsBehindMarker, IsDepthPlace, IsPlaceOf, IsWordPlace}
 use Rattle.yaml_read.specs.Remaining.{column_in}
 use Rattle.yaml_read.specs.declared.errors.ReadError.{ReadError}
 use Rattle.yaml_read.specs.declared.errors.ReadError.TheVariants as told
@@ -28,14 +27,12 @@ pub record RepeatsKey (whole : List ℕ) (left : ℕ) : Type 0 where
   pub begins : text ≡ encode_utf8_all (value_text (column_in outer + 2) key) ++ rest
   pub again : IsNewKey pairs key → ⊥
 
--- An error has the line and the column at which the bytes stop to be UTF-8, or else of the first word that is impossible there, of the
--- first list or map that lies too deep, or, if keys must differ, of the first key that its map has already.
+-- An error has the position at which the bytes stop to be UTF-8, or else of the first word that is impossible there, of the first list or
+-- map that lies too deep, or, if keys must differ, of the first key that its map has already.
 abbrev pub IsPlacedBy : Keys → (bytes : List ℕ) → ReadError → Type 0
-IsPlacedBy mode bytes (told.NotCanonical line column) = IsWordPlace mode bytes line column
-IsPlacedBy mode bytes (told.TooDeep line column) = IsDepthPlace mode bytes line column
-IsPlacedBy mode bytes (told.DuplicateKey line column) =
-    (mode ≡ keys.Unique)
-    × ((at : ℕ) × (line ≡ line_of bytes at) × (column ≡ column_of bytes at)
-    × ((left : ℕ) × IsUtf8 bytes × (at ≡ length bytes - left) × IsBehindMarker bytes (λ whole. RepeatsKey whole left)))
+IsPlacedBy mode bytes (told.NotCanonical position) = IsWordPlace mode bytes position
+IsPlacedBy mode bytes (told.TooDeep position) = IsDepthPlace mode bytes position
+IsPlacedBy mode bytes (told.DuplicateKey position) =
+    (mode ≡ keys.Unique) × IsPlaceOf (λ left. IsBehindMarker bytes (λ whole. RepeatsKey whole left)) bytes position
 IsPlacedBy mode bytes told.NotNumbered = ⊥
 IsPlacedBy mode bytes told.Memory = Unit {0}

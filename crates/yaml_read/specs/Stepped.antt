@@ -6,20 +6,19 @@ use Rattle.std.specs.Str.{all_scalars, encode_utf8_all}
 use Rattle.yaml_base.specs.Characters.{Text}
 use Rattle.yaml_base.specs.Seen.{seen_text}
 use Rattle.yaml_base.specs.values.TypedValues.{TypedValue, most_nested, no_value_pairs, no_values}
-use Rattle.yaml_base.specs.values.ValueText.{document_text, in_quotes, line_at, value_text}
+use Rattle.yaml_base.specs.values.ValueText.{in_quotes, line_at, value_text}
 use Rattle.yaml_value.specs.OpenLevels.{OpenLevel, items_open, pairs_open, value_due}
 use Rattle.yaml_value.specs.{SeenValues.seen_value, declared.value.Value.Value}
 use Rattle.yaml_value.specs.declared.keys.Keys.{Keys}
-use Rattle.yaml_value.specs.declared.keys.Keys.TheVariants as keys
 use Rattle.yaml_read.specs.AllowedKeys.{KeysAllow, OpenKeysAllow}
 use Rattle.yaml_read.specs.Awaits.{EntryStands}
 use Rattle.yaml_read.specs.Entries.{EntryFound}
 use Rattle.yaml_read.specs.Grammar.{behind_in, behind_tag, entry_end, line_then, nothing, quoted_text, these_or_those, word_then}
 use Rattle.yaml_read.specs.Heads.{IsWhole, tag_word}
 use Rattle.yaml_read.specs.Opened.{EntryCut, HasRead, IsOpen, NextRead, TurnRead}
-use Rattle.yaml_read.specs.Places.{BreaksAt, IsDeepHere, IsHere, LacksLine, StopsAt, StopsIn}
+use Rattle.yaml_read.specs.Places.{BreaksAt, IsDeepHere, IsHere, LacksLine, StopsIn}
 use Rattle.yaml_read.specs.Remaining.{IsDue, IsRead, Reached, TurnReached}
-use Rattle.yaml_read.specs.Readable.{CanBeRead, CanBeReadAt}
+use Rattle.yaml_read.specs.Readable.{CanBeReadAt}
 use Rattle.yaml_read.specs.Settled.{NextMoved, NextTook, TurnTook}
 use Rattle.yaml_read.specs.Sound.{IsScalarValue}
 use Rattle.yaml_read.specs.Words.{Cuts, OrMemory, past_word}
@@ -157,10 +156,3 @@ BehindRead depth (pairs_open pairs) text result = EntryRead depth (codes "  ? ")
 BehindRead depth (value_due pairs key) text (Ok (Another rest)) = LeadCut depth (codes "  : ") text (Ok rest)
 BehindRead depth (value_due pairs key) text (Ok (End rest)) = ⊥
 BehindRead depth (value_due pairs key) text (Err error) = LeadCut depth (codes "  : ") text (Err error)
-
--- ---- documents
-
-pub record TextRead {A : Type 0} (text : List ℕ) (result : Result (Value A) Stop) : Type 0 where
-  pub reads : (value : TypedValue) → CanBeRead value → text ≡ encode_utf8_all (document_text value) → OrMemory (λ found. seen_value found ≡ value) result
-  pub sound : IfOk result (λ value. (text ≡ encode_utf8_all (document_text (seen_value value))) × CanBeReadAt 0 (seen_value value))
-  pub stops : IfErr result (StopsAt keys.MayRepeat text)

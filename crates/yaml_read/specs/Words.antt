@@ -19,8 +19,12 @@ abbrev pub Cuts : (word text : List ℕ) → Result (Bor (List ℕ)) Stop → Ty
 Cuts word text (Ok rest) = text ≡ word ++ rest.now
 Cuts word text (Err error) = past_word word text ≡ None
 
+-- memory gave out
+abbrev pub IsMemory : Stop → Type 0
+IsMemory stop.Memory = Unit {0}
+IsMemory _ = ⊥
+
 -- the answer is this, unless memory gave out
 abbrev pub OrMemory : {T : Type 0} → (T → Type 0) → Result T Stop → Type 0
 OrMemory Holds (Ok found) = Holds found
-OrMemory Holds (Err stop.Memory) = Unit {0}
-OrMemory Holds (Err _) = ⊥
+OrMemory Holds (Err error) = IsMemory error

@@ -11,7 +11,7 @@ ghost use Rattle.yaml_read.specs.DocumentTexts.{AreDumpedBytes, unstyled_graph};
 ghost use Rattle.yaml_read.specs.RunPlaces.{in_document};
 
 use crate::errors::ReadError;
-use crate::reading::{error_of, not_canonical};
+use crate::positions::{error_of, text_of};
 use crate::runs::read_events;
 use std::alloc::Allocator;
 use yaml_base::{yaml_document_t, yaml_event_t};
@@ -42,7 +42,7 @@ fn composed<A: Allocator + Copy>(
 /// Its nodes are numbered in the order in which they begin, and their styles are `ANY`. Dumped so again, it gives these bytes.
 ///
 /// # Errors
-/// `NotCanonical` if the bytes aren't laid out as those of a document. Its place is that of the first event that is impossible there:
+/// `NotCanonical` if the bytes aren't laid out as those of a document. Its position is that of the first event that is impossible there:
 /// the beginning of the text that leads to it, or of its node if that text is right, or of what follows if its node is right.
 /// `NotNumbered` if they are laid out so, but no dump gives its nodes these anchors and aliases: an anchor without an alias, an alias
 /// before its anchor, names other than `id001`, `id002` and so on in the order of each node's first alias. `Memory` if an allocation
@@ -57,11 +57,11 @@ pub fn read_document<A: Allocator + Copy>(
     ensures complete { IfErr result (λ error. (error ≡ ReadError.Memory) ⊎ ((graph : Graph) → AreDumpedBytes graph bytes.now → ⊥)) }
     ensures placed { IfErr result (IsDocumentPlaced bytes.now) }
 {
-    match std::str::from_utf8(bytes) {
+    match text_of(bytes) {
         Ok(text) => match read_events(alloc, text) {
             Ok(events) => composed(alloc, events.as_slice()),
             Err(stop) => Err(error_of(bytes, stop)),
         },
-        Err(error) => Err(not_canonical(bytes, error.valid_up_to())),
+        Err(error) => Err(error),
     }
 }

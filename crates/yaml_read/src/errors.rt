@@ -5,8 +5,9 @@ ghost use Rattle.yaml_read.specs.declared.errors.Stop.TheVariants as stop;
 
 use std::alloc::AllocError;
 use thiserror::Error;
+use yaml_base::Position;
 
-/// The reason why bytes aren't read. Lines end with LF, and lines and columns count from 1, columns in characters.
+/// The reason why bytes aren't read.
 #[derive(Clone, Copy, Debug, Drop, Error, PartialEq, Eq)]
 pub enum ReadError {
     /// They are no value's canonical bytes. The first word that is impossible at its place begins here: a tag, a bracket,
@@ -14,15 +15,15 @@ pub enum ReadError {
     /// escape, another scalar with its quotes. If they end too early, a word is missing or cut off here. If they aren't
     /// UTF-8, this is the end of their longest prefix that is. By `read_document` they are no document's, and no event goes on here:
     /// here a line's end and what leads to a node are wrong, or a node after these, or what follows a node or a bracket.
-    #[error("line {line}, column {column}: not canonical")]
-    NotCanonical { line: usize, column: usize },
+    #[error("{position}: not canonical")]
+    NotCanonical { position: Position },
     /// Lists and maps nest more than 1,000 deep. The first that lies too deep begins here.
-    #[error("line {line}, column {column}: lists and maps nest too deep")]
-    TooDeep { line: usize, column: usize },
+    #[error("{position}: lists and maps nest too deep")]
+    TooDeep { position: Position },
     /// A map has a key twice, and keys must differ. The second of the two begins here, if `: ` follows it; no map has a key twice up to
     /// here. Only `read_canonical_with` tells it.
-    #[error("line {line}, column {column}: a key that its map has already")]
-    DuplicateKey { line: usize, column: usize },
+    #[error("{position}: a key that its map has already")]
+    DuplicateKey { position: Position },
     /// They are laid out as those of a document, but no dump gives its nodes these anchors and aliases. It has no place.
     #[error("anchors and aliases are not those that a dump numbers")]
     NotNumbered,
@@ -41,12 +42,12 @@ pub(crate) enum Stop {
     Memory,
 }
 
-/// The reason why the reader stops if keys must differ.
+/// The reason why the reader of values stops.
 #[derive(Clone, Copy, Drop)]
 pub(crate) enum KeyStop {
-    /// It would stop even if they may repeat.
+    /// It would stop even if keys may repeat.
     Other(Stop),
-    /// The key that begins so many bytes before the end is one that its map has already.
+    /// Keys must differ, and the key that begins so many bytes before the end is one that its map has already.
     Repeats(usize),
 }
 

@@ -1,14 +1,14 @@
 //! The keys of the maps that are open.
 ghost use Rattle.std.specs.BTreeSet.{contains_text};
 ghost use Rattle.std.specs.Prelude.{[], ◌≡◌, ◌++◌, ◌||◌, IfOk, List, MatchOption, bytes_eq, not, ℕ};
-ghost use Rattle.yaml_read.specs.HeldKeys.{EndsBefore, FollowsKeys, HeldAtNode, IsLastLevel, KeyAdded, KeyEndsBefore, KeysFollowed, TakenOff};
+ghost use Rattle.yaml_read.specs.HeldKeys.{EndsBefore, FollowedBy, FollowsKeys, HeldAtNode, IsLastLevel, KeyAdded, KeyEndsBefore, KeysFollowed, TakenOff};
 ghost use Rattle.yaml_value.specs.OpenLevels.{seen_level, seen_levels};
 
 use crate::errors::{KeyStop, Stop};
 use crate::steps::push;
 use std::alloc::{AllocError, Allocator};
 use std::collections::BTreeSet;
-use yaml_value::Level;
+use yaml_value::{Keys, Level};
 
 /// The keys of a list or a map that is open; a list has none.
 #[derive(Drop)]
@@ -102,14 +102,15 @@ fn innermost<A: Allocator>(levels: &[Level<A>]) -> Option<&Level<A>>
 }
 
 /// Brings the keys from the lists and maps that were open before a node to those that are open after it, at the next node.
-pub(crate) fn follow<'a, A: Allocator + Copy>(
+fn follow<'a, A: Allocator + Copy>(
     alloc: A,
     keys: &mut Vec<OpenKeys<'a, A>, A>,
     levels: &[Level<A>],
     rest: &'a str,
 ) -> Result<(), KeyStop>
-    requires { FollowsKeys keys.old.items (seen_levels levels.now) rest.now }
-    ensures { (can : FollowsKeys keys.old.items (seen_levels levels.now) rest.now) → KeysFollowed can.whole (seen_levels levels.now) keys.new.items result }
+    requires { FollowsKeys Keys.Unique keys.old.items (seen_levels levels.now) rest.now }
+    ensures { (can : FollowsKeys Keys.Unique keys.old.items (seen_levels levels.now) rest.now)
+        → KeysFollowed can.whole (seen_levels levels.now) keys.new.items result }
 {
     let Some(level) = innermost(levels) else {
         return Ok(());
@@ -121,5 +122,23 @@ pub(crate) fn follow<'a, A: Allocator + Copy>(
             Err(stop) => Err(KeyStop::Other(stop)),
         },
         Err(stop) => Err(stop),
+    }
+}
+
+/// Follows the keys if they must differ.
+pub(crate) fn follow_by<'a, A: Allocator + Copy>(
+    alloc: A,
+    mode: Keys,
+    keys: &mut Vec<OpenKeys<'a, A>, A>,
+    levels: &[Level<A>],
+    rest: &'a str,
+) -> Result<(), KeyStop>
+    requires { FollowsKeys mode keys.old.items (seen_levels levels.now) rest.now }
+    ensures { (can : FollowsKeys mode keys.old.items (seen_levels levels.now) rest.now)
+        → FollowedBy mode can.whole (seen_levels levels.now) keys.new.items result }
+{
+    match mode {
+        Keys::Unique => follow(alloc, keys, levels, rest),
+        Keys::MayRepeat => Ok(()),
     }
 }

@@ -9,15 +9,17 @@ ghost use Rattle.yaml_base.specs.values.ValueText.{document_text};
 ghost use Rattle.yaml_read.specs.DocumentTexts.{AreDumpedBytes};
 ghost use Rattle.yaml_read.specs.Grammar.{behind_value, node};
 ghost use Rattle.yaml_read.specs.Opened.{HasRead, IsOpen};
-ghost use Rattle.yaml_read.specs.Places.{BreaksOff, IsPlaced};
+ghost use Rattle.yaml_read.specs.Places.{BreaksOff};
 ghost use Rattle.yaml_read.specs.ReadBack.{IsAnswerTo};
 ghost use Rattle.yaml_read.specs.Readable.{CanBeRead};
 ghost use Rattle.yaml_read.specs.Remaining.{IsDue, IsRead};
+ghost use Rattle.yaml_read.specs.RepeatedKeys.{IsPlacedBy};
 ghost use Rattle.yaml_read.specs.TextsAndWords.{BeginsText, BeginsValue, BeginsWith, GoesOnWith};
 ghost use Rattle.yaml_read.specs.declared.errors.ReadError.TheVariants as told;
 ghost use Rattle.yaml_read.specs.declared.errors.ReadError.{ReadError};
 ghost use Rattle.yaml_value.specs.OpenLevels.{OpenLevel};
 ghost use Rattle.yaml_value.specs.SeenValues.{seen_value};
+ghost use Rattle.yaml_value.specs.declared.keys.Keys.TheVariants.{MayRepeat};
 ghost use Rattle.yaml_value.specs.declared.value.Value.{Value};
 
 use std::alloc::Allocator;
@@ -54,13 +56,13 @@ pub fn texts_begin_up_to_places()
         → HasRead whole levels value bytes → BreaksOff (behind_value levels) bytes left → BeginsValue (take (length whole - left) whole) }
 {}
 
-/// States that bytes have one place of their fault. Two errors that have their place in the same bytes are the same, unless one of
-/// them is `Memory`; and no other error has a place in the canonical bytes of a value that can be read.
+/// States that bytes have one place of their fault. Two errors that have their position in the same bytes are the same, unless one of
+/// them is `Memory`; and no other error has a position in the canonical bytes of a value that can be read.
 pub fn bytes_have_one_place()
-    ensures one { (bytes : List ℕ) (one other : ReadError) → IsPlaced bytes one → IsPlaced bytes other
+    ensures one { (bytes : List ℕ) (one other : ReadError) → IsPlacedBy MayRepeat bytes one → IsPlacedBy MayRepeat bytes other
         → (one ≡ told.Memory) ⊎ ((other ≡ told.Memory) ⊎ (one ≡ other)) }
-    ensures nowhere { (value : TypedValue) (error : ReadError) → CanBeRead value → IsPlaced (encode (Some utf8) (document_text value)) error
-        → error ≡ told.Memory }
+    ensures nowhere { (value : TypedValue) (error : ReadError) → CanBeRead value
+        → IsPlacedBy MayRepeat (encode (Some utf8) (document_text value)) error → error ≡ told.Memory }
 {}
 
 /// States that documents whose dumps have the same canonical bytes say the same: the parts of their graphs that the roots reach are

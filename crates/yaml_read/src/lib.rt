@@ -11,6 +11,7 @@ mod leads;
 mod levels;
 mod names;
 mod nodes;
+mod positions;
 mod quoted;
 mod reading;
 mod runs;
@@ -20,6 +21,7 @@ mod unique;
 
 pub use documents::read_document;
 pub use errors::ReadError;
-pub use reading::read_canonical;
-pub use unique::{has_unique_keys, read_canonical_with};
+pub use reading::{read_canonical, read_canonical_with};
+pub use unique::has_unique_keys;
+pub use yaml_base::Position;
 pub use yaml_value::{Keys, Value};

@@ -1,12 +1,11 @@
-use Rattle.std.proofs.Common.{◌≡◌, ◌++◌, ap, sym, ◌∙◌, w64, List, ℕ, inr, String, encode_utf8_all, Bor}
+use Rattle.std.proofs.Common.{◌++◌, ap, sym, ◌∙◌, w64, inr, encode_utf8_all}
 use Rattle.std.{proofs.lemmas.Fmt.signed_decimal_injective, proofs.lemmas.Int.to_z-of_z, specs.Fmt.signed_decimal}
-use Rattle.yaml_value.{specs.SeenValues.seen_value, specs.declared.value.Value.Value}
-use Rattle.yaml_base.{specs.values.TypedValues.int_value, specs.values.ValueText.in_quotes, specs.Seen.seen_text}
+use Rattle.yaml_value.{specs.SeenValues.seen_value}
+use Rattle.yaml_base.{specs.values.TypedValues.int_value, specs.values.ValueText.in_quotes}
 use Rattle.yaml_value.proofs.SeenLevels.{seen_integer}
 use Rattle.yaml_read.proofs.{Scalars.digits_are, Scalars.fits_signed, Scalars.int_scalars}
 use Rattle.yaml_read.proofs.BreakingNodes.{whole_placed, whole_refused}
 use Rattle.yaml_read.proofs.{HeadsRead.digits_seen, Stepping.integer_scalar, Stepping.no_integer_scalar}
-use Rattle.yaml_read.specs.{Heads.IsWhole}
 use Rattle.yaml_value.specs.declared.value.Value as declared
 use Rattle.yaml_read.proofs.heads.read_integer.Goals as goal
 
@@ -32,8 +31,7 @@ returns-in-Some g c =
 
 pub returns-in-Ok : goal.returns-in-Ok
 returns-in-Ok g c =
-    no_integer_scalar g.row.A.Denot (λ n rest (found : Value g.row.A.Denot × Bor (List ℕ)). IsWhole (int_value n) rest found) c.args.text.now
-    c.refused_at.result c.utf8.text (inr c.refused_at.ensures)
+    no_integer_scalar g.row.A.Denot c.args.text.now c.refused_at.result c.utf8.text (inr c.refused_at.ensures)
     (λ n rest few is.
     let read = c.in-Ok.ensures.reads (signed_decimal n) rest (int_scalars n few) is in
     absurd (c.in-None.ensures n few (c.as_str.ensures.value ∙ digits_are c.in-Ok.digits n few read.0)))
@@ -41,10 +39,6 @@ returns-in-Ok g c =
 pub returns : goal.returns
 returns g c =
     let place = whole_placed c.args.text.now c.in-Err.reason c.refused_whole.result c.refused_whole.ensures in
-    no_integer_scalar g.row.A.Denot
-    (λ n rest (found : String g.row.A.Denot × Bor (List ℕ)). (seen_text found.0 ≡ signed_decimal n) × (found.1.now ≡ encode_utf8_all rest))
-    c.args.text.now c.refused_whole.result c.utf8.text place
+    no_integer_scalar g.row.A.Denot c.args.text.now c.refused_whole.result c.utf8.text place
     (λ n rest few is.
-    whole_refused
-    (λ (found : String g.row.A.Denot × Bor (List ℕ)). (seen_text found.0 ≡ signed_decimal n) × (found.1.now ≡ encode_utf8_all rest))
-    c.args.text.now c.in-Err.reason c.refused_whole.result c.refused_whole.ensures (c.in-Err.ensures.reads (signed_decimal n) rest (int_scalars n few) is))
+    whole_refused c.args.text.now c.in-Err.reason c.refused_whole.result c.refused_whole.ensures (c.in-Err.ensures.reads (signed_decimal n) rest (int_scalars n few) is))

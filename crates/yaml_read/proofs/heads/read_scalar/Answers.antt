@@ -1,8 +1,7 @@
-use Rattle.std.proofs.Common.{◌≡◌, ◌∙◌, ◌++◌, List, ℕ, Bor, String, Ok, Err, true, false, ap, arith, codes, encode_utf8_all, refl, sym}
+use Rattle.std.proofs.Common.{◌∙◌, ◌++◌, Ok, Err, true, false, ap, arith, codes, refl, sym}
 use Rattle.yaml_value.specs.declared.value.Value as declared
 use Rattle.yaml_value.proofs.SeenLevels.{seen_truth}
 use Rattle.yaml_read.proofs.HeadsRead.{false_there, no_truth_there, true_there, word_bytes}
-use Rattle.yaml_base.specs.Seen.{seen_text}
 use Rattle.yaml_read.proofs.Stepping.{no_null, no_text, null_found, of_kind, text_found, text_kind, truth_scalar}
 use Rattle.yaml_read.proofs.Breaking.{neither}
 use Rattle.yaml_read.specs.declared.heads.Kind.TheVariants as kind
@@ -64,6 +63,4 @@ pub returns-in-Err-read_quoted : goal.returns-in-Err-read_quoted
 returns-in-Err-read_quoted g c =
     of_kind kind.Text c.args.kind
     (text_kind c.args.kind c.requires c.in_default.not-Null c.in_default.not-Bool c.in_default.not-Int)
-    (no_text g.row.A.Denot
-    (λ value rest (found : String g.row.A.Denot × Bor (List ℕ)). (seen_text found.0 ≡ value) × (found.1.now ≡ encode_utf8_all rest))
-    c.args.text.now c.in-Err-read_quoted.stop c.in-Err-read_quoted.ensures.reads c.in-Err-read_quoted.ensures.breaks)
+    (no_text g.row.A.Denot c.args.text.now c.in-Err-read_quoted.stop c.in-Err-read_quoted.ensures.reads c.in-Err-read_quoted.ensures.breaks)

@@ -1,4 +1,4 @@
-use Rattle.std.proofs.Common.{◌≡◌, ◌<◌, List, [], ◌∷◌, subst, sym, ◌∙◌, rules, arith, Ok, length}
+use Rattle.std.proofs.Common.{◌≡◌, ◌<◌, List, [], subst, sym, ◌∙◌, rules, arith, Ok, length}
 use Rattle.yaml_value.specs.{OpenLevels.OpenLevel, OpenLevels.seen_level, OpenLevels.seen_levels, SeenValues.seen_value}
 use Rattle.yaml_value.proofs.SeenLevels.{no_levels}
 use Rattle.yaml_read.specs.Remaining.{IsDue, IsRead, TurnReached}
@@ -8,7 +8,7 @@ use Rattle.yaml_read.proofs.Opening.{end_there, root_ends, value_out}
 use Rattle.yaml_read.specs.{declared.levels.Turn.Turn, Settled.Ended, Settled.none_ended, Settled.TurnTook, Stepped.TurnShorter}
 use Rattle.yaml_read.proofs.SettledLevels.{ended_on, off, took_on}
 use Rattle.yaml_read.proofs.UniqueSoFar.{ended_allows}
-use Rattle.yaml_read.proofs.{SeenLevels.levels_length, SeenLevels.pushed_on, Turns.popped, Turns.turn_error, Opening.taken}
+use Rattle.yaml_read.proofs.{SeenLevels.levels_length, SeenLevels.pushed_on, Turns.popped, Opening.taken}
 use Rattle.yaml_read.proofs.levels.settle.Goals as goal
 
 pub loop-level-init : goal.loop-level-init
@@ -16,24 +16,16 @@ loop-level-init g c = (search rules, omega arith, record { read = λ root read. 
 
 pub returns-in-Err : goal.returns-in-Err
 returns-in-Err g c =
+    let inner = seen_levels c.pop.new.self.items in
+    let depth : c.len.result ≡ length inner = c.len.ensures ∙ c.pop.new.self.ok.0 ∙ sym (levels_length c.pop.new.self.items) in
     record {
       reached = λ root read.
-          let inner = seen_levels c.pop.new.self.items in
-          let depth : c.len.result ≡ length inner = c.len.ensures ∙ c.pop.new.self.ok.0 ∙ sym (levels_length c.pop.new.self.items) in
-          let taken = popped (seen_levels c.args.levels.now.items) (seen_value c.args.value) (seen_value c.loop-level.value) c.args.text.now
-          c.loop-level.text.now
-          c.loop-level.levels.items c.pop.new.self.items c.in-Some.level root c.loop-level.invariant.2 c.in-Some.ensures.items read in
-          turn_error g.row.A.Denot root inner inner c.in-Err.stop (c.in-Err.ensures.reached root inner depth taken);
+          let taken = popped _ _ _ _ _ _ _ _ root c.loop-level.invariant.2 c.in-Some.ensures.items read in
+          c.in-Err.ensures.reached root inner depth taken;
       read = λ whole read. tt;
       stops = λ mode whole read open_allow allow.
-          let inner = seen_levels c.pop.new.self.items in
-          let depth : c.len.result ≡ length inner = c.len.ensures ∙ c.pop.new.self.ok.0 ∙ sym (levels_length c.pop.new.self.items) in
-          let before = taken (seen_levels c.args.levels.now.items) (seen_value c.args.value) (seen_value c.loop-level.value) c.args.text.now
-          c.loop-level.text.now c.loop-level.levels.items c.pop.new.self.items c.in-Some.level whole c.loop-level.invariant.3 c.in-Some.ensures.items read in
-          let allowed = ended_allows mode (seen_levels c.args.levels.now.items) (seen_value c.args.value) (seen_level c.in-Some.level ∷ inner)
-          (seen_value c.loop-level.value)
-          (off (seen_levels c.args.levels.now.items) (seen_value c.args.value) (seen_value c.loop-level.value) c.loop-level.levels.items
-          c.pop.new.self.items c.in-Some.level c.loop-level.invariant.4 c.in-Some.ensures.items) open_allow allow in
+          let before = taken _ _ _ _ _ _ _ _ whole c.loop-level.invariant.3 c.in-Some.ensures.items read in
+          let allowed = ended_allows mode _ _ _ _ (off _ _ _ _ _ _ c.loop-level.invariant.4 c.in-Some.ensures.items) open_allow allow in
           value_stops mode whole inner (seen_level c.in-Some.level) (seen_value c.loop-level.value) c.loop-level.text.now c.len.result c.in-Err.stop depth
           before allowed.0 allowed.1 c.in-Err.ensures.breaks;
       shorter = tt;
@@ -42,22 +34,17 @@ returns-in-Err g c =
 
 pub returns-in-Ok-push : goal.returns-in-Ok-push
 returns-in-Ok-push g c =
+    let inner = seen_levels c.pop.new.self.items in
+    let depth : c.len.result ≡ length inner = c.len.ensures ∙ c.pop.new.self.ok.0 ∙ sym (levels_length c.pop.new.self.items) in
     record {
       reached = λ root read.
-          let inner = seen_levels c.pop.new.self.items in
-          let depth : c.len.result ≡ length inner = c.len.ensures ∙ c.pop.new.self.ok.0 ∙ sym (levels_length c.pop.new.self.items) in
-          let taken = popped (seen_levels c.args.levels.now.items) (seen_value c.args.value) (seen_value c.loop-level.value) c.args.text.now
-          c.loop-level.text.now
-          c.loop-level.levels.items c.pop.new.self.items c.in-Some.level root c.loop-level.invariant.2 c.in-Some.ensures.items read in
+          let taken = popped _ _ _ _ _ _ _ _ root c.loop-level.invariant.2 c.in-Some.ensures.items read in
           let reached : TurnReached root inner (Ok c.in-Ok.turn) = c.in-Ok.ensures.reached root inner depth taken in
           let due = subst (λ (t : Turn g.row.A.Denot). TurnReached root inner (Ok t)) c.in-Continues.is reached in
           subst (λ (levels : List OpenLevel). IsDue root levels c.in-Continues.next.now)
           (sym (pushed_on c.in-Continues.level c.pop.new.self.items c.push.new.list.items c.in-Ok-push.ensures).0) due;
       read = λ whole read.
-          let inner = seen_levels c.pop.new.self.items in
-          let depth : c.len.result ≡ length inner = c.len.ensures ∙ c.pop.new.self.ok.0 ∙ sym (levels_length c.pop.new.self.items) in
-          let before = taken (seen_levels c.args.levels.now.items) (seen_value c.args.value) (seen_value c.loop-level.value) c.args.text.now
-          c.loop-level.text.now c.loop-level.levels.items c.pop.new.self.items c.in-Some.level whole c.loop-level.invariant.3 c.in-Some.ensures.items read in
+          let before = taken _ _ _ _ _ _ _ _ whole c.loop-level.invariant.3 c.in-Some.ensures.items read in
           let turn : TurnRead whole inner c.in-Ok.turn = c.in-Ok.ensures.read whole inner depth before in
           let opened = subst (λ (t : Turn g.row.A.Denot). TurnRead whole inner t) c.in-Continues.is turn in
           subst (λ (levels : List OpenLevel). IsOpen whole levels c.in-Continues.next.now)
@@ -124,16 +111,13 @@ loop-level-preserved g c =
       omega (arith, less, c.loop-level.invariant.1),
       record {
         read = λ root read.
-            let taken = popped (seen_levels c.args.levels.now.items) (seen_value c.args.value) (seen_value c.loop-level.value) c.args.text.now
-            c.loop-level.text.now
-            c.loop-level.levels.items c.pop.new.self.items c.in-Some.level root c.loop-level.invariant.2 c.in-Some.ensures.items read in
+            let taken = popped _ _ _ _ _ _ _ _ root c.loop-level.invariant.2 c.in-Some.ensures.items read in
             let reached : TurnReached root inner (Ok c.in-Ok.turn) = c.in-Ok.ensures.reached root inner depth taken in
             subst (λ (t : Turn g.row.A.Denot). TurnReached root inner (Ok t)) c.in-Ends.is reached;
       },
       record {
         read = λ whole read.
-            let before = taken (seen_levels c.args.levels.now.items) (seen_value c.args.value) (seen_value c.loop-level.value) c.args.text.now
-            c.loop-level.text.now c.loop-level.levels.items c.pop.new.self.items c.in-Some.level whole c.loop-level.invariant.3 c.in-Some.ensures.items read in
+            let before = taken _ _ _ _ _ _ _ _ whole c.loop-level.invariant.3 c.in-Some.ensures.items read in
             let turn : TurnRead whole inner c.in-Ok.turn = c.in-Ok.ensures.read whole inner depth before in
             subst (λ (t : Turn g.row.A.Denot). TurnRead whole inner t) c.in-Ends.is turn;
       },

@@ -1,12 +1,12 @@
-use Rattle.std.proofs.Common.{◌≡◌, ◌++◌, [], ℕ, List, Bor, String, ap, codes, encode_utf8_all, option_map, refl, string_bytes, sym, ◌∙◌}
+use Rattle.std.proofs.Common.{◌++◌, [], ap, codes, option_map, refl, string_bytes, sym, ◌∙◌}
 use Rattle.std.proofs.lemmas.Str.{IsUtf8-string_bytes, scalars-chars}
 use Rattle.yaml_base.specs.Event.{any_layout}
 use Rattle.yaml_base.specs.Seen.{seen_text}
 use Rattle.yaml_base.specs.graphs.Meetings.{mapping_held, sequence_held}
 use Rattle.yaml_read.specs.Beginnings.{NoTag, NoTagged}
 use Rattle.yaml_read.specs.WrittenTags.{mapping_opened, sequence_opened}
-use Rattle.yaml_read.proofs.NodeTexts.{absent_then, at_brace, at_bracket, at_quote, held_read, memory_only, none_read, tagged_read, whole_absent}
-use Rattle.yaml_read.proofs.HeadsRead.{word_bytes}
+use Rattle.yaml_read.proofs.NodeTexts.{absent_then, at_brace, at_bracket, at_quote, held_read, none_read, tagged_read, whole_absent}
+use Rattle.yaml_read.proofs.{HeadsRead.word_bytes, Words.memory_only}
 use Rattle.yaml_read.proofs.nodes.read_tagged.Goals as goal
 
 pub returns-in-Err : goal.returns-in-Err
@@ -61,6 +61,4 @@ returns-in-Err-read_quoted g c =
     (λ other tag held written rest sound scalars has is.
     let read = c.in-Ok.ensures.only tag (written ++ rest) sound scalars is in
     let at = at_quote held written rest c.in-Ok.behind.now has read.1 c.in-None.ensures.cut c.in-None-past.ensures.cut in
-    other
-    (memory_only (λ (found : String g.row.A.Denot × Bor (List ℕ)). (seen_text found.0 ≡ at.value) × (found.1.now ≡ encode_utf8_all rest))
-    c.in-Err-read_quoted.stop (c.in-Err-read_quoted.ensures.reads at.value rest at.scalars at.stands)))
+    other (memory_only c.in-Err-read_quoted.stop (c.in-Err-read_quoted.ensures.reads at.value rest at.scalars at.stands)))

@@ -1,76 +1,98 @@
-use Rattle.std.proofs.Common.{List, subst, sym, rules, Ok, codes}
-use Rattle.yaml_value.{specs.SeenValues.seen_value}
-use Rattle.yaml_read.proofs.Opening.{TextOpen, text_open, text_read}
-use Rattle.yaml_read.{specs.Remaining.Reached, proofs.Turns.root_due, proofs.Turns.text_due, proofs.Placing.text_stops}
-use Rattle.yaml_value.specs.{OpenLevels.seen_levels, declared.keys.Keys.TheVariants.MayRepeat, declared.levels.Level.Level}
-use Rattle.yaml_read.{proofs.Placing.marker_stops, specs.declared.levels.Next.Next, specs.Stepped.NextShorter}
-use Rattle.yaml_read.{proofs.Turns.TextDue, proofs.Words.no_word, specs.Opened.NextRead}
+use Rattle.std.proofs.Common.{List, ap, subst, sym, rules, codes}
+use Rattle.yaml_value.{specs.SeenValues.seen_value, specs.OpenLevels.seen_levels, specs.declared.levels.Level.Level}
+use Rattle.yaml_read.{specs.Settled.NextMoved, specs.Opened.NextRead, specs.Stepped.NextShorter}
+use Rattle.yaml_read.{specs.declared.levels.Next.Next, proofs.Opening.text_read, proofs.Turns.root_due, proofs.Words.memory_only, proofs.Words.no_word}
+use Rattle.yaml_read.proofs.{Placing.marker_stops, Placing.text_stops}
+use Rattle.yaml_read.proofs.UniqueTexts.{TextAt, follow_stops, follows, stepped_at, text_begins, text_on, whole_allows}
+use Rattle.yaml_read.specs.declared.errors.KeyStop.TheVariants as key
 use Rattle.yaml_read.proofs.reading.read_text.Goals as goal
 
 pub nodes-init : goal.nodes-init
 nodes-init g c = (
   search rules,
-  subst (λ (levels : List (Level g.row.A.Denot)). TextDue c.args.text.now (seen_levels levels) c.in-Ok.rest.now) (sym c.new-levels.ensures.items)
-      (text_due c.args.text.now c.in-Ok.rest.now c.in-Ok.ensures.cut),
-  subst (λ (levels : List (Level g.row.A.Denot)). TextOpen c.args.text.now (seen_levels levels) c.in-Ok.rest.now) (sym c.new-levels.ensures.items)
-      (text_open c.args.text.now c.in-Ok.rest.now c.in-Ok.ensures.cut),
+  subst
+      (λ (levels : List (Level g.row.A.Denot)). TextAt c.args.keys c.args.text.now (seen_levels levels) c.in-Ok.rest.now c.new-held.result.items)
+      (sym c.new-levels.ensures.items)
+      (text_begins c.args.keys c.args.text.now c.in-Ok.rest.now c.new-held.result.items c.in-Ok.ensures.cut c.new-held.ensures.items),
 )
 
 pub returns-in-Err : goal.returns-in-Err
 returns-in-Err g c =
     record {
-      reads =
-          λ value readable is.
+      complete =
+          λ value readable allow is.
           let root = root_due value c.args.text.now readable is in
           absurd (no_word (codes "---\n") c.args.text.now root.0 c.in-Err.ensures.cut root.1);
       sound = tt;
-      stops = marker_stops MayRepeat c.args.text.now c.in-Err.stop c.in-Err.ensures.cut c.in-Err.ensures.placed;
+      stops = marker_stops c.args.keys c.args.text.now c.in-Err.stop c.in-Err.ensures.cut c.in-Err.ensures.placed;
     }
 
 pub returns-in-Err-step : goal.returns-in-Err-step
 returns-in-Err-step g c =
+    let so_far = c.nodes.invariant.1 in
     record {
-      reads =
-          λ value readable is.
-          c.in-Err-step.ensures.reached value (c.nodes.invariant.1.due value readable is);
+      complete =
+          λ value readable allow is.
+          ap key.Other (memory_only c.in-Err-step.stop (c.in-Err-step.ensures.reached value (so_far.due value readable is)));
       sound = tt;
       stops =
-          let opened = c.nodes.invariant.2 in
-          text_stops MayRepeat c.args.text.now opened.whole c.in-Err-step.stop opened.text_is
-          (c.in-Err-step.ensures.stops MayRepeat opened.whole opened.opened tt);
+          text_stops c.args.keys c.args.text.now so_far.whole c.in-Err-step.stop so_far.text_is
+          (c.in-Err-step.ensures.stops c.args.keys so_far.whole so_far.opened so_far.allow);
     }
 
 pub returns-in-Done : goal.returns-in-Done
 returns-in-Done g c =
+    let so_far = c.nodes.invariant.1 in
+    let before = seen_levels c.nodes.levels.items in
+    let after = seen_levels c.step.new.levels.items in
+    let read = subst (λ (next : Next g.row.A.Denot). NextRead so_far.whole after next) c.in-Done.is
+    (c.in-Ok-step.ensures.read so_far.whole so_far.opened) in
+    let moved = subst (λ (next : Next g.row.A.Denot). NextMoved before after next) c.in-Done.is c.in-Ok-step.ensures.moved in
     record {
-      reads =
-          λ value readable is.
-          subst (λ (next : Next _). Reached value (seen_levels c.step.new.levels.items) (Ok next)) c.in-Done.is
-          (c.in-Ok-step.ensures.reached value (c.nodes.invariant.1.due value readable is));
-      sound =
-          let opened = c.nodes.invariant.2 in
-          let read = subst (λ (next : Next g.row.A.Denot). NextRead opened.whole (seen_levels c.step.new.levels.items) next) c.in-Done.is
-          (c.in-Ok-step.ensures.read opened.whole opened.opened) in
-          (text_read (seen_value c.in-Done.value) c.args.text.now opened.whole opened.text_is read.0, read.1);
+      complete = λ value readable allow is. tt;
+      sound = (
+        text_read (seen_value c.in-Done.value) c.args.text.now so_far.whole so_far.text_is read.0,
+        read.1,
+        whole_allows c.args.keys before (seen_value c.in-Done.value) so_far.allow moved,
+      );
       stops = tt;
     }
 
+pub follow_by-requires : goal.follow_by-requires
+follow_by-requires g c =
+    let before = seen_levels c.nodes.levels.items in
+    follows c.args.keys c.args.text.now before (seen_levels c.as_slice.result.now) c.nodes.rest.now c.in-Node.next c.nodes.held.items
+    c.nodes.invariant.1
+    (stepped_at before c.nodes.rest.now c.in-Ok-step.next c.in-Node.next c.step.new.levels.items c.as_slice.result.now c.as_slice.ensures.value
+    c.in-Node.is c.in-Ok-step.ensures)
+
+pub returns-in-Err-follow_by : goal.returns-in-Err-follow_by
+returns-in-Err-follow_by g c =
+    let before = seen_levels c.nodes.levels.items in
+    let after = seen_levels c.as_slice.result.now in
+    let stepped = stepped_at before c.nodes.rest.now c.in-Ok-step.next c.in-Node.next c.step.new.levels.items c.as_slice.result.now
+    c.as_slice.ensures.value c.in-Node.is c.in-Ok-step.ensures in
+    follow_stops c.args.keys c.args.text.now before after c.nodes.rest.now c.in-Node.next c.nodes.held.items c.follow_by.new.keys.items
+    c.nodes.invariant.1 stepped c.in-Err-follow_by.stop
+    (c.in-Err-follow_by.ensures
+    (follows c.args.keys c.args.text.now before after c.nodes.rest.now c.in-Node.next c.nodes.held.items c.nodes.invariant.1 stepped))
+
 pub nodes-preserved : goal.nodes-preserved
-nodes-preserved g c = (
-  search rules,
-  record {
-    due = λ value readable is.
-        subst (λ (next : Next _). Reached value (seen_levels c.step.new.levels.items) (Ok next)) c.in-Node.is
-        (c.in-Ok-step.ensures.reached value (c.nodes.invariant.1.due value readable is));
-  },
-  record {
-    whole = c.nodes.invariant.2.whole;
-    text_is = c.nodes.invariant.2.text_is;
-    opened =
-        subst (λ (next : Next g.row.A.Denot). NextRead c.nodes.invariant.2.whole (seen_levels c.step.new.levels.items) next) c.in-Node.is
-        (c.in-Ok-step.ensures.read c.nodes.invariant.2.whole c.nodes.invariant.2.opened);
-  },
-)
+nodes-preserved g c =
+    let before = seen_levels c.nodes.levels.items in
+    let after = seen_levels c.as_slice.result.now in
+    let stepped = stepped_at before c.nodes.rest.now c.in-Ok-step.next c.in-Node.next c.step.new.levels.items c.as_slice.result.now
+    c.as_slice.ensures.value c.in-Node.is c.in-Ok-step.ensures in (
+      search rules,
+      subst
+          (λ (levels : List (Level g.row.A.Denot)).
+          TextAt c.args.keys c.args.text.now (seen_levels levels) c.in-Node.next.now c.follow_by.new.keys.items)
+          c.as_slice.ensures.value
+          (text_on c.args.keys c.args.text.now before after c.nodes.rest.now c.in-Node.next c.nodes.held.items c.nodes.invariant.1 stepped
+          c.follow_by.new.keys.items
+          (c.in-Ok-follow_by.ensures
+          (follows c.args.keys c.args.text.now before after c.nodes.rest.now c.in-Node.next c.nodes.held.items c.nodes.invariant.1 stepped))),
+    )
 
 pub nodes-smaller : goal.nodes-smaller
 nodes-smaller g c =

@@ -1,12 +1,11 @@
 use Rattle.std.proofs.Common.{length}
 use denote.{Text.Utf8, Shadow.shadow}
 use Rattle.yaml_value.specs.OpenLevels.{seen_levels}
-use Rattle.yaml_read.{proofs.Opening.TextOpen, proofs.Turns.TextDue}
+use Rattle.yaml_read.proofs.UniqueTexts.{TextAt}
 use Rattle.yaml_read.proofs.reading.read_text.Given as goal
 
 abbrev pub invariant-nodes : goal.invariant-nodes
-invariant-nodes g l = shadow (Utf8 l.rest) × TextDue l.fn.text (seen_levels l.levels.items) l.rest
-    × TextOpen l.fn.text (seen_levels l.levels.items) l.rest
+invariant-nodes g l = shadow (Utf8 l.rest) × TextAt l.fn.keys l.fn.text (seen_levels l.levels.items) l.rest l.held.items
 
 abbrev pub decreases-nodes : goal.decreases-nodes
 decreases-nodes g l = length l.rest

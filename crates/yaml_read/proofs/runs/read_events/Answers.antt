@@ -1,6 +1,6 @@
-use Rattle.std.proofs.Common.{◌≡◌, ◌++◌, ◌∷◌, [], codes, encode_utf8_all, map, Vec}
-use Rattle.yaml_base.{specs.Characters.line_feed, specs.Seen.seen_event, specs.declared.events.yaml_event_t.yaml_event_t}
-use Rattle.yaml_read.{specs.RunPlaces.in_document, proofs.Turns.cut_is, proofs.Words.memory_is, proofs.Words.no_word}
+use Rattle.std.proofs.Common.{◌++◌, ◌∷◌, [], codes, encode_utf8_all, map}
+use Rattle.yaml_base.{specs.Characters.line_feed, specs.Seen.seen_event}
+use Rattle.yaml_read.{proofs.Turns.cut_is, proofs.Words.memory_is, proofs.Words.no_word}
 use Rattle.yaml_read.proofs.DocumentsRead.{events_sound, events_stop, first_line_stops}
 use Rattle.yaml_read.proofs.runs.read_events.Goals as goal
 
@@ -32,7 +32,7 @@ returns-in-Err-read_run g c =
     record {
       reads =
           λ events run.
-          memory_is (λ (found : Vec (yaml_event_t g.row.A.Denot) g.row.A.Denot). map seen_event found.items ≡ in_document events) c.in-Err-read_run.stop
+          memory_is c.in-Err-read_run.stop
           (c.in-Err-read_run.ensures.reads events run.node run.run run.in_node
           (cut_is (codes "---\n") c.args.text.now c.in-Ok.node.now (encode_utf8_all (run.node ++ line_feed ∷ [])) c.in-Ok.ensures.cut run.parts));
       sound = tt;

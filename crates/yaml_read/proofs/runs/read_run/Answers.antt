@@ -1,7 +1,7 @@
 use Rattle.std.proofs.Common.{◌++◌, ◌∷◌, [], ap, map, ◌∙◌, List, Err, refl}
 use Rattle.yaml_base.specs.{Event.Event, Seen.seen_event, declared.events.yaml_event_t.yaml_event_t}
 use Rattle.yaml_read.proofs.EventRuns.{end_answer, end_lacking, memory_fails, run_ends}
-use Rattle.yaml_read.proofs.NodeTexts.{memory_only}
+use Rattle.yaml_read.proofs.Words.{memory_only}
 use Rattle.yaml_read.specs.Awaits.{seen_awaits}
 use Rattle.yaml_read.proofs.runs.read_run.Goals as goal
 
@@ -30,4 +30,4 @@ returns-in-Err-end_text g c =
 
 pub returns-in-Err : goal.returns-in-Err
 returns-in-Err g c =
-    memory_fails c.args.text.now c.in-Err.stop (memory_only (λ (_ : List Event). Unit {0}) c.in-Err.stop c.in-Err.ensures)
+    memory_fails c.args.text.now c.in-Err.stop (memory_only c.in-Err.stop c.in-Err.ensures)
