@@ -8,7 +8,8 @@ returns-in-Err c =
     let brackets = c.bracket_count-brackets in
     let s = c.args.s.now in
     let start = c.skip_ws.result.now in (
-      λ real. header_bad s c.requires brackets.result brackets.ensures c.skip.result.now c.skip.ensures.rest start c.skip_ws.ensures.rest (c.in-Err.ensures.0 real),
+      λ real. header_bad s c.requires brackets.result brackets.ensures c.skip.result.now c.skip.ensures.rest start c.skip_ws.ensures.rest
+          (c.in-Err.ensures.0 real),
       header_keyed s c.requires brackets.result brackets.ensures c.skip.result.now c.skip.ensures.rest start c.skip_ws.ensures.rest c.in-Err.fault
           c.in-Err.ensures.1,
     )
