@@ -15,8 +15,7 @@ use Rattle.yaml_writer.{proofs.Common.end_event, proofs.OpenLevels.levels_after-
 -- none
 pub nests_none : (most : ℕ) → NestsWithin most []
 nests_none most count =
-    let none : take count [] ≡ [] = take_all count [] (omega arith) in
-    subst (λ (events : List Event). length (levels_after events []) ≤ most) (sym none) (omega arith)
+    subst (λ (events : List Event). length (levels_after events []) ≤ most) (sym (take_all count [] (omega arith))) (omega arith)
 
 -- all of them
 pub nests_all : (most : ℕ) (events : List Event) → NestsWithin most events → length (levels_after events []) ≤ most
