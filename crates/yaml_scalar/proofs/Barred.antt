@@ -4,9 +4,10 @@ use Rattle.yaml_scalar.proofs.Common.{refl, eqb-true, ap, sym, ◌∙◌, and_pa
 use Rattle.yaml_scalar.proofs.Common.{chars_past_char, list_all, Text, is_among, line_separator, paragraph_separator, space, tab, is_ascii, is_space, is_break}
 use Rattle.yaml_scalar.proofs.Common.{is_printable, Charset, begins_with, is_empty, is_gap, ends_word, is_special, is_trailing_space, BarredStyles, barred_by}
 use Rattle.yaml_scalar.proofs.Common.{either, barred_in, none_barred, is_quiet, barred_by_space, last_from, ◌≤◌, nat_tests, and_from, or_left, or_right, le-leb}
-use Rattle.yaml_scalar.proofs.Common.{false≢true, false_from_ne_true, line_feed, carriage_return, next_line, is_ordinary}
+use Rattle.yaml_scalar.proofs.Common.{line_feed, carriage_return, next_line, is_ordinary}
 use Rattle.yaml_base.proofs.Common.{and_left}
 use Rattle.std.proofs.Math.Bool.{or-false, or_assoc}
+use Rattle.yaml_scalar.proofs.FirstCharacters.{other_than}
 use Rattle.yaml_base.specs.scalars.Analysis.{is_key_or_comment}
 use Rattle.yaml_scalar.specs.Barred.{with_indicator}
 
@@ -107,15 +108,12 @@ each_member (k ∷ set) test c all is = by (c == k) refl (λ rest. each_member s
     by false e later = later (sym (ap (λ b. b || is_among set c) e) ∙ is)
 
 -- A letter or a digit bars nothing.
-apart : (c : ℕ) → is_ordinary c ≡ true → (k : ℕ) → is_ordinary k ≡ false → (c == k) ≡ false
-apart c h k e = false_from_ne_true (c == k) (λ same. false≢true (sym e ∙ sym (ap is_ordinary (eqb-true c k same)) ∙ h))
-
 ordinary_range : (c : ℕ) → is_ordinary c ≡ true → (48 ≤ c) × (c ≤ 122)
 ordinary_range c h = grind (arith, nat_tests)
 
 ordinary_quiet : (charset : Charset) (c : ℕ) → is_ordinary c ≡ true → Quiet charset c
 ordinary_quiet charset c h =
-    let other : (k : ℕ) → is_ordinary k ≡ false → (c == k) ≡ false = apart c h in
+    let other : (k : ℕ) → is_ordinary k ≡ false → (c == k) ≡ false = λ k. other_than c k h in
     let range = ordinary_range c h in
     let low : 0x20 ≤ c = omega (arith, range.0) in
     let high : c ≤ 0x7E = omega (arith, range.1) in
@@ -138,7 +136,7 @@ ordinary_quiet charset c h =
 
 pub ordinary_seen : (charset : Charset) (found : BarredStyles) (c : ℕ) (rest : Text) → is_ordinary c ≡ true → found ≡ either found (barred_by charset c rest)
 ordinary_seen charset found c rest h =
-    let spaced : is_space c ≡ false = apart c h space refl in
+    let spaced : is_space c ≡ false = other_than c space h refl in
     sym (either_none found) ∙ ap (either found) (sym (quiet_bars charset c rest (ordinary_quiet charset c h) (and_left _ (is_empty rest) spaced)
     (and_left _ (begins_with (λ d. d == 35) rest) spaced) (and_left _ (begins_with is_break rest) spaced)))
 

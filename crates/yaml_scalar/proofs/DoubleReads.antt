@@ -1,10 +1,10 @@
 -- The text between double quotes reads as the value, and its later lines are indented.
-use Rattle.yaml_scalar.proofs.Common.{suc, zero, ℕ, ◌+◌, ◌≤◌, if◌then◌else◌, ◌==◌, Option, None, Some, replicate, Bool, false, not, true, ◌&&◌, ◌||◌, List, []}
+use Rattle.yaml_scalar.proofs.Common.{suc, zero, ℕ, ◌+◌, ◌≤◌, if◌then◌else◌, Option, None, Some, replicate, Bool, false, true, ◌&&◌, List, []}
 use Rattle.yaml_scalar.proofs.Common.{◌++◌, ◌∷◌, ◌⊎◌, refl, ◌≡◌, eqb-true, lt-ltb, true≢false, append-nil, append_assoc, inl, inr, ap, subst, sym, ◌∙◌, arith}
 use Rattle.yaml_scalar.proofs.Common.{scalar, and_parts, and_right, or_left, or_right, nat_tests, all_scalars, breaks-round, rendered-append, indented-written}
-use Rattle.yaml_scalar.proofs.Common.{Text, line_feed, carriage_return, next_line, line_separator, paragraph_separator, space, is_space, is_blank, is_break}
+use Rattle.yaml_scalar.proofs.Common.{Text, line_feed, space, is_space, is_blank}
 use Rattle.yaml_scalar.proofs.Common.{is_printable, Cursor, Rendered, render_then, column_after, render_text, breaks_line, is_past_width, with_breaks_written}
-use Rattle.yaml_scalar.proofs.Common.{with_line_breaks_read, is_read_break, is_rendered_text, is_indented_text, LineBreak, between, with_unit, quoted_from}
+use Rattle.yaml_scalar.proofs.Common.{with_line_breaks_read, is_rendered_text, is_indented_text, LineBreak, between, with_unit, quoted_from}
 use Rattle.yaml_scalar.proofs.Common.{read_double, FoldUnit, literal_blank, literal_break, itself, FoldState, fold_state_text, prepend_unit, fold_state_of}
 use Rattle.yaml_scalar.proofs.Common.{folding_read, quote, backslash, escape_text, needs_escape, character_text, is_some_non_space, may_fold, space_kept}
 use Rattle.yaml_scalar.proofs.Common.{double_fold, double_inside, render_quote, double_quoted_body}

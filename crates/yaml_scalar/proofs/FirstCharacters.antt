@@ -1,6 +1,6 @@
 -- A text's first characters, as they are taken one after another.
 use Rattle.yaml_scalar.proofs.Common.{arith, ℕ, ◌==◌, chars, IsUtf8, length, false, true, ◌&&◌, ◌||◌, List, [], ◌++◌, ◌∷◌, refl, ◌≡◌, eqb-true, true≢false, ap}
-use Rattle.yaml_scalar.proofs.Common.{sym, ◌∙◌, chars-nil, IsUtf8-past_char, chars_past_char, encode_utf8, Text, begins_like_marker, begins_unlike_plain}
+use Rattle.yaml_scalar.proofs.Common.{sym, ◌∙◌, IsUtf8-past_char, chars_past_char, encode_utf8, Text, begins_like_marker, begins_unlike_plain}
 use Rattle.yaml_scalar.proofs.Common.{is_ordinary, false_from_ne_true}
 use Rattle.std.proofs.StrCases.{chars_of_empty}
 
@@ -24,7 +24,7 @@ pub marker-of-one : (bs r₁ : List ℕ) (a : ℕ) → IsUtf8 bs → bs ≡ enco
 marker-of-one bs r₁ a u e₁ e₂ = rw (chars_past_char bs r₁ a u e₁, chars_of_empty r₁ e₂)
 
 -- a letter or a digit is no other character
-other_than : (c k : ℕ) → is_ordinary c ≡ true → is_ordinary k ≡ false → (c == k) ≡ false
+pub other_than : (c k : ℕ) → is_ordinary c ≡ true → is_ordinary k ≡ false → (c == k) ≡ false
 other_than c k h e = false_from_ne_true (c == k) (λ same. true≢false (sym h ∙ ap is_ordinary (eqb-true c k same) ∙ e))
 
 no_exclamation : (c : ℕ) (rest : Text) → (c == 45) ≡ false → (c == 46) ≡ false → begins_like_marker (c ∷ rest) ≡ false

@@ -1,7 +1,7 @@
 -- Plain and single-quoted lines rendered character by character, and that this is their layout by runs.
 use Rattle.yaml_scalar.proofs.Common.{arith, CharacterKind, Space, Break, Other}
 use Rattle.yaml_base.proofs.Common.{ℕ, ◌==◌, Option, Bool, false, not, true, ◌&&◌, ◌||◌, List, [], ◌++◌, ◌∷◌, refl, ◌≡◌, append_assoc, ap, subst, sym, ◌∙◌}
-use Rattle.yaml_base.proofs.Common.{Text, is_break, Cursor, Rendered, render_nothing, render_then, column_after, is_past_width, is_empty, runs, render_runs}
+use Rattle.yaml_base.proofs.Common.{Text, is_break, Cursor, Rendered, render_nothing, render_then, is_past_width, is_empty, runs, render_runs}
 use Rattle.std.proofs.Math.Bool.{and-false, and-true, or-false}
 use Rattle.yaml_base.specs.Cursor.{render_text}
 use Rattle.yaml_base.specs.scalars.Plain.{kind_of, is_same_kind, Run, cons_run, indentation, run_text, is_last}

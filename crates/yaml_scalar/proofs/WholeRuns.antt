@@ -1,5 +1,5 @@
 -- Runs of characters: the empty one, their last characters, and that they hold no break.
-use Rattle.yaml_scalar.proofs.Common.{ℕ, ◌≤◌, IsUtf8, Option, None, Some, length, take, Bool, false, true, ◌&&◌, ◌||◌, List, [], ◌++◌, ◌∷◌, refl, ◌≡◌}
+use Rattle.yaml_scalar.proofs.Common.{ℕ, ◌≤◌, IsUtf8, Option, None, Some, length, take, Bool, false, true, ◌&&◌, ◌||◌, List, [], ◌∷◌, refl, ◌≡◌}
 use Rattle.yaml_scalar.proofs.Common.{length-take-le, ap, subst, sym, ◌∙◌, arith, and_parts, chars-nil, IsUtf8-take, list_all, list_any, IsCharBoundary, Text}
 use Rattle.yaml_scalar.proofs.Common.{is_break, has_limit, last_from, IsRun}
 use Rattle.std.{proofs.lemmas.List.take-take, proofs.lemmas.Str.IsCharBoundary-from_take, proofs.lemmas.Str.IsCharBoundary-start, specs.Str.chars}

@@ -1,7 +1,7 @@
 -- A literal or folded body holds no CR and no U+0085, and each of its nonempty lines after the header begins with
 -- two spaces at least; so both hold as its line breaks are written, and reading it gives the value.
 use Rattle.yaml_scalar.proofs.Common.{suc, zero, ℕ, ◌+◌, ◌≤◌, ◌==◌, Option, Some, replicate, Bool, false, not, true, ◌||◌, List, [], ◌++◌, ◌∷◌, refl, ◌≡◌}
-use Rattle.yaml_scalar.proofs.Common.{append_assoc, arith, and_from, or_from, or_left, or_right, not_from_false, breaks-round, rendered-append}
+use Rattle.yaml_scalar.proofs.Common.{append_assoc, arith, and_from, or_from, or_right, not_from_false, breaks-round, rendered-append}
 use Rattle.yaml_scalar.proofs.Common.{indented-written, Text, line_feed, carriage_return, next_line, space, is_break}
 use Rattle.yaml_scalar.proofs.Common.{Cursor, with_breaks_written, with_line_breaks_read, is_rendered_text, begins_indented, is_indented_text, LineBreak}
 use Rattle.yaml_scalar.proofs.Common.{read_block, Charset, allows_block, allows_literal, Ending, WithoutBreak, OneBreak, MoreBreaks, ending_hint}

@@ -1,11 +1,11 @@
 -- A literal or folded body is read as exactly its value.
 use Rattle.yaml_scalar.proofs.Common.{suc, zero, ℕ, ◌+◌, ◌≤◌, if◌then◌else◌, ◌==◌, Option, None, Some, Bool, false, not, true, ◌&&◌, ◌||◌, List, [], ◌++◌, ◌∷◌}
 use Rattle.yaml_scalar.proofs.Common.{is_special_but_tab, begins_with_blanks_alone, bars_literal, allows_literal, tab, is_break, subst, true≢false}
-use Rattle.yaml_scalar.proofs.Common.{refl, ◌≡◌, eqb-true, le-leb, append_assoc, ap, sym, ◌∙◌, arith, and_from, or_parts, false_from_ne_true, not-false}
+use Rattle.yaml_scalar.proofs.Common.{refl, ◌≡◌, eqb-true, le-leb, append_assoc, ap, sym, ◌∙◌, arith, and_from, or_parts, not-false}
 use Rattle.yaml_scalar.proofs.Common.{not-true, false≢true, Text, is_between, line_feed, is_space, is_printable, Cursor, elements, all_unindented, has_content}
 use Rattle.yaml_scalar.proofs.Common.{kept_lines, final_ends, unfolded, chomped, read_block, Charset, somewhere, is_empty, is_special, is_trailing_space}
 use Rattle.yaml_scalar.proofs.Common.{bars_block, allows_block, Ending, WithoutBreak, OneBreak, MoreBreaks, ending, begins_blank, indentation_hint}
-use Rattle.yaml_scalar.proofs.Common.{ending_hint, render_hint, block_body, Encloses, folded_parts, folded_body, Part, parts, indented, literal_body}
+use Rattle.yaml_scalar.proofs.Common.{ending_hint, block_body, Encloses, folded_parts, folded_body, Part, parts, indented, literal_body}
 use Rattle.yaml_base.specs.reading.ReadBlock.{read_indentation, lines_read, digit_first, after_digit, read_lines}
 use Rattle.yaml_base.proofs.Charsets.{special_tab}
 use Rattle.yaml_scalar.proofs.blocks.BlockFinal.{joined-kept, unfolded-kept, ends-parts, chomping_of, chomped-ends}

@@ -1,5 +1,5 @@
 -- Lines rendered character by character, as code writes them, are the literal and the folded layout.
-use Rattle.yaml_scalar.proofs.Common.{suc, zero, ℕ, ◌+◌, if◌then◌else◌, Option, replicate, Bool, false, true, List, [], ◌++◌, ◌∷◌, refl, ◌≡◌, le-ltb}
+use Rattle.yaml_scalar.proofs.Common.{ℕ, ◌+◌, if◌then◌else◌, Option, replicate, Bool, false, true, List, [], ◌++◌, ◌∷◌, refl, ◌≡◌, le-ltb}
 use Rattle.yaml_scalar.proofs.Common.{append_assoc, inl, inr, ap, sym, ◌∙◌, arith, cases_Bool, and_right, or_parts, or_from, Text, space, is_break, Cursor}
 use Rattle.yaml_scalar.proofs.Common.{Rendered, first_cursor, render_then, next_column, column_after, new_line, ending, render_lines, folds, Part, line}
 use Rattle.yaml_scalar.proofs.Common.{line_break, begun, parts, indented, place_after, render_inner, is_doubled, render_block_break, render_step, lines_from}

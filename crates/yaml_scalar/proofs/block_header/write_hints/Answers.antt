@@ -1,7 +1,6 @@
 use Rattle.yaml_scalar.proofs.Common.{[], ◌∷◌, ◌≡◌, ap, subst, sym, ◌∙◌, w32, to_z-of_z, Text, Wrote, ending, ending_hint, render_hint, wrote_then}
 use Rattle.yaml_scalar.proofs.Common.{wrote_failed, wrote_exit}
 use Rattle.yaml_base.proofs.Common.{chars}
-use Rattle.yaml_scalar.proofs.Common.{Ending}
 use Rattle.yaml_scalar.proofs.block_header.write_hints.Goals as goal
 
 pub returns-in_err-write_indentation_hint : goal.returns-in_err-write_indentation_hint
