@@ -37,10 +37,10 @@ plain_sure : (asked : ScalarStyle) (allowed : Allowances) (plain_fits block_fits
 plain_sure asked allowed plain_fits block_fits true broken sure is = cc
 plain_sure any_style allowed plain_fits block_fits false true sure is = absurd (block_apart block_fits is)
 plain_sure any_style allowed plain_fits block_fits false false true is = refl
-plain_sure any_style allowed plain_fits block_fits false false false is = absurd (quoted_apart allowed.single_quoted is)
+plain_sure any_style allowed plain_fits block_fits false false false is = absurd (quoted_apart allowed.single_quoted_allowed is)
 plain_sure plain allowed plain_fits block_fits false broken true is = refl
-plain_sure plain allowed plain_fits block_fits false broken false is = absurd (quoted_apart allowed.single_quoted is)
-plain_sure single_quoted allowed plain_fits block_fits false broken sure is = absurd (quoted_apart allowed.single_quoted is)
+plain_sure plain allowed plain_fits block_fits false broken false is = absurd (quoted_apart allowed.single_quoted_allowed is)
+plain_sure single_quoted allowed plain_fits block_fits false broken sure is = absurd (quoted_apart allowed.single_quoted_allowed is)
 plain_sure double_quoted allowed plain_fits block_fits false broken sure is = cc
 plain_sure literal allowed plain_fits block_fits false broken sure is = absurd (block_apart block_fits is)
 plain_sure folded allowed plain_fits block_fits false broken sure is = absurd (folded_apart block_fits is)
@@ -48,7 +48,7 @@ plain_sure folded allowed plain_fits block_fits false broken sure is = absurd (f
 pub plain_texts : PlainTextsAreTexts
 plain_texts asked text allowed empty tag_written plain_implicit quoted_implicit flow simple_key canonical is =
     let plain_fits = fits_plain allowed empty tag_written plain_implicit flow simple_key in
-    let block_fits = allowed.block && not flow && not simple_key in
+    let block_fits = allowed.block_allowed && not flow && not simple_key in
     let double = canonical || (simple_key && allowed.multiline) in
     surely_text text
     (plain_sure asked allowed plain_fits block_fits double (list_any is_break text) (is_surely_text text)

@@ -190,7 +190,7 @@ module _ (text : Text) (flow : Bool) (free : (charset : Charset) → somewhere (
       fit = fits_plain allowed (is_empty text) tag_written plain_implicit flow simple_key
 
       block : Bool
-      block = allowed.block && not flow && not simple_key
+      block = allowed.block_allowed && not flow && not simple_key
 
 -- a text without such characters, in block and in flow
 pub stands_plain : (text : Text) → list_all is_harmless text ≡ true → is_empty text ≡ false → begins_unlike_plain text ≡ false

@@ -161,7 +161,7 @@ module _ (schema : Schema) (s : Effective) (place : Place) (simple : Bool) where
       by (simple_key && allowed.multiline) is
     where
       by : (x : Bool) → fitting_style allowed (fits_plain allowed empty tag_written plain_implicit flow simple_key)
-          (allowed.block && not flow && not simple_key) (requested_style x double_quoted) ≡ plain → schema text ≡ meant_text
+          (allowed.block_allowed && not flow && not simple_key) (requested_style x double_quoted) ≡ plain → schema text ≡ meant_text
       by true is = absurd (false≢true (ap is_plain is))
       by false is = absurd (false≢true (ap is_plain is))
   text_asked text texts false allowed empty tag_written plain_implicit quoted_implicit flow simple_key canonical is =
