@@ -1,7 +1,7 @@
-//! Names, versions, directives, and the places at which tags are divided.
+//! Versions, and lists of directives. (`tests/scripts/rows` has names, directives that are refused, and tags as they are divided.)
 mod spelled;
 
-use super::{directives, equal, equal_at};
+use super::{directives, equal};
 use std::alloc::{Allocator, Global};
 use std::process::Abort;
 use yaml_base::{yaml_error_t, yaml_tag_directive_t, yaml_version_directive_t};
@@ -14,26 +14,11 @@ fn directive(rt: &impl Abort, alloc: Global, line: &str) -> yaml_tag_directive_t
     given.pop().expect(rt, "a directive")
 }
 
-const DEFAULTS: &str = r#"+DOC 1 - "!" "!" "!!" "tag:yaml.org,2002:""#;
-
-// Adds the directives of a line, and whether they are defaults.
-fn append_all(
-    rt: &impl Abort,
-    alloc: Global,
-    added: &mut Directives<Global>,
-    (line, as_default): (&str, bool),
-) {
+// Adds the directives of a line.
+fn append_all(rt: &impl Abort, alloc: Global, added: &mut Directives<Global>, line: &str) {
     for given in &directives(rt, alloc, line) {
-        equal(rt, &added.append(given, as_default), &Ok(()));
+        equal(rt, &added.append(given, false), &Ok(()));
     }
-}
-
-// The directives in force in a document whose start is this line.
-fn in_force(rt: &impl Abort, alloc: Global, own: &str) -> Directives<Global> {
-    let mut in_force = Directives::new(alloc);
-    append_all(rt, alloc, &mut in_force, (own, false));
-    append_all(rt, alloc, &mut in_force, (DEFAULTS, true));
-    in_force
 }
 
 // These are in force, in their order.
@@ -72,66 +57,6 @@ fn versions_are_1_1_and_1_2(rt: HostRuntime) {
             minor: *minor,
         };
         equal(&rt, &analyze_version(version), answer);
-    }
-}
-
-/// A name, and the result of its check as an anchor, and as an alias.
-type Name<'a> = (&'a str, Answer, Answer);
-
-const ANCHOR: Answer = Err(yaml_error_t::AnchorAlphabet);
-
-const ALIAS: Answer = Err(yaml_error_t::AliasAlphabet);
-
-const NAMES: &[Name] = &[
-    ("id001", Ok(()), Ok(())),
-    ("_-9", Ok(()), Ok(())),
-    (
-        "",
-        Err(yaml_error_t::AnchorEmpty),
-        Err(yaml_error_t::AliasEmpty),
-    ),
-    ("a b", ANCHOR, ALIAS),
-    ("\u{E9}", ANCHOR, ALIAS),
-    ("a\0", ANCHOR, ALIAS),
-];
-
-#[test]
-fn anchors_and_aliases_are_names(rt: HostRuntime) {
-    for row in NAMES {
-        let (anchor, alias) = (analyze_anchor(row.0, false), analyze_anchor(row.0, true));
-        equal(&rt, &(row.0, anchor, alias), row);
-    }
-}
-
-/// A directive's line, and the result of the check of its handle and its prefix.
-const DIRECTIVES: &[(&str, Answer)] = &[
-    (r#"+DOC 1 - "!" "x""#, Ok(())),
-    (r#"+DOC 1 - "!!" "x""#, Ok(())),
-    (r#"+DOC 1 - "!e-_9!" "x""#, Ok(())),
-    (r#"+DOC 1 - "" """#, Err(yaml_error_t::TagHandleEmpty)),
-    (r#"+DOC 1 - "a!" """#, Err(yaml_error_t::TagHandleStart)),
-    (r#"+DOC 1 - "!a" """#, Err(yaml_error_t::TagHandleEnd)),
-    (
-        r#"+DOC 1 - "!a.b!" """#,
-        Err(yaml_error_t::TagHandleAlphabet),
-    ),
-    (
-        r#"+DOC 1 - "!a\u{0}!" """#,
-        Err(yaml_error_t::TagHandleAlphabet),
-    ),
-    (
-        r#"+DOC 1 - "!!!" "x""#,
-        Err(yaml_error_t::TagHandleAlphabet),
-    ),
-    (r#"+DOC 1 - "!e!" """#, Err(yaml_error_t::TagPrefixEmpty)),
-];
-
-#[test]
-fn directives_are_refused_in_order(rt: HostRuntime) {
-    for (line, answer) in DIRECTIVES {
-        let given = directive(&rt, rt.alloc(), line);
-        equal(&rt, &analyze_tag_directive(&given), answer);
-        drop(given);
     }
 }
 
@@ -185,78 +110,9 @@ fn a_handle_is_given_once(rt: HostRuntime) {
     drop(added);
 }
 
-/// A tag, the number of its directive, and the length of that one's prefix.
-type Cut<'a> = (&'a str, Option<usize>, usize);
-
-fn check_cuts(rt: &impl Abort, directives: &Directives<Global>, rows: &[Cut]) {
-    equal(
-        rt,
-        &analyze_tag("", directives),
-        &Err(yaml_error_t::TagEmpty),
-    );
-    for (tag, directive, prefix_length) in rows {
-        let wanted = tag_t {
-            directive: *directive,
-            prefix_length: *prefix_length,
-        };
-        equal_at(rt, tag, &analyze_tag(tag, directives), &Ok(wanted));
-    }
-}
-
-const BY_DEFAULTS: &[Cut] = &[
-    ("!", None, 0),
-    ("!foo", Some(0), 1),
-    ("!a!b", Some(0), 1),
-    ("tag:yaml.org,2002:int", Some(1), 18),
-    ("tag:yaml.org,2002:", None, 0),
-    ("tag:yaml.org,2002", None, 0),
-];
-
-const OWN: &str = r#"+DOC 1 - "!e!" "!x" "!!" "tag:e.com,2000:" "!f!" "!xy""#;
-
-const BY_OWN: &[Cut] = &[
-    ("!xy", Some(0), 2),
-    ("!xyz", Some(0), 2),
-    ("!x", Some(3), 1),
-    ("tag:e.com,2000:t", Some(1), 15),
-    ("tag:yaml.org,2002:str", None, 0),
-];
-
 /// More directives than are compared one after another. Prefixes begin prefixes before and after them, and one is given twice.
 const MANY: &str =
     r#"+DOC 1 - "!0!" "n:0" "!1!" "v:a" "!2!" "v:ab" "!3!" "n:3" "!4!" "n:4" "!5!" "w:ab" "!6!" "n:6" "!7!" "n:7" "!8!" "t:a" "!9!" "t:ab:" "!10!" "u:ab:" "!11!" "u:a" "!12!" "t:a" "!13!" "v:abc" "!14!" "w:a" "!15!" "x:ab" "!16!" "x:\u{E9}""#;
-
-/// By the first of them, by one of the others, and by a default after all.
-const BY_MANY: &[Cut] = &[
-    ("n:00", Some(0), 3),
-    ("n:77", Some(7), 3),
-    ("n:7", None, 0),
-    ("v:abcd", Some(1), 3),
-    ("w:abc", Some(5), 4),
-    ("w:ab", Some(14), 3),
-    ("t:ab:c", Some(8), 3),
-    ("t:ab", Some(8), 3),
-    ("t:a", None, 0),
-    ("u:ab:c", Some(10), 5),
-    ("u:ab:", Some(11), 3),
-    ("x:abc", Some(15), 4),
-    ("x:\u{E9}\u{E9}", Some(16), 4),
-    ("x:a\u{E9}", None, 0),
-    ("!e", Some(17), 1),
-    ("tag:yaml.org,2002:int", Some(18), 18),
-];
-
-/// The start of a document, and tags in it. An empty tag is refused.
-const CUTS: &[(&str, &[Cut])] = &[("+DOC 1 -", BY_DEFAULTS), (OWN, BY_OWN), (MANY, BY_MANY)];
-
-#[test]
-fn tags_are_cut_at_the_first_prefix_of_a_documents_own_and_of_the_defaults(rt: HostRuntime) {
-    for (start, rows) in CUTS {
-        let directives = in_force(&rt, rt.alloc(), start);
-        check_cuts(&rt, &directives, rows);
-        drop(directives);
-    }
-}
 
 /// Handles of the many, and one that isn't among them, and how many are then in force.
 const GIVEN_AGAIN: &[Given] = &[
@@ -272,7 +128,7 @@ const GIVEN_AGAIN: &[Given] = &[
 fn a_handle_is_given_once_among_many(rt: HostRuntime) {
     let alloc = rt.alloc();
     let mut added = Directives::new(alloc);
-    append_all(&rt, alloc, &mut added, (MANY, false));
+    append_all(&rt, alloc, &mut added, MANY);
     check_given(&rt, alloc, &mut added, GIVEN_AGAIN);
     check_alone(&rt, alloc, &mut added, r#"+DOC 1 - "!8!" "t:a""#);
     drop(added);

@@ -1,9 +1,9 @@
 //! Scripts with their results: by the calls of an emitter, one by one, and by a run of the whole. The expected values
-//! were worked out by hand. All but the scripts of a million collections is made again with each growth refused in turn.
+//! were worked out by hand. All is made again with each growth refused in turn.
 //!
-//! Here are examples of each kind, and what only a caller sees. `tests/scripts/rows` has all the others, which the built program runs.
+//! Here are examples of each kind, and what only a caller sees. `tests/scripts/rows` has all the others, which the built program runs,
+//! and `tests/program` scripts of a million collections.
 mod calls;
-mod depth;
 mod devices;
 mod examples;
 mod growths;
@@ -12,13 +12,12 @@ mod limits;
 mod prefixes;
 mod written;
 
-use crate::tests::{equal, equal_at, same};
+use crate::tests::{equal, equal_at};
 use calls::check_calls;
 use growths::answered;
 use std::alloc::Global;
 use std::process::Abort;
-use yaml_base::yaml_error_t;
-use yaml_tool::{run_answer_t, status, write_line};
+use yaml_tool::{run_answer_t, write_line};
 
 /// When the caller flushes.
 #[derive(Clone, Copy)]
@@ -92,59 +91,3 @@ fn check_row(rt: &impl Abort, alloc: Global, row: &Row) {
 /// The first script: one scalar in canonical mode.
 const FIRST: &str =
     "canonical on\nwidth -1\n+STR any\n+DOC 1 -\n=VAL any 1 1 - - \"a\"\n-DOC 1\n-STR\n";
-
-/// Scripts, each with the call that is refused, the text that is written, and the error that is returned.
-type Refusals<'a> = &'a [(&'a str, run_answer_t, &'a [u8], &'a str)];
-
-// A refusal, and its line.
-fn check_refusals(rt: &impl Abort, alloc: Global, rows: Refusals) {
-    for (script, answer, output, line) in rows {
-        let row = Row {
-            answer: *answer,
-            ..Row::done(script, output)
-        };
-        check_row(rt, alloc, &row);
-        equal_at(rt, script, &status(answer), &1);
-        same(rt, line_of(rt, alloc, answer).as_slice(), line.as_bytes());
-    }
-}
-
-const TOLD: Refusals = &[
-    (
-        "+DOC 1 -\n=VAL any 1 1 - - \"a\"",
-        run_answer_t::Refused(2, yaml_error_t::ExpectedStreamStart),
-        b"",
-        "yamlemit: line 2: expected STREAM-START\n",
-    ),
-    // Nothing waits, and the last flush writes as much as the limit allows.
-    (
-        "limit 2\n+STR any\n# a comment\n+DOC 1 -\n\n=VAL any 1 1 - - \"abc\"\n\n",
-        run_answer_t::Refused(6, yaml_error_t::WriteError),
-        b"ab",
-        "yamlemit: line 6: write error\n",
-    ),
-    // An event that is given after a refusal changes nothing.
-    (
-        "+STR any\n+DOC 1 -\n=VAL any 1 1 - - \"a\"\n-DOC 1\n-DOC 1\n+DOC 1 -\n=VAL any 1 1 - - \"b\"\n-DOC 1\n-STR",
-        run_answer_t::Refused(5, yaml_error_t::ExpectedDocumentStart),
-        b"a\n",
-        "yamlemit: line 5: expected DOCUMENT-START or STREAM-END\n",
-    ),
-    (
-        "limit 4\ncanonical on\nwidth -1\n+STR any\n+DOC 1 -\n=VAL any 1 1 - - \"a\"\n-DOC 1\n-STR",
-        run_answer_t::Refused(7, yaml_error_t::WriteError),
-        b"---\n",
-        "yamlemit: line 7: write error\n",
-    ),
-    (
-        "limit 3\ncanonical on\nwidth -1\n+STR utf16be\n+DOC 1 -\n=VAL any 1 1 - - \"a\"\n-DOC 1\n-STR",
-        run_answer_t::Refused(7, yaml_error_t::WriteError),
-        b"\xFE\xFF\0",
-        "yamlemit: line 7: write error\n",
-    ),
-];
-
-#[test]
-fn refusals_are_reported_with_their_line(rt: HostRuntime) {
-    check_refusals(&rt, rt.alloc(), TOLD);
-}

@@ -6,7 +6,6 @@ ghost use Rattle.yaml_pen.specs.Page.{IsReady};
 
 mod items;
 mod limits;
-mod roots;
 mod styles;
 
 use std::alloc::Global;

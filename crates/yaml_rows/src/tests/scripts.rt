@@ -1,10 +1,10 @@
-//! Scripts read by `yaml_tool`, and the report of each end of a run.
+//! Scripts read by `yaml_tool`, and the report of each end of a run. (`tests/scripts/rows` has scripts with a bad line.)
 use crate::tests::runs::line_of;
 use crate::tests::{equal, same};
 use std::alloc::Global;
 use std::process::Abort;
 use yaml_base::{YAML_ANY_BREAK, YAML_ANY_ENCODING, yaml_error_t, yaml_event_t};
-use yaml_tool::{Quotes, Script, ScriptError, Settings, read_script, run_answer_t, status};
+use yaml_tool::{Quotes, Script, Settings, read_script, run_answer_t, status};
 
 const SETTINGS: Settings = Settings {
     limit: 1_000_000_000,
@@ -99,38 +99,6 @@ fn scripts_are_understood(rt: HostRuntime) {
         equal(&rt, &script.settings, settings);
         check_events(&rt, rt.alloc(), &script, events);
     }
-}
-
-// The script has a bad line, the first of which this is.
-fn check_bad_line(rt: &impl Abort, alloc: Global, script: &[u8], line: u64) {
-    let error = read_script(alloc, script).err();
-    equal(rt, &error, &Some(ScriptError::BadLine(line)));
-}
-
-const BAD_LINES: &[(&str, u64)] = &[
-    ("+FOO", 1),
-    ("\u{FEFF}+STR any", 1),
-    ("# a\n \n", 2),
-    ("\n# a\r\n", 2),
-    ("limit 1\nlimit 1", 2),
-    ("limit 4294967296", 1),
-    ("indent +2", 1),
-    ("+STR any\nunicode on", 2),
-    ("=ALI -", 1),
-    ("=VAL any 1 1 - - \"\\u{+1}\"", 1),
-    ("=VAL any 1 1 - - \"\\u{d800}\"", 1),
-    ("=VAL any 1 1 - - \"a\"  ", 1),
-    ("+DOC 1 1.1 \"!\"", 1),
-    ("+DOC 1 1.1.1", 1),
-    ("-STR\n-STR \n", 2),
-];
-
-#[test]
-fn the_first_bad_line_is_reported(rt: HostRuntime) {
-    for (script, line) in BAD_LINES {
-        check_bad_line(&rt, rt.alloc(), script.as_bytes(), *line);
-    }
-    check_bad_line(&rt, rt.alloc(), b"+STR any\n# \xFF", 2);
 }
 
 /// The end of a run, with its status and its line.

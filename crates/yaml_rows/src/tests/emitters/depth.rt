@@ -14,7 +14,7 @@ const ENDLESS: &Settings = &Settings {
 };
 
 /// The maximum nesting depth.
-pub(crate) const MOST: usize = 1_000_000;
+const MOST: usize = 1_000_000;
 
 /// Returns the flushed part of the text of a million block sequences: 122 buffers. The text has 1,999,997 bytes, a `-` for each
 /// sequence but the root, and a space between two.
@@ -41,7 +41,7 @@ fn a_million_collections_may_be_open(rt: HostRuntime) {
 }
 
 /// Returns a million brackets that open, as many that close, and the line's end.
-pub(crate) fn brackets(rt: &impl Abort, alloc: Global) -> String {
+fn brackets(rt: &impl Abort, alloc: Global) -> String {
     let opened = repeated(rt, alloc, "[", MOST);
     let closed = repeated(rt, alloc, "]", MOST);
     joined(rt, alloc, &[opened.as_str(), closed.as_str(), "\n"])

@@ -64,7 +64,7 @@ pub(super) const SCRIPTS: Rows = &[
     ),
 ];
 
-/// A script, the line after which it is flushed, the call that is refused, and the output with its length after each flush.
+/// A script, the line after which it is flushed (0: after the last alone), the call that is refused, and the output with its length after each flush.
 type Flushed<'a> = (&'a str, u64, run_answer_t, &'a [u8], &'a [usize]);
 
 const FLUSHED: &[Flushed] = &[
@@ -107,6 +107,43 @@ const FLUSHED: &[Flushed] = &[
         4,
         run_answer_t::Refused(4, yaml_error_t::WriteError),
         b"fo",
+        &[],
+    ),
+    (
+        "+DOC 1 -\n=VAL any 1 1 - - \"a\"",
+        0,
+        run_answer_t::Refused(2, yaml_error_t::ExpectedStreamStart),
+        b"",
+        &[],
+    ),
+    // Nothing waits, and the last flush writes as much as the limit allows.
+    (
+        "limit 2\n+STR any\n# a comment\n+DOC 1 -\n\n=VAL any 1 1 - - \"abc\"\n\n",
+        0,
+        run_answer_t::Refused(6, yaml_error_t::WriteError),
+        b"ab",
+        &[],
+    ),
+    // An event that is given after a refusal changes nothing.
+    (
+        "+STR any\n+DOC 1 -\n=VAL any 1 1 - - \"a\"\n-DOC 1\n-DOC 1\n+DOC 1 -\n=VAL any 1 1 - - \"b\"\n-DOC 1\n-STR",
+        0,
+        run_answer_t::Refused(5, yaml_error_t::ExpectedDocumentStart),
+        b"a\n",
+        &[],
+    ),
+    (
+        "limit 4\ncanonical on\nwidth -1\n+STR any\n+DOC 1 -\n=VAL any 1 1 - - \"a\"\n-DOC 1\n-STR",
+        0,
+        run_answer_t::Refused(7, yaml_error_t::WriteError),
+        b"---\n",
+        &[],
+    ),
+    (
+        "limit 3\ncanonical on\nwidth -1\n+STR utf16be\n+DOC 1 -\n=VAL any 1 1 - - \"a\"\n-DOC 1\n-STR",
+        0,
+        run_answer_t::Refused(7, yaml_error_t::WriteError),
+        b"\xFE\xFF\0",
         &[],
     ),
 ];

@@ -79,6 +79,14 @@ const INDENTED: Layout = Layout {
     ..LAYOUT
 };
 
+/// Widths that no setting of an emitter has.
+const NO_COLUMN: Layout = Layout { width: 0, ..LAYOUT };
+
+const NEGATIVE: Layout = Layout {
+    width: -1,
+    ..LAYOUT
+};
+
 const ITEMS: &[Item] = &[
     // Block scalars begin at their indentation, and follow an indicator.
     (
@@ -180,6 +188,63 @@ const ITEMS: &[Item] = &[
         Before::Nothing,
         &[(YAML_LITERAL_SCALAR_STYLE, "a\n", None)],
         "|\r  a\r",
+    ),
+    // A line that passes its width at once is folded at each space.
+    (
+        YAML_LN_BREAK,
+        &NO_COLUMN,
+        Before::Nothing,
+        &[(YAML_PLAIN_SCALAR_STYLE, "a b c", None)],
+        "a\n  b\n  c",
+    ),
+    (
+        YAML_LN_BREAK,
+        &NO_COLUMN,
+        Before::Nothing,
+        &[(YAML_SINGLE_QUOTED_SCALAR_STYLE, " ", None)],
+        "' '",
+    ),
+    (
+        YAML_LN_BREAK,
+        &NO_COLUMN,
+        Before::Nothing,
+        &[(YAML_SINGLE_QUOTED_SCALAR_STYLE, " a b ", None)],
+        "' a\n  b '",
+    ),
+    (
+        YAML_LN_BREAK,
+        &NEGATIVE,
+        Before::Nothing,
+        &[(YAML_PLAIN_SCALAR_STYLE, "a b", None)],
+        "a\n  b",
+    ),
+    (
+        YAML_LN_BREAK,
+        &NEGATIVE,
+        Before::Nothing,
+        &[(YAML_FOLDED_SCALAR_STYLE, "a b\nc d", None)],
+        ">-\n  a\n  b\n\n  c\n  d",
+    ),
+    (
+        YAML_LN_BREAK,
+        &NEGATIVE,
+        Before::Nothing,
+        &[(YAML_DOUBLE_QUOTED_SCALAR_STYLE, " a", None)],
+        "\" a\"",
+    ),
+    (
+        YAML_LN_BREAK,
+        &NEGATIVE,
+        Before::Nothing,
+        &[(YAML_DOUBLE_QUOTED_SCALAR_STYLE, "a b", None)],
+        "\"a\n  b\"",
+    ),
+    (
+        YAML_LN_BREAK,
+        &Layout { width: 3, ..LAYOUT },
+        Before::Nothing,
+        &[(YAML_DOUBLE_QUOTED_SCALAR_STYLE, "a\nb c", None)],
+        "\"a\\nb\n  c\"",
     ),
 ];
 
