@@ -4,9 +4,7 @@ use crate::tests::{equal, same};
 use std::alloc::Global;
 use std::process::Abort;
 use toml_ordered::{Node, read_document};
-use yaml_toml::{
-    TomlError, TomlSettings, Writer, value_settings, write_toml, yaml_error_t, yaml_from_toml,
-};
+use yaml_toml::{TomlError, TomlSettings, Writer, value_settings, write_toml, yaml_error_t};
 use yaml_writer::YAML_BLOCK_SEQUENCE_STYLE;
 
 /// A document of one key, and its value as the text has it: a decimal after `#`, or a date or a time. YAML shows other digits, and texts in
@@ -59,47 +57,6 @@ fn errors_print_their_place(rt: HostRuntime) {
         &TomlError::TooDeep,
         "arrays and tables nest too deep",
     );
-}
-
-/// A key as TOML writes it, and as a message names it: in quotes, escaped, and of more than 80 characters both ends.
-const KEYS: &[(&str, &str)] = &[
-    ("a", "\"a\""),
-    ("'a b'", "\"a b\""),
-    ("\"\"", "\"\""),
-    ("\"\u{e9}\"", "\"\u{e9}\""),
-    ("'\"\\'", "\"\\\"\\\\\""),
-    (
-        "\"a\\nb: not TOML\\nother.toml:1:1\"",
-        "\"a\\nb: not TOML\\nother.toml:1:1\"",
-    ),
-    ("\"\\u001b[31m\"", "\"\\u{1b}[31m\""),
-    (
-        "k2345678901234567890123456789012345678901234567890123456789012345678901234567890",
-        "\"k2345678901234567890123456789012345678901234567890123456789012345678901234567890\"",
-    ),
-    (
-        "k2345678901234567890123456789012345678901234567890123456789012345678901234567890_",
-        "\"k234567890123456789012345678901234567890\"..\"234567890123456789012345678901234567890_\"",
-    ),
-];
-
-/// Checks how the message names a key that is defined twice.
-fn check_named(rt: &impl Abort, alloc: Global, key: &str, name: &str) {
-    let text = format!(in alloc; "{key} = 1\n{key} = 2\n").expect(rt, "no memory");
-    let error = yaml_from_toml(alloc, text.as_str(), TomlSettings::default()).err();
-    let error = error.expect(rt, "defined once");
-    let words = format!(in alloc;
-        "line 2, column 1: {name} is defined at line 1, column 1, and takes no more"
-    );
-    let words = words.expect(rt, "no memory");
-    check_printed(rt, alloc, &error, words.as_str());
-}
-
-#[test]
-fn keys_are_quoted_in_messages(rt: HostRuntime) {
-    for (key, name) in KEYS {
-        check_named(&rt, rt.alloc(), key, name);
-    }
 }
 
 /// Writes a text and a document, as the items of a sequence.

@@ -1,4 +1,5 @@
-//! Values of each kind, with their properties, in documents that follow one another, and in canonical mode.
+//! Values of each kind, with their properties, and in canonical mode. (`tests/json/rows.json` has numbers of JSON, and documents that
+//! follow one another.)
 use super::Call;
 
 /// Values of each kind, with their properties.
@@ -26,28 +27,6 @@ pub(super) const CALLS: &[Call] = &[
     Call::Alias("a"),
     Call::End,
     Call::Finish(Ok("---\n- &a !!str 5\n- *a\n")),
-    // Documents that follow one another.
-    Call::Sequence,
-    Call::Text("a"),
-    Call::End,
-    Call::Next,
-    Call::Sequence,
-    Call::Text("b"),
-    Call::End,
-    Call::Finish(Ok("---\n- a\n---\n- b\n")),
-    // Numbers of JSON, which are plain.
-    Call::Sequence,
-    Call::Number("0"),
-    Call::Number("-0"),
-    Call::Number("1e400"),
-    Call::Number("1E5"),
-    Call::Number("0.5"),
-    Call::Number("-1.5e-7"),
-    Call::Number("12345678901234567890123"),
-    Call::End,
-    Call::Finish(Ok(
-        "---\n- 0\n- -0.0\n- 1.0e+400\n- 1.0e+5\n- 0.5\n- -1.5e-7\n- 12345678901234567890123\n",
-    )),
     // Floats by the shortest digits that read as them, in 64 bits and in 32.
     Call::Sequence,
     Call::Float(0.5),
@@ -86,7 +65,7 @@ pub(super) const CALLS: &[Call] = &[
     Call::Finish(Ok("--- &a !!float 5\n")),
 ];
 
-/// Null and a text, and numbers, which have the tag of their spelling.
+/// Floats and bytes, which have the tag of their spelling.
 pub(super) const CANONICAL: &[Call] = &[
     Call::Sequence,
     Call::Float(0.5),
@@ -95,23 +74,5 @@ pub(super) const CANONICAL: &[Call] = &[
     Call::End,
     Call::Finish(Ok(
         "---\n[\n  !!float \"0.5\",\n  !!float \".nan\",\n  !!binary \"aGVsbG8=\",\n]\n",
-    )),
-    Call::Sequence,
-    Call::Null,
-    Call::Text("no"),
-    Call::End,
-    Call::Finish(Ok("---\n[\n  !!null \"null\",\n  \"no\",\n]\n")),
-    Call::Sequence,
-    Call::Number("0"),
-    Call::Number("-0"),
-    Call::Number("1e400"),
-    Call::Number("1E5"),
-    Call::Number("0.5"),
-    Call::Number("-1.5e-7"),
-    Call::Number("12345678901234567890123"),
-    Call::End,
-    Call::Finish(Ok(
-        "---\n[\n  !!int \"0\",\n  !!float \"-0.0\",\n  !!float \"1.0e+400\",\n  !!float \"1.0e+5\",\n  \
-         !!float \"0.5\",\n  !!float \"-1.5e-7\",\n  !!int \"12345678901234567890123\",\n]\n",
     )),
 ];
