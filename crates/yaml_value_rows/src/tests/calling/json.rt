@@ -3,14 +3,14 @@ use crate::tests::{equal, same};
 use std::alloc::Global;
 use std::io::{Read, Write};
 use yaml_json::{
-    JsonError, JsonSettings, StreamError, Writer, send_json_texts, value_settings, write_json,
-    yaml_error_t, yaml_from_json,
+    JsonError, JsonSettings, Position, StreamError, Writer, send_json_texts, value_settings,
+    write_json, yaml_error_t, yaml_from_json,
 };
 
 /// Returns the YAML of a JSON text, with an indent of 4.
 fn yaml_of_json(alloc: Global, text: &str) -> Result<Vec<u8>, JsonError> {
     let mut settings = JsonSettings::default();
-    settings.writer.indent = Some(4);
+    settings.values.emitter.indent = Some(4);
     yaml_from_json(alloc, text, settings)
 }
 
@@ -22,7 +22,7 @@ fn send_texts<R: Read, W: Write>(
 ) -> Result<(), StreamError> {
     let refused = |error| StreamError::Refused(JsonError::Emitter(error));
     let mut writer = Writer::new(alloc, value_settings()).map_err(refused)?;
-    send_json_texts(alloc, &mut writer, reader, sink, JsonSettings::default())?;
+    send_json_texts(alloc, &mut writer, sink, reader, JsonSettings::default())?;
     let rest = writer.finish().map_err(refused)?;
     sink.write_all(rest.as_slice())
         .map_err(StreamError::WriteFailed)
@@ -72,6 +72,8 @@ fn json_is_written(rt: HostRuntime) {
     let yaml = yaml_of_json(rt.alloc(), text).expect(&rt, "JSON");
     same(&rt, yaml.as_slice(), expected);
     let error = yaml_of_json(rt.alloc(), "\u{feff}{}").err();
-    let marked = JsonError::Marked { line: 1, column: 1 };
+    let marked = JsonError::Marked {
+        position: Position { line: 1, column: 1 },
+    };
     equal(&rt, &error, &Some(marked));
 }

@@ -3,7 +3,7 @@ use crate::tests::equal;
 use std::alloc::Global;
 use std::process::Abort;
 use yaml_caller::{Entry, OpenError, SealError, open, seal};
-use yaml_read::{Keys, ReadError, Value};
+use yaml_read::{Keys, Position, ReadError, Value};
 
 /// Returns the entry of an integer.
 fn sealed_integer(alloc: Global, number: i64) -> Result<Entry<Global>, SealError> {
@@ -67,7 +67,9 @@ fn what_was_changed_is_refused(rt: HostRuntime) {
 
 #[test]
 fn what_isnt_canonical_is_refused_under_its_digest(rt: HostRuntime) {
-    let wanted = OpenError::NotRead(ReadError::NotCanonical { line: 2, column: 7 });
+    let wanted = OpenError::NotRead(ReadError::NotCanonical {
+        position: Position { line: 2, column: 7 },
+    });
     let bytes = b"---\n!!int \"07\"\n";
     check_refused(&rt, rt.alloc(), bytes, DIGEST_OF_07, wanted);
 }
@@ -105,7 +107,9 @@ fn a_map_with_a_key_twice_is_opened_if_keys_may_repeat(rt: HostRuntime) {
     let bytes = Vec::from_slice(rt.alloc(), REPEATING).expect(&rt, "no memory");
     let digest = DIGEST_OF_REPEATING;
     let entry = Entry { bytes, digest };
-    let reason = ReadError::DuplicateKey { line: 5, column: 5 };
+    let reason = ReadError::DuplicateKey {
+        position: Position { line: 5, column: 5 },
+    };
     let refused = open(rt.alloc(), &entry, Keys::Unique).err();
     equal(&rt, &refused, &Some(OpenError::NotRead(reason)));
     let opened = open(rt.alloc(), &entry, Keys::MayRepeat).err();

@@ -1,7 +1,7 @@
 //! Typed values read back, as the documents show it.
 use crate::tests::equal;
 use std::alloc::Global;
-use yaml_read::{ReadError, Value, read_canonical};
+use yaml_read::{Position, ReadError, Value, read_canonical};
 
 /// Returns the integer that these canonical bytes hold; `None` if they hold another value.
 fn stored_integer(alloc: Global, bytes: &[u8]) -> Result<Option<i64>, ReadError> {
@@ -17,7 +17,9 @@ const STORED: &[(&[u8], Result<Option<i64>, ReadError>)] = &[
     (b"---\n!!str \"7\"\n", Ok(None)),
     (
         b"---\n!!int \"07\"\n",
-        Err(ReadError::NotCanonical { line: 2, column: 7 }),
+        Err(ReadError::NotCanonical {
+            position: Position { line: 2, column: 7 },
+        }),
     ),
 ];
 

@@ -1,11 +1,11 @@
 //! TOML, written as YAML.
 use crate::tests::same;
 use std::alloc::Global;
-use yaml_toml::{TomlError, TomlSettings, yaml_from_toml};
+use yaml_toml::{TomlError, ValueSettings, yaml_from_toml};
 
 /// Returns the YAML of a TOML document.
 fn yaml_of_toml(alloc: Global, text: &str) -> Result<Vec<u8>, TomlError> {
-    yaml_from_toml(alloc, text, TomlSettings::default())
+    yaml_from_toml(alloc, text, ValueSettings::default())
 }
 
 #[test]

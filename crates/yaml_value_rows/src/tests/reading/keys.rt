@@ -4,7 +4,7 @@ use super::refused::is_reported;
 use crate::tests::equal;
 use std::alloc::{Allocator, Global};
 use std::process::Abort;
-use yaml_read::{Keys, ReadError, Value, has_unique_keys, read_canonical_with};
+use yaml_read::{Keys, Position, ReadError, Value, has_unique_keys, read_canonical_with};
 use yaml_test_allocator::Refusing;
 
 /// A map with a map in it, both with the key `a`, and with keys that are maps and lists.
@@ -26,17 +26,26 @@ const SPOILED: &str =
 /// Texts, and the error if keys must differ.
 const READ: &[(&str, Option<ReadError>)] = &[
     (DIFFERENT, None),
-    (EQUAL, Some(ReadError::DuplicateKey { line: 5, column: 5 })),
+    (
+        EQUAL,
+        Some(ReadError::DuplicateKey {
+            position: Position { line: 5, column: 5 },
+        }),
+    ),
     (
         INSIDE,
         Some(ReadError::DuplicateKey {
-            line: 11,
-            column: 7,
+            position: Position {
+                line: 11,
+                column: 7,
+            },
         }),
     ),
     (
         SPOILED,
-        Some(ReadError::DuplicateKey { line: 5, column: 5 }),
+        Some(ReadError::DuplicateKey {
+            position: Position { line: 5, column: 5 },
+        }),
     ),
 ];
 
@@ -61,7 +70,9 @@ fn keys_differ_if_they_must(rt: HostRuntime) {
             wanted,
         );
     }
-    let wanted = Some(ReadError::NotCanonical { line: 6, column: 5 });
+    let wanted = Some(ReadError::NotCanonical {
+        position: Position { line: 6, column: 5 },
+    });
     let found = read_by(rt.alloc(), SPOILED, Keys::MayRepeat).err();
     equal(&rt, &found, &wanted);
 }

@@ -4,7 +4,9 @@ use crate::tests::{equal, same};
 use std::alloc::Global;
 use std::process::Abort;
 use toml_ordered::{Node, read_document};
-use yaml_toml::{TomlError, TomlSettings, Writer, value_settings, write_toml, yaml_error_t};
+use yaml_toml::{
+    Position, TomlError, ValueSettings, Writer, value_settings, write_toml, yaml_error_t,
+};
 use yaml_writer::YAML_BLOCK_SEQUENCE_STYLE;
 
 /// A document of one key, and its value as the text has it: a decimal after `#`, or a date or a time. YAML shows other digits, and texts in
@@ -46,9 +48,13 @@ fn digits_and_kinds_of_dates_are_kept(rt: HostRuntime) {
 
 #[test]
 fn errors_print_their_place(rt: HostRuntime) {
-    let error = TomlError::NotToml { line: 2, column: 5 };
+    let error = TomlError::NotToml {
+        position: Position { line: 2, column: 5 },
+    };
     check_printed(&rt, rt.alloc(), &error, "line 2, column 5: not TOML");
-    let error = TomlError::TooDeepToRead { line: 2, column: 5 };
+    let error = TomlError::TooDeepToRead {
+        position: Position { line: 2, column: 5 },
+    };
     let words = "line 2, column 5: arrays and tables nest too deep";
     check_printed(&rt, rt.alloc(), &error, words);
     check_printed(
@@ -64,7 +70,7 @@ fn write_both(alloc: Global, text: &str, document: &str) -> Result<Vec<u8>, Toml
     let mut writer = Writer::new(alloc, value_settings())?;
     writer.begin_sequence(YAML_BLOCK_SEQUENCE_STYLE)?;
     writer.text(text)?;
-    write_toml(alloc, &mut writer, document, TomlSettings::default())?;
+    write_toml(alloc, &mut writer, document, ValueSettings::default())?;
     writer.end()?;
     Ok(writer.finish()?)
 }

@@ -3,7 +3,7 @@ use super::{check_answer, read_and_dumped};
 use crate::tests::equal;
 use std::alloc::Global;
 use std::process::Abort;
-use yaml_read::ReadError;
+use yaml_read::{Position, ReadError};
 
 /// Checks that bytes aren't laid out as those of a document.
 fn check_not_canonical(rt: &impl Abort, alloc: Global, bytes: &[u8]) {
@@ -111,8 +111,10 @@ const PLACED: &[(&[u8], usize, usize)] = &[
 fn errors_have_a_place(rt: HostRuntime) {
     for (bytes, line, column) in PLACED {
         let error = ReadError::NotCanonical {
-            line: *line,
-            column: *column,
+            position: Position {
+                line: *line,
+                column: *column,
+            },
         };
         check_answer(&rt, rt.alloc(), bytes, Some(error));
     }
