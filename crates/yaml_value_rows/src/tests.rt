@@ -5,6 +5,7 @@
 //! end of a block is dearer to prove.
 mod callers;
 mod calling;
+mod forms;
 mod handed;
 mod numbers;
 mod paths;
