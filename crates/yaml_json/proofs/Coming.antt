@@ -4,7 +4,8 @@ use Rattle.yaml_json.proofs.SendingSteps.{stops_here, stops_next_text}
 use Rattle.yaml_json.proofs.YamlOf.{HaveScalarTexts}
 use Rattle.yaml_json.proofs.Common.{ℕ, IfSome, Option, None, Some, length, Bool, true, List, [], ◌++◌, refl, ◌≡◌, append-nil, append_assoc, ap, subst, sym, ◌∙◌}
 use Rattle.yaml_json.proofs.Common.{Appends, Token, tokens, HasScanned, NamesOnce, Advances, StopsWithin, IsBare, WroteText, WriterState, Ok, Err, Result}
-use Rattle.yaml_json.specs.{Failing.Grew, declared.cuts.Cut.Cut, declared.error.StreamError.StreamError, declared.places.Place.Place}
+use Rattle.yaml_json.specs.{Failing.Grew, declared.cuts.Cut.Cut, declared.error.StreamError.StreamError}
+use Rattle.yaml_base.specs.declared.places.Position.{Position}
 use Rattle.yaml_json.specs.SendingCalls.{LastStep, SendsTexts}
 use Rattle.yaml_json.proofs.{Growing.grew_then, Cutting.whole_text, Stopping.if_some}
 use Rattle.yaml_pen.proofs.Composing.{grows_then}
@@ -12,22 +13,22 @@ use Rattle.std.specs.Io.KnownBytes.{Keeps, Consumes, IsAtEnd}
 use Rattle.std.specs.Prelude.{IsUtf8}
 use Rattle.yaml_json.specs.{declared.stream.Incoming.Incoming, declared.settings.JsonSettings.JsonSettings}
 use Rattle.yaml_json.specs.Sent.{SentTexts, SentSoFar, StopsInPart, StopsPartAt, StopsSending, HasCome, emitter_error}
-use Rattle.yaml_json.specs.Places.{HasPlaceWithin, IsPlaceAfter, MovesPlace}
+use Rattle.yaml_json.specs.Places.{HasPlaceWithin, IsPositionAfter, MovesPosition}
 
 -- ---- parts
 
 -- these bytes are held, and those that are left come yet
-pub record Comes (depth : ℕ) (in_flow unique : Bool) (text : List ℕ) (was : WriterState) (start : Option (List ℕ)) (held : List ℕ) (place : Place)
+pub record Comes (depth : ℕ) (in_flow unique : Bool) (text : List ℕ) (was : WriterState) (start : Option (List ℕ)) (held : List ℕ) (place : Position)
     (ahead : Option (List ℕ)) (now : WriterState) (holds : Option (List ℕ)) : Type 0 where
   pub left : List ℕ
   pub known : ahead ≡ Some left
   pub sending : SentSoFar depth in_flow unique text was start (held ++ left) now holds
   pub front : List ℕ
-  pub follows : IsPlaceAfter front place
+  pub follows : IsPositionAfter front place
   pub whole : front ++ (held ++ left) ≡ text
 
-pub comes_first : (depth : ℕ) (in_flow unique : Bool) (was : WriterState) (start ahead : Option (List ℕ)) (held : List ℕ) (place : Place) → held ≡ []
-    → IsPlaceAfter [] place → IsBare was → IfSome ahead (λ text. Comes depth in_flow unique text was start held place ahead was start)
+pub comes_first : (depth : ℕ) (in_flow unique : Bool) (was : WriterState) (start ahead : Option (List ℕ)) (held : List ℕ) (place : Position) → held ≡ []
+    → IsPositionAfter [] place → IsBare was → IfSome ahead (λ text. Comes depth in_flow unique text was start held place ahead was start)
 comes_first depth in_flow unique was start None held place none first bare = tt
 comes_first depth in_flow unique was start (Some text) held place none first bare =
     record {
@@ -79,9 +80,9 @@ module _ (depth : ℕ) (in_flow unique : Bool) (was : WriterState) (start : Opti
   -- more came
   pub more_came : {A : Type 0} (first : Option (List ℕ)) (before after : Incoming A) (ahead later : Option (List ℕ)) (now : WriterState)
       (holds : Option (List ℕ)) → HasCome before ahead after later
-      → after.reading.place ≡ before.reading.place
-      → IfSome first (λ text. Comes depth in_flow unique text was start before.held.items before.reading.place ahead now holds)
-      → IfSome first (λ text. Comes depth in_flow unique text was start after.held.items after.reading.place later now holds)
+      → after.reading.position ≡ before.reading.position
+      → IfSome first (λ text. Comes depth in_flow unique text was start before.held.items before.reading.position ahead now holds)
+      → IfSome first (λ text. Comes depth in_flow unique text was start after.held.items after.reading.position later now holds)
   more_came first before after ahead later now holds (bytes, is, consumes) stays =
       let held = before.held.items in
       if_some first
@@ -93,13 +94,13 @@ module _ (depth : ℕ) (in_flow unique : Bool) (was : WriterState) (start : Opti
         known = found.1;
         sending = sending_same depth in_flow unique text was start (held ++ come.left) (after.held.items ++ found.0) now holds same come.sending;
         front = come.front;
-        follows = subst (IsPlaceAfter come.front) (sym stays) come.follows;
+        follows = subst (IsPositionAfter come.front) (sym stays) come.follows;
         whole = ap (λ (all : List ℕ). come.front ++ all) (sym same) ∙ come.whole;
       })
 
   -- the texts that are complete were given
-  pub complete_given : (first : Option (List ℕ)) (held left : List ℕ) (place moved : Place) (ahead : Option (List ℕ)) (before now : WriterState)
-      (holds later : Option (List ℕ)) → Advances depth in_flow unique held before holds left now later → MovesPlace held left place moved
+  pub complete_given : (first : Option (List ℕ)) (held left : List ℕ) (place moved : Position) (ahead : Option (List ℕ)) (before now : WriterState)
+      (holds later : Option (List ℕ)) → Advances depth in_flow unique held before holds left now later → MovesPosition held left place moved
       → IfSome first (λ text. Comes depth in_flow unique text was start held place ahead before holds)
       → IfSome first (λ text. Comes depth in_flow unique text was start left moved ahead now later)
   complete_given first held left place moved ahead before now holds later advances moves =
@@ -116,7 +117,7 @@ module _ (depth : ℕ) (in_flow unique : Bool) (was : WriterState) (start : Opti
       })
 
   -- the sink was flushed
-  pub comes_kept : (first : Option (List ℕ)) (held : List ℕ) (place : Place) (ahead : Option (List ℕ)) (now : WriterState)
+  pub comes_kept : (first : Option (List ℕ)) (held : List ℕ) (place : Position) (ahead : Option (List ℕ)) (now : WriterState)
       (holds later : Option (List ℕ)) → Keeps holds later → IfSome first (λ text. Comes depth in_flow unique text was start held place ahead now holds)
       → IfSome first (λ text. Comes depth in_flow unique text was start held place ahead now later)
   comes_kept first held place ahead now holds later keeps =
@@ -131,7 +132,7 @@ module _ (depth : ℕ) (in_flow unique : Bool) (was : WriterState) (start : Opti
       })
 
   -- or not all of them
-  pub complete_stopped : (first : Option (List ℕ)) (held : List ℕ) (place : Place) (ahead : Option (List ℕ)) (before : WriterState)
+  pub complete_stopped : (first : Option (List ℕ)) (held : List ℕ) (place : Position) (ahead : Option (List ℕ)) (before : WriterState)
       (holds later : Option (List ℕ)) (error : StreamError) (after : WriterState)
       → StopsWithin depth in_flow unique held place before holds error after later
       → IfSome first (λ text. Comes depth in_flow unique text was start held place ahead before holds)
@@ -140,7 +141,7 @@ module _ (depth : ℕ) (in_flow unique : Bool) (was : WriterState) (start : Opti
       if_some first (λ text come. stops text was start come.left come.front come.follows come.whole come.sending)
 
   -- Nothing is taken of the next text.
-  pub comes_stopped : (first : Option (List ℕ)) (held : List ℕ) (place : Place) (ahead : Option (List ℕ)) (now : WriterState)
+  pub comes_stopped : (first : Option (List ℕ)) (held : List ℕ) (place : Position) (ahead : Option (List ℕ)) (now : WriterState)
       (holds : Option (List ℕ)) (error : StreamError) → ((next : List ℕ) (left : List Token) → StopsPartAt depth unique next [] left error)
       → ((front part : List ℕ) → HasPlaceWithin depth front part error)
       → IfSome first (λ text. Comes depth in_flow unique text was start held place ahead now holds)
@@ -150,7 +151,7 @@ module _ (depth : ℕ) (in_flow unique : Bool) (was : WriterState) (start : Opti
 
 -- ---- the last text
 
-module _ (depth : ℕ) (in_flow unique : Bool) (was : WriterState) (start : Option (List ℕ)) (held : List ℕ) (place : Place)
+module _ (depth : ℕ) (in_flow unique : Bool) (was : WriterState) (start : Option (List ℕ)) (held : List ℕ) (place : Position)
     (ahead : Option (List ℕ)) (now : WriterState) (holds : Option (List ℕ)) (ended : IsAtEnd ahead) (scan : Cut) (scanned : HasScanned held scan)
     (all : scan.scanned ≡ length held) where
   no_more_held : (text : List ℕ) → (comes : Comes depth in_flow unique text was start held place ahead now holds) → held ++ comes.left ≡ held
@@ -173,7 +174,7 @@ module _ (depth : ℕ) (in_flow unique : Bool) (was : WriterState) (start : Opti
       (whole_text held scan scanned all) given named readable one refl refl scalars)
 
   last_stopped : (first : Option (List ℕ)) (error : StreamError) (after : WriterState)
-      → ((front : List ℕ) → IsPlaceAfter front place → StopsInPart depth unique in_flow front held now error after)
+      → ((front : List ℕ) → IsPositionAfter front place → StopsInPart depth unique in_flow front held now error after)
       → IfSome first (λ text. Comes depth in_flow unique text was start held place ahead now holds)
       → IfSome first (λ text. StopsSending depth unique in_flow text was start error after holds)
   last_stopped first error after stops =
@@ -183,11 +184,11 @@ module _ (depth : ℕ) (in_flow unique : Bool) (was : WriterState) (start : Opti
       (stops come.front come.follows))
 
 -- as the last text's result says
-pub ends_sending : (settings : JsonSettings) (was : WriterState) (start : Option (List ℕ)) (held : List ℕ) (place : Place) (ahead : Option (List ℕ))
+pub ends_sending : (settings : JsonSettings) (was : WriterState) (start : Option (List ℕ)) (held : List ℕ) (place : Position) (ahead : Option (List ℕ))
     (now : WriterState) (holds : Option (List ℕ)) → IsAtEnd ahead → (scan : Cut) → HasScanned held scan → scan.scanned ≡ length held
     → (result : Result (Unit {0}) StreamError) (after : WriterState) (first : Option (List ℕ)) → Grew was None now
     → LastStep settings held place now result after → HaveScalarTexts after.emitter.events
-    → IfSome first (λ text. Comes settings.depth settings.flow settings.unique_names text was start held place ahead now holds)
+    → IfSome first (λ text. Comes settings.values.depth settings.values.flow settings.unique_names text was start held place ahead now holds)
     → SendsTexts settings first ahead was start result after holds
 ends_sending settings was start held place ahead now holds ended scan scanned all (Ok done) after first grew gave scalars come =
     record {
@@ -195,7 +196,7 @@ ends_sending settings was start held place ahead now holds ended scan scanned al
       sound = gave.given.kept.sound;
       ended = ended;
       bare = gave.given.written.wrote.bare;
-      sent = last_given settings.depth settings.flow settings.unique_names was start held place ahead now holds ended scan scanned all after first
+      sent = last_given settings.values.depth settings.values.flow settings.unique_names was start held place ahead now holds ended scan scanned all after first
           gave.given.names gave.utf8 gave.given.written scalars come;
     }
 ends_sending settings was start held place ahead now holds ended scan scanned all (Err error) after first grew stops scalars come =
@@ -203,6 +204,6 @@ ends_sending settings was start held place ahead now holds ended scan scanned al
     record {
       grows = grown.grows;
       sound = grown.sound;
-      stopped = last_stopped settings.depth settings.flow settings.unique_names was start held place ahead now holds ended scan scanned all first error
+      stopped = last_stopped settings.values.depth settings.values.flow settings.unique_names was start held place ahead now holds ended scan scanned all first error
           after stops.stopped come;
     }

@@ -56,6 +56,5 @@ grew_sent before after kept =
 pub grew_reading : (was now : WriterState) (error : StreamError) → IsByReader error → Grew was None now → Grew was (emitter_error error) now
 grew_reading was now (faults.Refused error) is grew =
     subst (λ (e : JsonError). Grew was (writers_error e) now) (sym is) (record { grows = grew.grows; sound = inl (refl, grew.sound) })
-grew_reading was now (faults.NotText line column) is grew = absurd is
 grew_reading was now (faults.ReadFailed error) is grew = grew
-grew_reading was now (faults.WriteFailed error) is grew = absurd is
+grew_reading was now _ is grew = absurd is

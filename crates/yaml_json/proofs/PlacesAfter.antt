@@ -1,6 +1,6 @@
 -- The line and the column of an offset in a text that follows others.
 use Prim.Native.Nat.{min}
-use Rattle.std.proofs.Common.{◌≡◌, ◌⊎◌, ℕ, ◌+◌, ◌-◌, ◌<◌, ◌≤◌, Bool, true, false, cond, not, ◌==◌, List, [], ◌∷◌, ◌++◌, drop, take, length, refl, sym, subst}
+use Rattle.std.proofs.Common.{◌≡◌, ℕ, ◌+◌, ◌-◌, ◌<◌, ◌≤◌, Bool, true, false, cond, not, ◌==◌, List, [], ◌∷◌, ◌++◌, drop, take, length, refl, sym, subst}
 use Rattle.std.proofs.Common.{ap, ◌∙◌, arith, inl, inr}
 use Rattle.std.proofs.Math.Seq.{drop-append-add, take-append-add, take-length}
 use Rattle.std.proofs.lemmas.Bool.{cases_lt, ne_eqb}
@@ -11,9 +11,9 @@ use mathlib.Core.List.{reverse}
 use Rattle.std.specs.Fmt.{is_char_start}
 use Rattle.std.specs.List.{after_last, count_by, prefix_len, suffix_len}
 use Rattle.yaml_base.specs.values.LinesAndColumns.{column_of, is_line_feed, line_of}
-use Rattle.yaml_json.specs.Places.{IsPlaceAfter, MovesPlace, many_bytes}
-use Rattle.yaml_writer.specs.Places.{AreOf}
-use Rattle.yaml_json.specs.declared.places.Place.{Place}
+use Rattle.yaml_json.specs.Places.{IsPositionAfter, MovesPosition, many_bytes}
+use Rattle.yaml_base.specs.Positions.{IsPositionOf}
+use Rattle.yaml_base.specs.declared.places.Position.{Position}
 
 count_more : {X : Type 0} (p : X → Bool) (xs ys : List X) → count_by p (xs ++ ys) ≡ count_by p xs + count_by p ys
 count_more p xs ys = sum_by-append (λ x. cond (p x) 1 0) xs ys
@@ -160,47 +160,46 @@ front_counted front at less = omega (arith, less)
 whole_within : (front : List ℕ) → length front ≤ length front
 whole_within front = omega arith
 
-pub areof_joined : (front part : List ℕ) (at line column one other first second : ℕ) → AreOf front (length front) line column → AreOf part at one other
-    → at ≤ length part → length front + at < many_bytes
-    → ((one ≤ 1) × ((first ≡ line) × (second ≡ min (column + other) 18446744073709551615 - 1)))
-    ⊎ ((one ≤ 1 → ⊥) × ((first ≡ min (line + one) 18446744073709551615 - 1) × (second ≡ other)))
-    → AreOf (front ++ part) (length front + at) first second
-areof_joined front part at line column one other first second so here within less (inl (few, (line_is, column_is))) =
-    let lines = line_joined front part at in
-    let one_line : line_of part at ≤ 1 = omega (arith, few, here.0) in
-    let columns = same_line front part at one_line in
-    let small = column_few [] part at within in
-    let smaller = column_few [] front (length front) (whole_within front) in
-    (omega (arith, lines, so.0, here.0, line_is, few), omega (arith, columns, so.1, here.1, column_is, small, smaller, less))
-areof_joined front part at line column one other first second so here within less (inr (many, (line_is, column_is))) =
-    let lines = line_joined front part at in
-    let more : line_of part at ≤ 1 → ⊥ = λ few. many (omega (arith, few, here.0)) in
-    let columns = new_line front part at more in
-    let small = line_few [] part at within in
-    let smaller = line_few [] front (length front) (whole_within front) in
-    (omega (arith, lines, so.0, here.0, line_is, small, smaller, less), omega (arith, columns, here.1, column_is))
+module _ (front part : List ℕ) (at : ℕ) (start position : Position) (so : IsPositionOf front (length front) start)
+    (here : IsPositionOf part at position) (within : at ≤ length part) (less : length front + at < many_bytes) where
+  pub on_line : position.line ≤ 1 → (column : ℕ) → column ≡ min (start.column + position.column) 18446744073709551615 - 1
+      → IsPositionOf (front ++ part) (length front + at) (record { line = start.line; column = column })
+  on_line few column is =
+      let lines = line_joined front part at in
+      let columns = same_line front part at (omega (arith, few, here.line)) in
+      let small = column_few [] part at within in
+      let smaller = column_few [] front (length front) (whole_within front) in
+      record { line = omega (arith, lines, so.line, here.line, few); column = omega (arith, columns, so.column, here.column, is, small, smaller, less) }
 
--- ---- the place after all bytes, and after more
+  pub past_line : (position.line ≤ 1 → ⊥) → (line : ℕ) → line ≡ min (start.line + position.line) 18446744073709551615 - 1
+      → IsPositionOf (front ++ part) (length front + at) (record { line = line; column = position.column })
+  past_line many line is =
+      let lines = line_joined front part at in
+      let columns = new_line front part at (λ few. many (omega (arith, few, here.line))) in
+      let small = line_few [] part at within in
+      let smaller = line_few [] front (length front) (whole_within front) in
+      record { line = omega (arith, lines, so.line, here.line, is, small, smaller, less); column = omega (arith, columns, here.column) }
 
-pub after_all : (front bytes : List ℕ) (start after : Place) (line column : ℕ) → IsPlaceAfter front start
-    → AreOf bytes (length bytes) line column
-    → ((before text : List ℕ) (offset : ℕ) → IsPlaceAfter before start → AreOf text offset line column → offset ≤ length text
-    → length before + offset < many_bytes → AreOf (before ++ text) (length before + offset) after.line after.column)
-    → IsPlaceAfter (front ++ bytes) after
-after_all front bytes start after line column follows here says less =
+-- ---- the position after all bytes, and after more
+
+pub after_all : (front bytes : List ℕ) (start last after : Position) → IsPositionAfter front start → IsPositionOf bytes (length bytes) last
+    → ((before text : List ℕ) (offset : ℕ) → IsPositionAfter before start → IsPositionOf text offset last → offset ≤ length text
+    → length before + offset < many_bytes → IsPositionOf (before ++ text) (length before + offset) after)
+    → IsPositionAfter (front ++ bytes) after
+after_all front bytes start last after follows here says less =
     let size = length-append front bytes in
-    subst (λ n. AreOf (front ++ bytes) n after.line after.column) (sym size)
+    subst (λ n. IsPositionOf (front ++ bytes) n after) (sym size)
     (says front bytes (length bytes) follows here (omega arith) (omega (arith, less, size)))
 
-pub moves_nothing : (held later : List ℕ) (old new : Place) → later ≡ held → new ≡ old → MovesPlace held later old new
+pub moves_nothing : (held later : List ℕ) (old new : Position) → later ≡ held → new ≡ old → MovesPosition held later old new
 moves_nothing held later old new same stays = record {
   dropped = [];
   parts = same;
-  follows = λ front follows. subst (λ (f : List ℕ). IsPlaceAfter f new) (sym (append-nil front)) (subst (IsPlaceAfter front) (sym stays) follows);
+  follows = λ front follows. subst (λ (f : List ℕ). IsPositionAfter f new) (sym (append-nil front)) (subst (IsPositionAfter front) (sym stays) follows);
 }
 
-pub moves_on : (held later first : List ℕ) (start : ℕ) (old new : Place) → later ≡ drop start held → first ≡ take start held
-    → ((front : List ℕ) → IsPlaceAfter front old → IsPlaceAfter (front ++ first) new) → MovesPlace held later old new
+pub moves_on : (held later first : List ℕ) (start : ℕ) (old new : Position) → later ≡ drop start held → first ≡ take start held
+    → ((front : List ℕ) → IsPositionAfter front old → IsPositionAfter (front ++ first) new) → MovesPosition held later old new
 moves_on held later first start old new left is moves = record {
   dropped = first;
   parts = (λ i. is i ++ left i) ∙ take-append-drop start held;

@@ -58,11 +58,8 @@ begins_none d Token.end_object more isn't = ap left (value_is d (Token.end_objec
 begins_none d Token.begin_array more isn't = absurd (isn't.1 (Sequence, refl))
 begins_none d Token.end_array more isn't = ap left (value_is d (Token.end_array ∷ more))
 begins_none d (Token.key text) more isn't = ap left (value_is d (Token.key text ∷ more))
-begins_none d (Token.string text) more isn't = absurd (isn't.0 tt)
-begins_none d (Token.number text) more isn't = absurd (isn't.0 tt)
-begins_none d (Token.boolean flag) more isn't = absurd (isn't.0 tt)
-begins_none d Token.null more isn't = absurd (isn't.0 tt)
 begins_none d Token.bad more isn't = ap left (value_is d (Token.bad ∷ more))
+begins_none d _ more isn't = absurd (isn't.0 tt)
 
 nothing_left : (depth : ℕ) (unique : Bool) (taken : List Token) (levels : List CollectionKind) → Awaiting depth taken levels []
     → (unique ≡ true → NamesOnce [] taken) → TokensBreakAt depth unique taken []
@@ -121,19 +118,17 @@ token_refused depth unique taken levels token after stops.TooDeep place once ((k
     subst (λ (t : Token). OpensTooDeepAt depth unique taken (t ∷ after)) (sym is)
     (opens_deep depth unique taken levels kind after (subst (λ (t : Token). Awaiting depth taken levels (t ∷ after)) is place) once full)
 token_refused depth unique taken levels token after stops.NameAgain place once isn't = absurd isn't
-token_refused depth unique taken levels token after stops.Memory place once isn't = tt
-token_refused depth unique taken levels token after stops.Failed place once isn't = tt
+token_refused depth unique taken levels token after _ place once isn't = tt
 
 -- the first token is refused, or there is none
 pub first_refused : (depth : ℕ) (unique : Bool) (taken : List Token) (levels : List CollectionKind) (ahead : List Token) (stop : Stop)
     → Awaiting depth taken levels ahead → (unique ≡ true → NamesOnce [] taken) → RefusesFirst depth levels ahead stop
     → WhyStopped depth unique taken ahead stop
 first_refused depth unique taken levels [] (stops.NotJson spot) place once isn't = nothing_left depth unique taken levels place once
-first_refused depth unique taken levels [] stops.TooDeep place once isn't = absurd isn't
-first_refused depth unique taken levels [] stops.NameAgain place once isn't = absurd isn't
 first_refused depth unique taken levels [] stops.Memory place once isn't = tt
 first_refused depth unique taken levels [] stops.Failed place once isn't = tt
 first_refused depth unique taken levels (token ∷ after) stop place once isn't = token_refused depth unique taken levels token after stop place once isn't
+first_refused depth unique taken levels [] _ place once isn't = absurd isn't
 
 -- ---- a key is next
 
@@ -149,16 +144,9 @@ abbrev pub IsNoKey : Token → Type 0
 IsNoKey token = ((text : List ℕ) → token ≡ Token.key text → ⊥) × (token ≡ Token.end_object → ⊥)
 
 unnamed : (token : Token) (more : List Token) → IsNoKey token → read_key (token ∷ more) ≡ None
-unnamed Token.begin_object more isn't = refl
 unnamed Token.end_object more isn't = absurd (isn't.1 refl)
-unnamed Token.begin_array more isn't = refl
-unnamed Token.end_array more isn't = refl
 unnamed (Token.key text) more isn't = absurd (isn't.0 text refl)
-unnamed (Token.string text) more isn't = refl
-unnamed (Token.number text) more isn't = refl
-unnamed (Token.boolean flag) more isn't = refl
-unnamed Token.null more isn't = refl
-unnamed Token.bad more isn't = refl
+unnamed _ more isn't = refl
 
 module _ (depth : ℕ) (unique : Bool) (taken : List Token) (levels outer : List CollectionKind) (is : levels ≡ outer ++ Mapping ∷ [])
     (stands : LeavesOpen depth taken levels) (once : unique ≡ true → NamesOnce [] taken) where
@@ -240,24 +228,18 @@ module _ (depth : ℕ) (unique : Bool) (taken : List Token) (levels : List Colle
       ),
     ),
   )
-  at_token (Token.string text) after isn't = absurd (isn't.0 tt)
-  at_token (Token.number text) after isn't = absurd (isn't.0 tt)
-  at_token (Token.boolean flag) after isn't = absurd (isn't.0 tt)
-  at_token Token.null after isn't = absurd (isn't.0 tt)
   at_token Token.bad after isn't = (goes_on_here, tt)
+  at_token _ after isn't = absurd (isn't.0 tt)
 
   pub first_placed : (ahead : List Token) (stop : Stop) → RefusesFirst depth levels ahead stop → WhereStopped depth unique taken ahead stop
   first_placed [] (stops.NotJson spot) is = subst (λ (s : Spot). IsSpot depth unique s taken []) (sym is) (goes_on_here, tt)
   first_placed [] stops.TooDeep is = absurd is
   first_placed [] stops.NameAgain is = absurd is
-  first_placed [] stops.Memory is = tt
-  first_placed [] stops.Failed is = tt
   first_placed (token ∷ after) (stops.NotJson spot) isn't =
       subst (λ (s : Spot). IsSpot depth unique s taken (token ∷ after)) (sym isn't.1) (at_token token after isn't.0)
   first_placed (token ∷ after) stops.TooDeep ((kind, is), full) = (goes_on_here, opener_next kind token after is)
   first_placed (token ∷ after) stops.NameAgain isn't = absurd isn't
-  first_placed (token ∷ after) stops.Memory isn't = tt
-  first_placed (token ∷ after) stops.Failed isn't = tt
+  first_placed _ _ _ = tt
 
 -- a name that is none of some
 abbrev zeros : ℕ → List ℕ
@@ -360,17 +342,14 @@ deep_is_none depth unique all deep json read =
 
 pub why_no_json : (depth : ℕ) (unique : Bool) (text : List ℕ) (error : JsonError) → ExplainsError depth unique text error → DeniesJson error
     → IsNotJson depth text
-why_no_json depth unique text (errors.NotJson line column says) why is = broken_is_none depth unique (tokens text) why.0
-why_no_json depth unique text (errors.Marked line column) why is = broken_is_none depth unique (tokens text) why.0
-why_no_json depth unique text (errors.TooDeep line column) why is = deep_is_none depth unique (tokens text) why
-why_no_json depth unique text (errors.DuplicateName line column) why is = absurd is
+why_no_json depth unique text (errors.TooDeep position) why is = deep_is_none depth unique (tokens text) why
+why_no_json depth unique text (errors.DuplicateName position) why is = absurd is
 why_no_json depth unique text (errors.Emitter error) why is = absurd is
+why_no_json depth unique text _ why is = broken_is_none depth unique (tokens text) why.0
 
 -- a call that doesn't refuse the text says nothing of it
 pub unrefused : (answer : Result (Unit {0}) Stop) → (RefusesText answer → ⊥) → (P : Stop → Type 0) → P stops.Memory → P stops.Failed → IfErr answer P
 unrefused (Ok done) never P memory failed = tt
-unrefused (Err (stops.NotJson spot)) never P memory failed = absurd (never tt)
-unrefused (Err stops.TooDeep) never P memory failed = absurd (never tt)
-unrefused (Err stops.NameAgain) never P memory failed = absurd (never tt)
 unrefused (Err stops.Memory) never P memory failed = memory
 unrefused (Err stops.Failed) never P memory failed = failed
+unrefused _ never P memory failed = absurd (never tt)

@@ -56,14 +56,8 @@ more_utf8 (part ∷ parts) last all more = (all.0, more_utf8 parts last all.1 mo
 
 -- no document is unsent
 none_unsent : (error : StreamError) → MayBeUnsent error []
-none_unsent (faults.Refused (errors.NotJson line column says)) = refl
-none_unsent (faults.Refused (errors.Marked line column)) = refl
-none_unsent (faults.Refused (errors.TooDeep line column)) = refl
-none_unsent (faults.Refused (errors.DuplicateName line column)) = refl
 none_unsent (faults.Refused (errors.Emitter code)) = omega arith
-none_unsent (faults.NotText line column) = refl
-none_unsent (faults.ReadFailed error) = refl
-none_unsent (faults.WriteFailed error) = refl
+none_unsent _ = refl
 
 -- an error of the emitter has no place
 pub placed_nowhere : (depth : ℕ) (code : yaml_error_t) (front part : List ℕ) → HasPlaceWithin depth front part (faults.Refused (errors.Emitter code))

@@ -10,12 +10,13 @@ use Rattle.yaml_json.proofs.Common.{append_cancel_right}
 use Rattle.std.proofs.lemmas.List.{drop-drop}
 use Rattle.std.specs.Prelude.{IsUtf8}
 use Rattle.yaml_base.specs.declared.errors.yaml_error_t.TheVariants.{Memory}
-use Rattle.yaml_json.specs.{declared.cuts.Cut.Cut, declared.error.StreamError.StreamError, declared.error.JsonError.JsonError, declared.places.Place.Place}
+use Rattle.yaml_json.specs.{declared.cuts.Cut.Cut, declared.error.StreamError.StreamError, declared.error.JsonError.JsonError}
+use Rattle.yaml_base.specs.declared.places.Position.{Position}
 use Rattle.yaml_json.proofs.TextsInTurn.{begins_nothing}
 use Rattle.yaml_json.specs.Sent.{SentSoFar, FailsNext, IsByReader, StopsInPart, StopsPartAt, StopsSending, LeavesLast}
 use Rattle.yaml_writer.specs.WasGiven.{BeginsNext}
 use Rattle.yaml_writer.proofs.GivenAndTaken.{emits_taking_more}
-use Rattle.yaml_json.specs.Places.{HasPlaceWithin, IsPlaceAfter}
+use Rattle.yaml_json.specs.Places.{HasPlaceWithin, IsPositionAfter}
 use Rattle.yaml_json.specs.declared.error.JsonError.TheVariants as errors
 use Rattle.yaml_json.specs.declared.error.StreamError.TheVariants as faults
 
@@ -26,17 +27,15 @@ pub stops_by_reader : (depth : ℕ) (unique : Bool) (next : List ℕ) (left : Li
     → StopsPartAt depth unique next [] left error
 stops_by_reader depth unique next left (faults.Refused error) is =
     subst (λ (e : JsonError). StopsPartAt depth unique next [] left (faults.Refused e)) (sym is) (begins_nothing depth, inr (refl, λ never. never))
-stops_by_reader depth unique next left (faults.NotText line column) is = absurd is
 stops_by_reader depth unique next left (faults.ReadFailed error) is = refl
-stops_by_reader depth unique next left (faults.WriteFailed error) is = absurd is
+stops_by_reader depth unique next left _ is = absurd is
 
 -- and has no place
 pub nowhere_by_reader : (depth : ℕ) (error : StreamError) → IsByReader error → (front part : List ℕ) → HasPlaceWithin depth front part error
 nowhere_by_reader depth (faults.Refused error) is front part =
     subst (λ (e : JsonError). HasPlaceWithin depth front part (faults.Refused e)) (sym is) (placed_nowhere depth Memory front part)
-nowhere_by_reader depth (faults.NotText line column) is front part = absurd is
-nowhere_by_reader depth (faults.ReadFailed error) is front part = tt
-nowhere_by_reader depth (faults.WriteFailed error) is front part = tt
+nowhere_by_reader depth (faults.NotText position) is front part = absurd is
+nowhere_by_reader depth _ is front part = tt
 
 module _ (depth : ℕ) (in_flow unique : Bool) (text : List ℕ) (was : WriterState) (start : Option (List ℕ)) (rest : List ℕ) (now : WriterState)
     (held : Option (List ℕ)) (sending : SentSoFar depth in_flow unique text was start rest now held) where
@@ -125,8 +124,8 @@ module _ (depth : ℕ) (in_flow unique : Bool) (ahead : List ℕ) (before : Writ
 
     module _ (end : ℕ) (cuts : CutsAt rest end) where
       -- the first of the texts stops the sending
-      pub stops_at_first : (place : Place) (error : StreamError) (after : WriterState) (done : List ℕ) → done ++ rest ≡ ahead
-          → ((front : List ℕ) → IsPlaceAfter front place → StopsInPart depth unique in_flow (front ++ done) (take end rest) now error after)
+      pub stops_at_first : (place : Position) (error : StreamError) (after : WriterState) (done : List ℕ) → done ++ rest ≡ ahead
+          → ((front : List ℕ) → IsPositionAfter front place → StopsInPart depth unique in_flow (front ++ done) (take end rest) now error after)
           → StopsWithin depth in_flow unique ahead place before held error after holds
       stops_at_first place error after done parts stops text was start more front follows whole sending =
           stops_next_text depth in_flow unique text was start (rest ++ more) now holds (advances text was start more sending) (take end rest)
@@ -149,7 +148,7 @@ module _ (depth : ℕ) (in_flow unique : Bool) (ahead : List ℕ) (before : Writ
             (drop end rest ++ more) (texts_in (drop end rest ++ more)) (cut_off more) (cuts.cut more) given named readable one after later refl next
 
         -- or it isn't, or the sink fails
-        pub stops_next : (place : Place) (error : StreamError) (after : WriterState) (later : Option (List ℕ)) → FailsNext given holds error after later
+        pub stops_next : (place : Position) (error : StreamError) (after : WriterState) (later : Option (List ℕ)) → FailsNext given holds error after later
             → StopsWithin depth in_flow unique ahead place before held error after later
         stops_next place (faults.WriteFailed fault) after later fails text was start more front follows whole sending =
             sending_fails depth in_flow unique text was start (rest ++ more) now holds (advances text was start more sending) (take end rest)
@@ -158,9 +157,4 @@ module _ (depth : ℕ) (in_flow unique : Bool) (ahead : List ℕ) (before : Writ
             sending_unbegun depth in_flow unique text was start (rest ++ more) now holds (advances text was start more sending) (take end rest)
             (drop end rest ++ more) (texts_in (drop end rest ++ more)) (cut_off more) (cuts.cut more) given named readable one after later code refl
             fails.0 fails.1
-        stops_next place (faults.Refused (errors.NotJson line column says)) after later fails text was start more front follows whole sending = absurd fails
-        stops_next place (faults.Refused (errors.Marked line column)) after later fails text was start more front follows whole sending = absurd fails
-        stops_next place (faults.Refused (errors.TooDeep line column)) after later fails text was start more front follows whole sending = absurd fails
-        stops_next place (faults.Refused (errors.DuplicateName line column)) after later fails text was start more front follows whole sending = absurd fails
-        stops_next place (faults.NotText line column) after later fails text was start more front follows whole sending = absurd fails
-        stops_next place (faults.ReadFailed error) after later fails text was start more front follows whole sending = absurd fails
+        stops_next place _ after later fails text was start more front follows whole sending = absurd fails

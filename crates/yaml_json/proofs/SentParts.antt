@@ -11,14 +11,12 @@ use Rattle.yaml_json.specs.declared.error.StreamError.TheVariants as faults
 -- All bytes were given, whichever error there is.
 pub gives_all : (error : StreamError) (before after : Option (List ℕ)) (bytes : List ℕ) → Appends before after bytes
     → GivesSink error before after bytes []
-gives_all (faults.Refused error) before after bytes appends = (refl, appends)
-gives_all (faults.NotText line column) before after bytes appends = (refl, appends)
-gives_all (faults.ReadFailed error) before after bytes appends = (refl, appends)
 gives_all (faults.WriteFailed error) before after bytes appends = (
   [],
   record { rest = []; parts = refl },
   subst (λ (b : List ℕ). Appends before after b) (sym (append-nil bytes)) appends,
 )
+gives_all _ before after bytes appends = (refl, appends)
 
 -- the events of some texts, after each of which a document begins, and one more
 pub separated : (canonical in_flow : Bool) (parts : List (List ℕ × Json)) (last : List ℕ × Json)

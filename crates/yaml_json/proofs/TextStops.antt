@@ -6,7 +6,8 @@ use Rattle.yaml_json.proofs.Common.{ℕ, IfSome, Option, None, Some, Err, Bool, 
 use Rattle.yaml_json.proofs.Common.{◌∙◌, ◌++◌, ◌⊎◌, WriterState, Token, ExplainsError, WhyStopped, ◌+◌, ◌≤◌, [], arith, length}
 use Rattle.yaml_base.specs.declared.errors.{yaml_error_t.yaml_error_t, yaml_error_t.TheVariants.Memory}
 use Rattle.yaml_json.specs.{Failing.Kept, Failing.SoundAfter, Failing.writers_error, Refused.IsByText}
-use Rattle.yaml_writer.specs.{Failing.HasErrorSaid, Places.AreOf}
+use Rattle.yaml_base.specs.{Positions.IsPositionOf, declared.places.Position.Position}
+use Rattle.yaml_writer.specs.Failing.{HasErrorSaid}
 use Rattle.yaml_json.specs.{Refused.TokensStopAt, Stopped.StopsInText, Walk.MatchesStop, Walk.StopsText, declared.error.JsonError.JsonError}
 use Rattle.yaml_json.specs.{Offsets.StopsAtLexeme, Places.HasPlaceAfter, Places.HasPlaceWithin, Places.IsAt, Places.IsPlacedAt}
 use Rattle.yaml_json.specs.{Expected.SaysExpected, declared.values.Stop.Stop}
@@ -18,23 +19,13 @@ use Rattle.yaml_json.specs.declared.values.Stop.TheVariants as stops
 module _ (depth : ℕ) (unique in_flow : Bool) (text : List ℕ) (was now : WriterState) where
   why_returned : (taken left : List Token) (stop : Stop) (error : JsonError) → MatchesStop text stop error → IsByText stop
       → WhyStopped depth unique taken left stop → TokensStopAt depth unique text taken left error
-  why_returned taken left (stops.NotJson spot) (errors.NotJson line column says) same is why = (why, same)
-  why_returned taken left (stops.NotJson spot) (errors.Marked line column) same is why = (why, same)
-  why_returned taken left (stops.NotJson spot) (errors.TooDeep line column) same is why = absurd same
-  why_returned taken left (stops.NotJson spot) (errors.DuplicateName line column) same is why = absurd same
-  why_returned taken left (stops.NotJson spot) (errors.Emitter returned) same is why = absurd same
-  why_returned taken left stops.TooDeep (errors.NotJson line column says) same is why = absurd same
-  why_returned taken left stops.TooDeep (errors.Marked line column) same is why = absurd same
-  why_returned taken left stops.TooDeep (errors.TooDeep line column) same is why = why
-  why_returned taken left stops.TooDeep (errors.DuplicateName line column) same is why = absurd same
-  why_returned taken left stops.TooDeep (errors.Emitter returned) same is why = absurd same
-  why_returned taken left stops.NameAgain (errors.NotJson line column says) same is why = absurd same
-  why_returned taken left stops.NameAgain (errors.Marked line column) same is why = absurd same
-  why_returned taken left stops.NameAgain (errors.TooDeep line column) same is why = absurd same
-  why_returned taken left stops.NameAgain (errors.DuplicateName line column) same is why = why
-  why_returned taken left stops.NameAgain (errors.Emitter returned) same is why = absurd same
+  why_returned taken left (stops.NotJson spot) (errors.NotJson position says) same is why = (why, same)
+  why_returned taken left (stops.NotJson spot) (errors.Marked position) same is why = (why, same)
+  why_returned taken left stops.TooDeep (errors.TooDeep position) same is why = why
+  why_returned taken left stops.NameAgain (errors.DuplicateName position) same is why = why
   why_returned taken left stops.Memory error same is why = absurd is
   why_returned taken left stops.Failed error same is why = absurd is
+  why_returned taken left _ _ same is why = absurd same
 
   stopped_by_text : (stop : Stop) (error : JsonError) → MatchesStop text stop error → IsByText stop
       → StopsText depth unique in_flow text was stop now → StopsInText depth unique in_flow text was error now
@@ -67,29 +58,13 @@ module _ (depth : ℕ) (unique in_flow : Bool) (text : List ℕ) (was now : Writ
   text_stopped (stops.NotJson spot) error same refused failed = stopped_by_text (stops.NotJson spot) error same tt (refused tt)
   text_stopped stops.TooDeep error same refused failed = stopped_by_text stops.TooDeep error same tt (refused tt)
   text_stopped stops.NameAgain error same refused failed = stopped_by_text stops.NameAgain error same tt (refused tt)
-  text_stopped stops.Memory (errors.NotJson line column says) same refused failed = absurd same
-  text_stopped stops.Memory (errors.Marked line column) same refused failed = absurd same
-  text_stopped stops.Memory (errors.TooDeep line column) same refused failed = absurd same
-  text_stopped stops.Memory (errors.DuplicateName line column) same refused failed = absurd same
   text_stopped stops.Memory (errors.Emitter returned) same refused failed = stopped_by_writer Memory returned failed
-  text_stopped stops.Failed (errors.NotJson line column says) same refused failed = absurd same
-  text_stopped stops.Failed (errors.Marked line column) same refused failed = absurd same
-  text_stopped stops.Failed (errors.TooDeep line column) same refused failed = absurd same
-  text_stopped stops.Failed (errors.DuplicateName line column) same refused failed = absurd same
-  text_stopped stops.Failed (errors.Emitter returned) same refused failed =
-      stopped_by_writer (unwrap_or now.emitter.error Memory) returned failed
+  text_stopped stops.Failed (errors.Emitter returned) same refused failed = stopped_by_writer (unwrap_or now.emitter.error Memory) returned failed
+  text_stopped _ _ same refused failed = absurd same
 
   -- which explains the error
   pub explained : (error : JsonError) → StopsInText depth unique in_flow text was error now → ExplainsError depth unique text error
-  explained (errors.NotJson line column says) stops = (
-    record { taken = stops.taken; left = stops.left; parts = stops.split; begins = stops.why.0.begins; breaks = stops.why.0.breaks },
-    stops.why.1,
-  )
-  explained (errors.Marked line column) stops = (
-    record { taken = stops.taken; left = stops.left; parts = stops.split; begins = stops.why.0.begins; breaks = stops.why.0.breaks },
-    stops.why.1,
-  )
-  explained (errors.TooDeep line column) stops =
+  explained (errors.TooDeep position) stops =
       let why = stops.why in
       record {
         taken = stops.taken;
@@ -100,7 +75,7 @@ module _ (depth : ℕ) (unique in_flow : Bool) (text : List ℕ) (was now : Writ
         some = why.some;
         deeper = why.deeper;
       }
-  explained (errors.DuplicateName line column) stops =
+  explained (errors.DuplicateName position) stops =
       let why = stops.why in
       record {
         wanted = why.wanted;
@@ -113,6 +88,10 @@ module _ (depth : ℕ) (unique in_flow : Bool) (text : List ℕ) (was now : Writ
         twice = why.twice;
       }
   explained (errors.Emitter code) stops = tt
+  explained _ stops = (
+    record { taken = stops.taken; left = stops.left; parts = stops.split; begins = stops.why.0.begins; breaks = stops.why.0.breaks },
+    stops.why.1,
+  )
 
   -- and the writer's failure
   code_said : (code : yaml_error_t) → HasErrorSaid was (Some code) now → (code ≡ Memory) ⊎ (now.emitter.error ≡ Some code)
@@ -126,14 +105,11 @@ module _ (depth : ℕ) (unique in_flow : Bool) (text : List ℕ) (was now : Writ
 
   pub writer_failed : (error : JsonError) → StopsInText depth unique in_flow text was error now → HasErrorSaid was (writers_error error) now
       → IfSome (writers_error error) (λ code. FailedInText depth in_flow text was code now)
-  writer_failed (errors.NotJson line column says) stops said = tt
-  writer_failed (errors.Marked line column) stops said = tt
-  writer_failed (errors.TooDeep line column) stops said = tt
-  writer_failed (errors.DuplicateName line column) stops said = tt
   writer_failed (errors.Emitter code) stops said = (
     stops.taken,
     (record { left = stops.left; parts = stops.split; gave = record { gave = given_by stops; is_error = code_said code said } }, stops.why),
   )
+  writer_failed _ stops said = tt
 
 -- the emitter's error is the one that is said
 said_so : (was now : WriterState) (found : Option yaml_error_t) → now.emitter.error ≡ found → HasErrorSaid was (Some (unwrap_or found Memory)) now
@@ -141,12 +117,10 @@ said_so was now None none = inl (refl, λ sound. none)
 said_so was now (Some code) has = inr has
 
 pub said_by : (was now : WriterState) (stop : Stop) → SoundAfter was (Err stop) now → HasErrorSaid was (failure_of now stop) now
-said_by was now (stops.NotJson spot) sound = sound
-said_by was now stops.TooDeep sound = sound
-said_by was now stops.NameAgain sound = sound
 said_by was now stops.Memory (inl sound) = inl (refl, sound)
 said_by was now stops.Memory (inr has) = inr has
 said_by was now stops.Failed sound = said_so was now now.emitter.error refl
+said_by was now _ sound = sound
 
 pub said_as : (was now : WriterState) (stop : Stop) (found : Option yaml_error_t) → found ≡ failure_of now stop → Kept was (Err stop) now
     → HasErrorSaid was found now
@@ -155,65 +129,29 @@ said_as was now stop found is kept = subst (λ (f : Option yaml_error_t). HasErr
 -- The error is at the place of the stop.
 pub placed_as : (depth : ℕ) (part text : List ℕ) (at : ℕ) (stop : Stop) (error : JsonError) → MatchesStop part stop error
     → (IsByText stop → StopsAtLexeme depth text at stop) → SaysExpected text at error → IsPlacedAt depth text at error
-placed_as depth part text at (stops.NotJson spot) (errors.NotJson line column says) same placed expects = (placed tt, expects)
-placed_as depth part text at (stops.NotJson spot) (errors.Marked line column) same placed expects = placed tt
-placed_as depth part text at (stops.NotJson spot) (errors.TooDeep line column) same placed expects = absurd same
-placed_as depth part text at (stops.NotJson spot) (errors.DuplicateName line column) same placed expects = absurd same
-placed_as depth part text at (stops.NotJson spot) (errors.Emitter returned) same placed expects = absurd same
-placed_as depth part text at stops.TooDeep (errors.NotJson line column says) same placed expects = absurd same
-placed_as depth part text at stops.TooDeep (errors.Marked line column) same placed expects = absurd same
-placed_as depth part text at stops.TooDeep (errors.TooDeep line column) same placed expects = placed tt
-placed_as depth part text at stops.TooDeep (errors.DuplicateName line column) same placed expects = absurd same
-placed_as depth part text at stops.TooDeep (errors.Emitter returned) same placed expects = absurd same
-placed_as depth part text at stops.NameAgain (errors.NotJson line column says) same placed expects = absurd same
-placed_as depth part text at stops.NameAgain (errors.Marked line column) same placed expects = absurd same
-placed_as depth part text at stops.NameAgain (errors.TooDeep line column) same placed expects = absurd same
-placed_as depth part text at stops.NameAgain (errors.DuplicateName line column) same placed expects = placed tt
-placed_as depth part text at stops.NameAgain (errors.Emitter returned) same placed expects = absurd same
-placed_as depth part text at stops.Memory (errors.NotJson line column says) same placed expects = absurd same
-placed_as depth part text at stops.Memory (errors.Marked line column) same placed expects = absurd same
-placed_as depth part text at stops.Memory (errors.TooDeep line column) same placed expects = absurd same
-placed_as depth part text at stops.Memory (errors.DuplicateName line column) same placed expects = absurd same
-placed_as depth part text at stops.Memory (errors.Emitter returned) same placed expects = tt
-placed_as depth part text at stops.Failed (errors.NotJson line column says) same placed expects = absurd same
-placed_as depth part text at stops.Failed (errors.Marked line column) same placed expects = absurd same
-placed_as depth part text at stops.Failed (errors.TooDeep line column) same placed expects = absurd same
-placed_as depth part text at stops.Failed (errors.DuplicateName line column) same placed expects = absurd same
-placed_as depth part text at stops.Failed (errors.Emitter returned) same placed expects = tt
+placed_as depth part text at (stops.NotJson spot) (errors.NotJson position says) same placed expects = (placed tt, expects)
+placed_as depth part text at (stops.NotJson spot) (errors.Marked position) same placed expects = placed tt
+placed_as depth part text at stops.TooDeep (errors.TooDeep position) same placed expects = placed tt
+placed_as depth part text at stops.NameAgain (errors.DuplicateName position) same placed expects = placed tt
+placed_as depth part text at stop (errors.Emitter returned) same placed expects = tt
+placed_as depth part text at _ _ same placed expects = absurd same
 
 -- and in the text that it is in
-pub placed_after : (depth : ℕ) (text part front : List ℕ) (at whole : ℕ) (stop : Stop) (error : JsonError) → MatchesStop part stop error
-    → (IsByText stop → StopsAtLexeme depth part at stop) → IsAt text whole error → (at ≤ length part → whole ≡ length front + at) → SaysExpected part at error
-    → HasPlaceAfter depth text front part error
-placed_after depth text part front at whole (stops.NotJson spot) (errors.NotJson line column says) same placed is sum expects =
-    (at, (subst (λ n. IsAt text n (errors.NotJson line column says)) (sum (placed tt).start.within) is, (placed tt, expects)))
-placed_after depth text part front at whole (stops.NotJson spot) (errors.Marked line column) same placed is sum expects =
-    (at, (subst (λ n. IsAt text n (errors.Marked line column)) (sum (placed tt).start.within) is, placed tt))
-placed_after depth text part front at whole (stops.NotJson spot) (errors.TooDeep line column) same placed is sum expects = absurd same
-placed_after depth text part front at whole (stops.NotJson spot) (errors.DuplicateName line column) same placed is sum expects = absurd same
-placed_after depth text part front at whole (stops.NotJson spot) (errors.Emitter returned) same placed is sum expects = absurd same
-placed_after depth text part front at whole stops.TooDeep (errors.NotJson line column says) same placed is sum expects = absurd same
-placed_after depth text part front at whole stops.TooDeep (errors.Marked line column) same placed is sum expects = absurd same
-placed_after depth text part front at whole stops.TooDeep (errors.TooDeep line column) same placed is sum expects =
-    (at, (subst (λ n. IsAt text n (errors.TooDeep line column)) (sum (placed tt).start.within) is, placed tt))
-placed_after depth text part front at whole stops.TooDeep (errors.DuplicateName line column) same placed is sum expects = absurd same
-placed_after depth text part front at whole stops.TooDeep (errors.Emitter returned) same placed is sum expects = absurd same
-placed_after depth text part front at whole stops.NameAgain (errors.NotJson line column says) same placed is sum expects = absurd same
-placed_after depth text part front at whole stops.NameAgain (errors.Marked line column) same placed is sum expects = absurd same
-placed_after depth text part front at whole stops.NameAgain (errors.TooDeep line column) same placed is sum expects = absurd same
-placed_after depth text part front at whole stops.NameAgain (errors.DuplicateName line column) same placed is sum expects =
-    (at, (subst (λ n. IsAt text n (errors.DuplicateName line column)) (sum (placed tt).start.within) is, placed tt))
-placed_after depth text part front at whole stops.NameAgain (errors.Emitter returned) same placed is sum expects = absurd same
-placed_after depth text part front at whole stops.Memory (errors.NotJson line column says) same placed is sum expects = absurd same
-placed_after depth text part front at whole stops.Memory (errors.Marked line column) same placed is sum expects = absurd same
-placed_after depth text part front at whole stops.Memory (errors.TooDeep line column) same placed is sum expects = absurd same
-placed_after depth text part front at whole stops.Memory (errors.DuplicateName line column) same placed is sum expects = absurd same
-placed_after depth text part front at whole stops.Memory (errors.Emitter returned) same placed is sum expects = (0, (tt, tt))
-placed_after depth text part front at whole stops.Failed (errors.NotJson line column says) same placed is sum expects = absurd same
-placed_after depth text part front at whole stops.Failed (errors.Marked line column) same placed is sum expects = absurd same
-placed_after depth text part front at whole stops.Failed (errors.TooDeep line column) same placed is sum expects = absurd same
-placed_after depth text part front at whole stops.Failed (errors.DuplicateName line column) same placed is sum expects = absurd same
-placed_after depth text part front at whole stops.Failed (errors.Emitter returned) same placed is sum expects = (0, (tt, tt))
+module _ (depth : ℕ) (text part front : List ℕ) (at whole : ℕ) where
+  placed_there : (error : JsonError) → IsAt text whole error → whole ≡ length front + at → IsPlacedAt depth part at error
+      → HasPlaceAfter depth text front part error
+  placed_there error is sum placed = (at, (subst (λ n. IsAt text n error) sum is, placed))
+
+  pub placed_after : (stop : Stop) (error : JsonError) → MatchesStop part stop error → (IsByText stop → StopsAtLexeme depth part at stop)
+      → IsAt text whole error → (at ≤ length part → whole ≡ length front + at) → SaysExpected part at error → HasPlaceAfter depth text front part error
+  placed_after stop (errors.Emitter returned) same placed is sum expects = (0, (tt, tt))
+  placed_after (stops.NotJson spot) error same placed is sum expects =
+      placed_there error is (sum (placed tt).start.within) (placed_as depth part part at (stops.NotJson spot) error same placed expects)
+  placed_after stops.TooDeep error same placed is sum expects =
+      placed_there error is (sum (placed tt).start.within) (placed_as depth part part at stops.TooDeep error same placed expects)
+  placed_after stops.NameAgain error same placed is sum expects =
+      placed_there error is (sum (placed tt).start.within) (placed_as depth part part at stops.NameAgain error same placed expects)
+  placed_after _ _ same placed is sum expects = absurd same
 
 -- in a text before which none came
 pub placed_first : (depth : ℕ) (text : List ℕ) (at : ℕ) (error : JsonError) → IsAt text at error → IsPlacedAt depth text at error
@@ -221,7 +159,7 @@ pub placed_first : (depth : ℕ) (text : List ℕ) (at : ℕ) (error : JsonError
 placed_first depth text at error is placed =
     let e : at ≡ length {A = ℕ} [] + at = omega arith in (at, ((λ less. subst (λ n. IsAt text n error) e is), placed))
 
-pub placed_no_text : (depth : ℕ) (bytes : List ℕ) (at line column : ℕ) → AreOf bytes at line column → IsValidUpTo bytes at
-    → HasPlaceWithin depth [] bytes (faults.NotText line column)
-placed_no_text depth bytes at line column is valid =
-    let e : at ≡ length {A = ℕ} [] + at = omega arith in (at, ((λ less. subst (λ n. AreOf bytes n line column) e is), valid))
+pub placed_no_text : (depth : ℕ) (bytes : List ℕ) (at : ℕ) (position : Position) → IsPositionOf bytes at position → IsValidUpTo bytes at
+    → HasPlaceWithin depth [] bytes (faults.NotText position)
+placed_no_text depth bytes at position is valid =
+    let e : at ≡ length {A = ℕ} [] + at = omega arith in (at, ((λ less. subst (λ n. IsPositionOf bytes n position) e is), valid))

@@ -28,17 +28,17 @@ use Rattle.yaml_json.specs.declared.values.Stop.TheVariants as stops
 
 -- a call that doesn't refuse its token
 unrefused_step : {A : Type 0} (settings : JsonSettings) (token : Token) (before after : JsonWalk A) (result : Result (Unit {0}) Stop)
-    → OnOk result (BeganValue settings.depth settings.flow token before.nest.kinds.items before.writer after.nest.kinds.items after.writer)
-    → IsNesting settings.depth settings.unique_names after.nest → KeepsNamesAfter before.nest.names (token ∷ []) after.nest.names → (RefusesText result → ⊥)
+    → OnOk result (BeganValue settings.values.depth settings.values.flow token before.nest.kinds.items before.writer after.nest.kinds.items after.writer)
+    → IsNesting settings.values.depth settings.unique_names after.nest → KeepsNamesAfter before.nest.names (token ∷ []) after.nest.names → (RefusesText result → ⊥)
     → OnErr result (StaysUnlessFailed before.writer after.writer) → Kept before.writer result after.writer
     → IfSome (emitter_error_of after.writer result)
-    (λ error. BeginFailed settings.depth settings.flow token before.nest.kinds.items before.writer error after.writer)
+    (λ error. BeginFailed settings.values.depth settings.values.flow token before.nest.kinds.items before.writer error after.writer)
     → TokenStep settings token before result after
 unrefused_step settings token before after (Ok done) began fits names never unmoved kept failed =
     record { began = began; fits = fits; names = names; kept = record { grows = kept.grows; sound = kept.sound } }
 unrefused_step settings token before after (Err stop) began fits names never unmoved kept failed =
     record {
-      refused = unrefused (Err stop) never (RefusesToken settings.depth before.nest.kinds.items token) tt tt;
+      refused = unrefused (Err stop) never (RefusesToken settings.values.depth before.nest.kinds.items token) tt tt;
       same = λ by_text. absurd (never by_text);
       unmoved = unmoved;
       kept = kept;
@@ -49,8 +49,8 @@ unrefused_step settings token before after (Err stop) began fits names never unm
 
 -- a scalar
 pub scalar_step : {A : Type 0} (settings : JsonSettings) (token : Token) (event : Bool → Event) → IsScalar token
-    → ((canonical : Bool) → token_events canonical settings.flow token ≡ event canonical ∷ []) → (nest : Nesting A)
-    → IsNesting settings.depth settings.unique_names nest → (before after : WriterState) (given : Event) → given ≡ event before.canonical
+    → ((canonical : Bool) → token_events canonical settings.values.flow token ≡ event canonical ∷ []) → (nest : Nesting A)
+    → IsNesting settings.values.depth settings.unique_names nest → (before after : WriterState) (given : Event) → given ≡ event before.canonical
     → (answer : Result (Unit {0}) yaml_error_t) (result : Result (Unit {0}) Stop) → IsWritersAnswer answer result → Gives before given answer after
     → TokenStep settings token (at nest before) result (at nest after)
 scalar_step settings token event is events nest fits before after given same answer result answers gives =
@@ -60,48 +60,48 @@ scalar_step settings token event is events nest fits before after given same ans
     (on_ok answer (wrote_event before after given (event before.canonical) same) ok)
     (on_err answer
     (λ error. event_failed before after given (event before.canonical) error same
-    (event_keeps settings.flow token event (scalar_keeps token is) events before.canonical before.levels))
+    (event_keeps settings.values.flow token event (scalar_keeps token is) events before.canonical before.levels))
     err) in
     unrefused_step settings token (at nest before) (at nest after) result
-    (on_ok result (scalar_began settings.depth settings.flow nest.kinds.items before after token event is events) all.0) fits
+    (on_ok result (scalar_began settings.values.depth settings.values.flow nest.kinds.items before after token event is events) all.0) fits
     (keeps_scalar token nest.names is) all.1 (unmoved_event before after before given answer result answers err)
     (kept_event before after before refl given answer result answers ok err)
-    (if_some (emitter_error_of after result) (scalar_failed settings.depth settings.flow nest.kinds.items before after token event is events) all.2)
+    (if_some (emitter_error_of after result) (scalar_failed settings.values.depth settings.values.flow nest.kinds.items before after token event is events) all.2)
 
 -- a collection begins, for which there is room
 pub opener_step : {A : Type 0} (settings : JsonSettings) (kind : CollectionKind) (before after : JsonWalk A)
-    → length before.nest.kinds.items < settings.depth → after.nest.kinds.items ≡ before.nest.kinds.items ++ kind ∷ []
-    → IsNesting settings.depth settings.unique_names after.nest → KeepsNamesAfter before.nest.names (opener kind ∷ []) after.nest.names
+    → length before.nest.kinds.items < settings.values.depth → after.nest.kinds.items ≡ before.nest.kinds.items ++ kind ∷ []
+    → IsNesting settings.values.depth settings.unique_names after.nest → KeepsNamesAfter before.nest.names (opener kind ∷ []) after.nest.names
     → (answer : Result (Unit {0}) yaml_error_t) (result : Result (Unit {0}) Stop) → IsWritersAnswer answer result
-    → Begins kind before.writer (start_event settings.flow kind) answer after.writer → TokenStep settings (opener kind) before result after
+    → Begins kind before.writer (start_event settings.values.flow kind) answer after.writer → TokenStep settings (opener kind) before result after
 opener_step settings kind before after room opened fits names answer result answers begins =
-    let event = start_event settings.flow kind in
+    let event = start_event settings.values.flow kind in
     let levels = before.nest.kinds.items in
     let ok = begins_ok kind before.writer after.writer event answer begins in
     let err = begins_err kind before.writer after.writer event answer begins in
     let all = answered_at (GaveEvent (with_collection before.writer kind) event (Ok tt) after.writer) before.writer after.writer event answer result answers ok
-    (on_err answer (λ error. start_failed kind before.writer after.writer event error (levels_after_start settings.flow kind before.writer.levels)) err) in
+    (on_err answer (λ error. start_failed kind before.writer after.writer event error (levels_after_start settings.values.flow kind before.writer.levels)) err) in
     unrefused_step settings (opener kind) before after result
-    (on_ok result (opener_began settings.depth settings.flow levels before.writer after.writer after.nest.kinds.items kind room opened) all.0) fits names
+    (on_ok result (opener_began settings.values.depth settings.values.flow levels before.writer after.writer after.nest.kinds.items kind room opened) all.0) fits names
     all.1 (unmoved_event before.writer after.writer (with_collection before.writer kind) event answer result answers err)
     (kept_event before.writer after.writer (with_collection before.writer kind) refl event answer result answers ok err)
-    (if_some (emitter_error_of after.writer result) (opener_failed settings.depth settings.flow levels before.writer after.writer kind room) all.2)
+    (if_some (emitter_error_of after.writer result) (opener_failed settings.values.depth settings.values.flow levels before.writer after.writer kind room) all.2)
 
 -- for which there is no memory
 pub opener_without_room : {A : Type 0} (settings : JsonSettings) (kind : CollectionKind) (nest later : Nesting A) (writer : WriterState)
-    → length nest.kinds.items < settings.depth → TokenStep settings (opener kind) (at nest writer) (Err stops.Memory) (at later writer)
+    → length nest.kinds.items < settings.values.depth → TokenStep settings (opener kind) (at nest writer) (Err stops.Memory) (at later writer)
 opener_without_room settings kind nest later writer room =
     record {
       refused = tt;
       same = λ by_text. refl;
       unmoved = λ sound. refl;
       kept = kept_memory writer;
-      failed = opener_without_memory settings.depth settings.flow nest.kinds.items writer writer kind room refl;
+      failed = opener_without_memory settings.values.depth settings.values.flow nest.kinds.items writer writer kind room refl;
     }
 
 -- no value begins with the token
 pub refused_step : {A : Type 0} (settings : JsonSettings) (token : Token) (nest : Nesting A) (writer : WriterState) (spot : Spot)
-    → RefusesToken settings.depth nest.kinds.items token (stops.NotJson spot)
+    → RefusesToken settings.values.depth nest.kinds.items token (stops.NotJson spot)
     → TokenStep settings token (at nest writer) (Err (stops.NotJson spot)) (at nest writer)
 refused_step settings token nest writer spot refused =
     record {
@@ -126,7 +126,7 @@ module _ {A : Type 0} (settings : JsonSettings) (reader left : Reader) where
       }
   first_step before after token first (Err stop) step =
       record {
-        refused = first_stopped settings.depth before.nest.kinds.items reader.ahead token left.ahead first stop step.refused;
+        refused = first_stopped settings.values.depth before.nest.kinds.items reader.ahead token left.ahead first stop step.refused;
         same = step.same;
         unmoved = step.unmoved;
         kept = step.kept;
@@ -139,7 +139,7 @@ module _ {A : Type 0} (settings : JsonSettings) (reader left : Reader) where
       → FirstStep settings reader (at nest writer) (Err stop) left (at nest writer)
   first_missing nest writer stop none =
       record {
-        refused = first_unread settings.depth nest.kinds.items reader.ahead stop none;
+        refused = first_unread settings.values.depth nest.kinds.items reader.ahead stop none;
         same = λ by_text. refl;
         unmoved = λ sound. refl;
         kept = kept_unread writer reader.ahead stop none;
@@ -151,10 +151,10 @@ module _ {A : Type 0} (settings : JsonSettings) (reader left : Reader) where
 -- the text stops the walk at the next token, or an allocation failed before it
 module _ {A : Type 0} (settings : JsonSettings) (reader left : Reader) (before : JsonWalk A) (nest : Nesting A) where
   pub walk_refused : (stop : Stop) → IsByText stop
-      → Refuses settings.depth settings.unique_names settings.flow before.nest.kinds.items before.nest.names reader.ahead left.before before.writer stop
+      → Refuses settings.values.depth settings.unique_names settings.values.flow before.nest.kinds.items before.nest.names reader.ahead left.before before.writer stop
       before.writer
       → IfSome (failure_of before.writer stop)
-      (λ error. StepFailed settings.depth settings.flow reader.ahead before.nest.kinds.items before.writer error before.writer)
+      (λ error. StepFailed settings.values.depth settings.values.flow reader.ahead before.nest.kinds.items before.writer error before.writer)
       → WalkStep settings reader before (Err stop) left (at nest before.writer)
   walk_refused stop by_text refuses failed =
       record {
@@ -170,27 +170,27 @@ module _ {A : Type 0} (settings : JsonSettings) (reader left : Reader) (before :
         refused = λ by_text. absurd by_text;
         level = λ sound. refl;
         kept = kept_memory before.writer;
-        failed = step_without_memory settings.depth settings.flow reader.ahead before.nest.kinds.items before.writer before.writer refl;
+        failed = step_without_memory settings.values.depth settings.values.flow reader.ahead before.nest.kinds.items before.writer before.writer refl;
       }
 
 module _ {A : Type 0} (settings : JsonSettings) (reader left : Reader) (before after : JsonWalk A) (outer : List CollectionKind)
-    (fits : IsNesting settings.depth settings.unique_names before.nest) where
+    (fits : IsNesting settings.values.depth settings.unique_names before.nest) where
   -- no token is left
   pub walk_missing : (kind : CollectionKind) → before.nest.kinds.items ≡ outer ++ kind ∷ [] → left.before ≡ reader.ahead → (stop : Stop)
       → ReadsNone reader.ahead stop → WalkStep settings reader before (Err stop) left before
   walk_missing kind is were stop none =
       record {
-        refused = unread settings.depth settings.unique_names settings.flow before.nest.kinds.items outer before.nest.names fits.1 reader.ahead
+        refused = unread settings.values.depth settings.unique_names settings.values.flow before.nest.kinds.items outer before.nest.names fits.1 reader.ahead
             before.writer before.writer refl left.before were kind is stop none;
         level = λ sound. refl;
         kept = kept_unread before.writer reader.ahead stop none;
-        failed = step_unread settings.depth settings.flow reader.ahead before.nest.kinds.items before.writer stop none;
+        failed = step_unread settings.values.depth settings.values.flow reader.ahead before.nest.kinds.items before.writer stop none;
       }
 
   -- the innermost ends
   left_fits : (kind : CollectionKind) → before.nest.kinds.items ≡ outer ++ kind ∷ []
       → after.nest.kinds.items ≡ take (length before.nest.kinds.items - 1) before.nest.kinds.items → LeavesNames before.nest.names after.nest.names
-      → IsNesting settings.depth settings.unique_names after.nest
+      → IsNesting settings.values.depth settings.unique_names after.nest
   left_fits kind is rest leaves =
       let gone : length after.nest.kinds.items ≡ length outer =
       ap length (innermost_gone before.nest.kinds.items outer after.nest.kinds.items kind is rest) in
@@ -209,7 +209,7 @@ module _ {A : Type 0} (settings : JsonSettings) (reader left : Reader) (before a
   walk_closed kind is first were rest leaves answer (Ok done) answers ends =
       let kept = kept_end before.writer after.writer answer (Ok done) answers ends in
       record {
-        stepped = step_closes settings.depth settings.flow reader.ahead before.nest.kinds.items outer kind is before.writer left.ahead
+        stepped = step_closes settings.values.depth settings.values.flow reader.ahead before.nest.kinds.items outer kind is before.writer left.ahead
             after.nest.kinds.items after.writer first rest (answered_end before.writer after.writer answer (Ok done) answers ends).0;
         fits = left_fits kind is rest leaves;
         names = record { taken = closer kind ∷ []; parts = first; keeps = keeps_closer kind before.nest.names after.nest.names leaves };
@@ -223,7 +223,7 @@ module _ {A : Type 0} (settings : JsonSettings) (reader left : Reader) (before a
         level = level_end before.writer after.writer answer (Err stop) answers ends;
         kept = kept_end before.writer after.writer answer (Err stop) answers ends;
         failed = if_some (failure_of after.writer stop)
-            (λ error. step_unclosed settings.depth settings.flow reader.ahead before.nest.kinds.items outer kind is before.writer left.ahead error
+            (λ error. step_unclosed settings.values.depth settings.values.flow reader.ahead before.nest.kinds.items outer kind is before.writer left.ahead error
             after.writer first)
             all.2;
       }
@@ -234,7 +234,7 @@ module _ {A : Type 0} (settings : JsonSettings) (reader left : Reader) (before a
       → WalkStep settings reader before result left after
   walk_item is token isn't first were (Ok done) step =
       record {
-        stepped = step_item settings.depth settings.flow before.nest.kinds.items outer is token isn't before.writer reader.ahead left.ahead first
+        stepped = step_item settings.values.depth settings.values.flow before.nest.kinds.items outer is token isn't before.writer reader.ahead left.ahead first
             after.nest.kinds.items after.writer step.began;
         fits = step.fits;
         names = record { taken = token ∷ []; parts = first; keeps = step.names };
@@ -243,12 +243,12 @@ module _ {A : Type 0} (settings : JsonSettings) (reader left : Reader) (before a
       }
   walk_item is token isn't first were (Err stop) step =
       record {
-        refused = λ by_text. item_stopped settings.depth settings.unique_names settings.flow before.nest.kinds.items outer before.nest.names fits.1
+        refused = λ by_text. item_stopped settings.values.depth settings.unique_names settings.values.flow before.nest.kinds.items outer before.nest.names fits.1
             reader.ahead before.writer after.writer (step.same by_text) left.before were is token left.ahead first isn't stop step.refused;
         level = λ sound. ap (λ (w : WriterState). w.levels) (step.unmoved sound);
         kept = step.kept;
         failed = if_some (failure_of after.writer stop)
-            (λ error. step_no_item settings.depth settings.flow before.nest.kinds.items outer is token isn't before.writer reader.ahead left.ahead first
+            (λ error. step_no_item settings.values.depth settings.values.flow before.nest.kinds.items outer is token isn't before.writer reader.ahead left.ahead first
             error after.writer)
             step.failed;
       }
@@ -279,7 +279,7 @@ module _ (before after : WriterState) (key : List ℕ) (bare : IsBare before) (a
       kept_event before after before refl given answer result answers (gives_ok before after given answer gives) (gives_err before after given answer gives)
 
 module _ {A : Type 0} (settings : JsonSettings) (reader middle left : Reader) (before after : JsonWalk A) (outer : List CollectionKind)
-    (fits : IsNesting settings.depth settings.unique_names before.nest) (is : before.nest.kinds.items ≡ outer ++ Mapping ∷ []) (key : List ℕ)
+    (fits : IsNesting settings.values.depth settings.unique_names before.nest) (is : before.nest.kinds.items ≡ outer ++ Mapping ∷ []) (key : List ℕ)
     (first : reader.ahead ≡ Token.key key ∷ middle.ahead) (later : Names A) (named : WriterState) where
   -- at which the writer failed
   pub walk_unnamed : (stop : Stop) → (IsByText stop → ⊥) → StaysUnlessFailed before.writer named → Kept before.writer (Err stop) named
@@ -291,9 +291,9 @@ module _ {A : Type 0} (settings : JsonSettings) (reader middle left : Reader) (b
         level = λ sound. ap (λ (w : WriterState). w.levels) (unmoved sound);
         kept = kept;
         failed = if_some (failure_of named stop)
-            (λ error failed_here. step_unnamed settings.depth settings.flow before.nest.kinds.items outer is key before.writer reader.ahead middle.ahead
+            (λ error failed_here. step_unnamed settings.values.depth settings.values.flow before.nest.kinds.items outer is key before.writer reader.ahead middle.ahead
             first error named
-            (fails_scalar settings.flow before.nest.kinds.items before.writer named (Token.key key) (λ k. scalar (text_content (chars key))) error
+            (fails_scalar settings.values.flow before.nest.kinds.items before.writer named (Token.key key) (λ k. scalar (text_content (chars key))) error
             (λ k. refl) failed_here))
             failed;
       }
@@ -304,14 +304,14 @@ module _ {A : Type 0} (settings : JsonSettings) (reader middle left : Reader) (b
       (names : List (List ℕ)) → (more : List (List (List ℕ))) → HoldsNames (names ∷ more) before.nest.names → AddsName names more key new later)
       (fresh : new ≡ true) (wrote : WroteEvent before.writer (scalar (text_content (chars key))) named) (kept : Kept before.writer (Ok tt) named)
       (were : left.before ≡ middle.ahead) where
-    gave : GivesTokens settings.flow before.nest.kinds.items before.writer (Token.key key ∷ []) before.nest.kinds.items named
-    gave = gives_scalar settings.flow before.nest.kinds.items before.writer named (Token.key key) (λ k. scalar (text_content (chars key))) (λ c f l. refl) (λ k. refl) wrote
+    gave : GivesTokens settings.values.flow before.nest.kinds.items before.writer (Token.key key ∷ []) before.nest.kinds.items named
+    gave = gives_scalar settings.values.flow before.nest.kinds.items before.writer named (Token.key key) (λ k. scalar (text_content (chars key))) (λ c f l. refl) (λ k. refl) wrote
 
     pub walk_member : (result : Result (Unit {0}) Stop)
         → FirstStep settings middle (at (record before.nest { names = later }) named) result left after → WalkStep settings reader before result left after
     walk_member (Ok done) step =
         record {
-          stepped = step_member settings.depth settings.flow before.nest.kinds.items outer is key before.writer reader.ahead middle.ahead first named gave
+          stepped = step_member settings.values.depth settings.values.flow before.nest.kinds.items outer is key before.writer reader.ahead middle.ahead first named gave
               left.ahead after.nest.kinds.items after.writer step.began;
           fits = step.fits;
           names = record {
@@ -331,13 +331,13 @@ module _ {A : Type 0} (settings : JsonSettings) (reader middle left : Reader) (b
         }
     walk_member (Err stop) step =
         record {
-          refused = λ by_text. named_stopped settings.depth settings.unique_names settings.flow before.nest.kinds.items outer before.nest.names fits.1
+          refused = λ by_text. named_stopped settings.values.depth settings.unique_names settings.values.flow before.nest.kinds.items outer before.nest.names fits.1
               reader.ahead before.writer after.writer is key middle.ahead first later same new adds named gave left.before were fresh (step.same by_text)
               stop step.refused;
           level = λ sound. ap (λ (w : WriterState). w.levels) (step.unmoved sound) ∙ wrote.levels;
           kept = kept_then before.writer named after.writer (Err stop) kept step.kept;
           failed = if_some (failure_of after.writer stop)
-              (λ error. step_no_member settings.depth settings.flow before.nest.kinds.items outer is key before.writer reader.ahead middle.ahead first
+              (λ error. step_no_member settings.values.depth settings.values.flow before.nest.kinds.items outer is key before.writer reader.ahead middle.ahead first
               named gave error after.writer)
               step.failed;
         }

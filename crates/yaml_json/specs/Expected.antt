@@ -113,11 +113,7 @@ expected_by Value kind = after_value kind
 
 abbrev pub is_nothing : Last → Bool
 is_nothing Nothing = true
-is_nothing Opener = false
-is_nothing Comma = false
-is_nothing Colon = false
-is_nothing First = false
-is_nothing Value = false
+is_nothing _ = false
 
 -- a text that has ended, and is blank, is none
 abbrev pub expected_of : StandingInJson → (ended : Bool) → Expected
@@ -130,11 +126,8 @@ expected_at text at = expected_of (standing_over start (take at text)) (nat_le (
 
 -- If the text is no JSON, the error names that input.
 abbrev pub SaysExpected : (text : List ℕ) → (at : ℕ) → JsonError → Type 0
-SaysExpected text at (errors.NotJson line column says) = says ≡ expected_at text at
-SaysExpected text at (errors.Marked line column) = Unit {0}
-SaysExpected text at (errors.TooDeep line column) = Unit {0}
-SaysExpected text at (errors.DuplicateName line column) = Unit {0}
-SaysExpected text at (errors.Emitter error) = Unit {0}
+SaysExpected text at (errors.NotJson position says) = says ≡ expected_at text at
+SaysExpected text at _ = Unit {0}
 
 -- in words
 abbrev pub words : Expected → List ℕ

@@ -52,11 +52,8 @@ IsWritersAnswer (Err error) (Ok done) = ⊥
 IsWritersAnswer (Err error) (Err stop) = TellsOf error stop
 
 abbrev pub writers_error : JsonError → Option yaml_error_t
-writers_error (errors.NotJson line column says) = None
-writers_error (errors.Marked line column) = None
-writers_error (errors.TooDeep line column) = None
-writers_error (errors.DuplicateName line column) = None
 writers_error (errors.Emitter error) = Some error
+writers_error _ = None
 
 -- ---- the events that were given
 

@@ -31,16 +31,8 @@ names_after levels Token.bad = levels
 
 -- the token is no name that its object has
 abbrev pub IsNewNameIn : List (List (List ℕ)) → Token → Type 0
-IsNewNameIn levels Token.begin_object = ⊤
-IsNewNameIn levels Token.end_object = ⊤
-IsNewNameIn levels Token.begin_array = ⊤
-IsNewNameIn levels Token.end_array = ⊤
 IsNewNameIn levels (Token.key name) = IsNewName (inner_names levels) name
-IsNewNameIn levels (Token.string text) = ⊤
-IsNewNameIn levels (Token.number text) = ⊤
-IsNewNameIn levels (Token.boolean flag) = ⊤
-IsNewNameIn levels Token.null = ⊤
-IsNewNameIn levels Token.bad = ⊤
+IsNewNameIn levels _ = ⊤
 
 -- no name comes twice
 abbrev pub NamesOnce : List (List (List ℕ)) → List Token → Type 0

@@ -5,7 +5,7 @@ use Rattle.json.specs.Json.{Json}
 use Rattle.json.specs.Lex.{Lexeme, between, fresh, lex, punctuate}
 use Rattle.json.specs.Strict.{HasUniqueKeys}
 use Rattle.json.specs.Tree.{depth as nesting, json_tokens}
-use Rattle.yaml_writer.specs.Places.{AreOf}
+use Rattle.yaml_base.specs.Positions.{IsPositionOf}
 use Rattle.yaml_json.specs.Ahead.{IsTrimmed}
 use Rattle.yaml_json.specs.Expected.{Names, expected_at}
 use Rattle.yaml_json.specs.Lexing.{MayBegin, mode_over}
@@ -13,14 +13,14 @@ use Rattle.yaml_json.specs.declared.error.JsonError.{JsonError}
 use Rattle.yaml_json.specs.declared.error.JsonError.TheVariants as errors
 use Rattle.yaml_json.specs.declared.error.StreamError.{StreamError}
 use Rattle.yaml_json.specs.declared.error.StreamError.TheVariants as faults
-use Rattle.yaml_json.specs.declared.places.Place.{Place}
+use Rattle.yaml_base.specs.declared.places.Position.{Position}
 
--- The error, if it has a place, is at this offset of the text.
+-- The error, if it has a position, is at this offset of the text.
 abbrev pub IsAt : (text : List ℕ) → (at : ℕ) → JsonError → Type 0
-IsAt text at (errors.NotJson line column says) = AreOf text at line column
-IsAt text at (errors.Marked line column) = AreOf text at line column
-IsAt text at (errors.TooDeep line column) = AreOf text at line column
-IsAt text at (errors.DuplicateName line column) = AreOf text at line column
+IsAt text at (errors.NotJson position says) = IsPositionOf text at position
+IsAt text at (errors.Marked position) = IsPositionOf text at position
+IsAt text at (errors.TooDeep position) = IsPositionOf text at position
+IsAt text at (errors.DuplicateName position) = IsPositionOf text at position
 IsAt text at (errors.Emitter error) = Unit {0}
 
 -- ---- the lexeme that isn't possible at its place
@@ -70,41 +70,41 @@ IsWithinDepth depth json = nesting json ≤ depth
 -- The error is at the first lexeme that isn't possible at its place, or at the text's end: in any value; in one that nests at most
 -- `depth` deep; in one whose objects have each name once. If the text is no JSON, the error names the input that is possible there.
 abbrev pub IsPlacedAt : (depth : ℕ) → (text : List ℕ) → (at : ℕ) → JsonError → Type 0
-IsPlacedAt depth text at (errors.NotJson line column says) = CannotStandAt IsAny text at × (says ≡ expected_at text at)
-IsPlacedAt depth text at (errors.Marked line column) = CannotStandAt IsAny text at
-IsPlacedAt depth text at (errors.TooDeep line column) = CannotStandAt (IsWithinDepth depth) text at
-IsPlacedAt depth text at (errors.DuplicateName line column) = CannotStandAt HasUniqueKeys text at
+IsPlacedAt depth text at (errors.NotJson position says) = CannotStandAt IsAny text at × (says ≡ expected_at text at)
+IsPlacedAt depth text at (errors.Marked position) = CannotStandAt IsAny text at
+IsPlacedAt depth text at (errors.TooDeep position) = CannotStandAt (IsWithinDepth depth) text at
+IsPlacedAt depth text at (errors.DuplicateName position) = CannotStandAt HasUniqueKeys text at
 IsPlacedAt depth text at (errors.Emitter error) = Unit {0}
 
--- The line and the column of the error, if it has them, are those of that lexeme.
+-- The position of the error, if it has one, is that of that lexeme.
 abbrev pub HasPlace : (depth : ℕ) → (text : List ℕ) → JsonError → Type 0
 HasPlace depth text error = (at : ℕ) × (IsAt text at error × IsPlacedAt depth text at error)
 
--- so of a text that begins after these bytes of a longer one: the line and the column are those in the longer one
+-- so of a text that begins after these bytes of a longer one: the position is that in the longer one
 abbrev pub HasPlaceAfter : (depth : ℕ) → (text front part : List ℕ) → JsonError → Type 0
 HasPlaceAfter depth text front part error = (at : ℕ) × (IsAt text (length front + at) error × IsPlacedAt depth part at error)
 
 -- ---- texts that come part by part
 
--- places are counted of fewer bytes than these
+-- positions are counted of fewer bytes than these
 abbrev pub many_bytes : ℕ
 many_bytes = 9223372036854775808
 
--- the place that follows these bytes
-abbrev pub IsPlaceAfter : (front : List ℕ) → Place → Type 0
-IsPlaceAfter front place = length front < many_bytes → AreOf front (length front) place.line place.column
+-- the position that follows these bytes
+abbrev pub IsPositionAfter : (front : List ℕ) → Position → Type 0
+IsPositionAfter front position = length front < many_bytes → IsPositionOf front (length front) position
 
--- An error is at this lexeme of a text, or at the first byte that isn't UTF-8. Its line and column are counted from the start of these
--- bytes, which precede the text.
+-- An error is at this lexeme of a text, or at the first byte that isn't UTF-8. Its position is counted from the start of these bytes, which
+-- precede the text.
 abbrev pub HasPlaceWithin : (depth : ℕ) → (front part : List ℕ) → StreamError → Type 0
 HasPlaceWithin depth front part (faults.Refused error) =
     (at : ℕ) × ((length front + at < many_bytes → IsAt (front ++ part) (length front + at) error) × IsPlacedAt depth part at error)
-HasPlaceWithin depth front part (faults.NotText line column) =
-    (at : ℕ) × ((length front + at < many_bytes → AreOf (front ++ part) (length front + at) line column) × IsValidUpTo part at)
+HasPlaceWithin depth front part (faults.NotText position) =
+    (at : ℕ) × ((length front + at < many_bytes → IsPositionOf (front ++ part) (length front + at) position) × IsValidUpTo part at)
 HasPlaceWithin depth front part _ = Unit {0}
 
--- Of these bytes those are left, and the place moves past the bytes before them.
-pub record MovesPlace (before after : List ℕ) (old new : Place) : Type 0 where
+-- Of these bytes those are left, and the position moves past the bytes before them.
+pub record MovesPosition (before after : List ℕ) (old new : Position) : Type 0 where
   pub dropped : List ℕ
   pub parts : dropped ++ after ≡ before
-  pub follows : (front : List ℕ) → IsPlaceAfter front old → IsPlaceAfter (front ++ dropped) new
+  pub follows : (front : List ℕ) → IsPositionAfter front old → IsPositionAfter (front ++ dropped) new

@@ -28,18 +28,15 @@ RefusesText (Err stop) = IsByText stop
 
 -- an error that isn't the writer's
 abbrev pub IsOfText : JsonError → Type 0
-IsOfText (errors.NotJson line column says) = Unit {0}
-IsOfText (errors.Marked line column) = Unit {0}
-IsOfText (errors.TooDeep line column) = Unit {0}
-IsOfText (errors.DuplicateName line column) = Unit {0}
 IsOfText (errors.Emitter error) = ⊥
+IsOfText _ = Unit {0}
 
 -- an error by which the text isn't JSON nested at most `depth` deep
 abbrev pub DeniesJson : JsonError → Type 0
-DeniesJson (errors.NotJson line column says) = Unit {0}
-DeniesJson (errors.Marked line column) = Unit {0}
-DeniesJson (errors.TooDeep line column) = Unit {0}
-DeniesJson (errors.DuplicateName line column) = ⊥
+DeniesJson (errors.NotJson position says) = Unit {0}
+DeniesJson (errors.Marked position) = Unit {0}
+DeniesJson (errors.TooDeep position) = Unit {0}
+DeniesJson (errors.DuplicateName position) = ⊥
 DeniesJson (errors.Emitter error) = ⊥
 
 -- ---- why
@@ -125,19 +122,19 @@ is_marked text = starts_with nat_eq text (239 ∷ 187 ∷ 191 ∷ [])
 -- The error explains the text: it breaks off, without a byte order mark at its start or with one; it opens too many arrays and objects; or
 -- a name comes twice.
 abbrev pub ExplainsError : (depth : ℕ) → (unique : Bool) → (text : List ℕ) → JsonError → Type 0
-ExplainsError depth unique text (errors.NotJson line column says) = TokensBreakOff depth unique (tokens text) × (is_marked text ≡ false)
-ExplainsError depth unique text (errors.Marked line column) = TokensBreakOff depth unique (tokens text) × (is_marked text ≡ true)
-ExplainsError depth unique text (errors.TooDeep line column) = OpensTooDeep depth unique (tokens text)
-ExplainsError depth unique text (errors.DuplicateName line column) = NamesTwice depth unique (tokens text)
+ExplainsError depth unique text (errors.NotJson position says) = TokensBreakOff depth unique (tokens text) × (is_marked text ≡ false)
+ExplainsError depth unique text (errors.Marked position) = TokensBreakOff depth unique (tokens text) × (is_marked text ≡ true)
+ExplainsError depth unique text (errors.TooDeep position) = OpensTooDeep depth unique (tokens text)
+ExplainsError depth unique text (errors.DuplicateName position) = NamesTwice depth unique (tokens text)
 ExplainsError depth unique text (errors.Emitter error) = Unit {0}
 
 -- The error explains the tokens of the text that were taken, and those ahead. If it is the writer's, some value nested at most `depth` deep
 -- begins with the tokens that were taken.
 abbrev pub TokensStopAt : (depth : ℕ) → (unique : Bool) → (text : List ℕ) → (taken left : List Token) → JsonError → Type 0
-TokensStopAt depth unique text taken left (errors.NotJson line column says) = TokensBreakAt depth unique taken left × (is_marked text ≡ false)
-TokensStopAt depth unique text taken left (errors.Marked line column) = TokensBreakAt depth unique taken left × (is_marked text ≡ true)
-TokensStopAt depth unique text taken left (errors.TooDeep line column) = OpensTooDeepAt depth unique taken left
-TokensStopAt depth unique text taken left (errors.DuplicateName line column) = NamesTwiceAt depth unique taken left
+TokensStopAt depth unique text taken left (errors.NotJson position says) = TokensBreakAt depth unique taken left × (is_marked text ≡ false)
+TokensStopAt depth unique text taken left (errors.Marked position) = TokensBreakAt depth unique taken left × (is_marked text ≡ true)
+TokensStopAt depth unique text taken left (errors.TooDeep position) = OpensTooDeepAt depth unique taken left
+TokensStopAt depth unique text taken left (errors.DuplicateName position) = NamesTwiceAt depth unique taken left
 TokensStopAt depth unique text taken left (errors.Emitter error) = BeginsWithinDepth depth taken
 
 -- If names must be unique, no object of the text has one twice.

@@ -4,14 +4,14 @@ use Rattle.std.specs.Io.KnownBytes.{IsAtEnd}
 use Rattle.yaml_pen.specs.Wrote.{Grows}
 use Rattle.yaml_writer.specs.Writing.{WriterState}
 use Rattle.yaml_json.specs.Failing.{Grew}
-use Rattle.yaml_json.specs.Places.{IsPlaceAfter, MovesPlace}
+use Rattle.yaml_json.specs.Places.{IsPositionAfter, MovesPosition}
 use Rattle.yaml_json.specs.Sent.{Advances, FailsNext, HasCome, IsByReader, IsIncoming, IsScanned, IsSoundSending, LeavesLast}
 use Rattle.yaml_writer.specs.WasGiven.{BeginsNext, IsBare}
 use Rattle.yaml_json.specs.Sent.{SentTexts, StopsInPart, StopsSending, StopsWithin, emitter_error}
 use Rattle.yaml_json.specs.WalkSteps.{TextGiven}
 use Rattle.yaml_json.specs.declared.cuts.Cut.{Cut}
 use Rattle.yaml_json.specs.declared.error.StreamError.{StreamError}
-use Rattle.yaml_json.specs.declared.places.Place.{Place}
+use Rattle.yaml_base.specs.declared.places.Position.{Position}
 use Rattle.yaml_json.specs.declared.settings.JsonSettings.{JsonSettings}
 use Rattle.yaml_json.specs.declared.stream.Incoming.{Incoming}
 
@@ -22,7 +22,7 @@ pub record PartRead {A : Type 0} (before : Incoming A) (ahead : Option (List ℕ
     : Type 0 where
   pub come : HasCome before ahead after left
   pub incoming : IsIncoming after
-  pub place : after.reading.place ≡ before.reading.place
+  pub place : after.reading.position ≡ before.reading.position
   pub end : more ≡ false → IsAtEnd left × (after ≡ before)
 
 -- or the reader failed
@@ -39,7 +39,7 @@ pub record BytesGiven (settings : JsonSettings) (text : List ℕ) (was now : Wri
 
 -- the events of the text's first tokens were given, and no more, for this reason
 pub record BytesStopped (settings : JsonSettings) (text : List ℕ) (was : WriterState) (error : StreamError) (now : WriterState) : Type 0 where
-  pub stopped : StopsInPart settings.depth settings.unique_names settings.flow [] text was error now
+  pub stopped : StopsInPart settings.values.depth settings.unique_names settings.values.flow [] text was error now
   pub grew : Grew was (emitter_error error) now
 
 abbrev pub BytesStep : JsonSettings → List ℕ → WriterState → Result (Unit {0}) StreamError → WriterState → Type 0
@@ -47,12 +47,12 @@ BytesStep settings text was (Ok done) now = BytesGiven settings text was now
 BytesStep settings text was (Err error) now = BytesStopped settings text was error now
 
 -- so of the last text, which begins at this place; that of the error is counted from the first byte that came
-pub record LastStopped (settings : JsonSettings) (text : List ℕ) (place : Place) (was : WriterState) (error : StreamError) (now : WriterState)
+pub record LastStopped (settings : JsonSettings) (text : List ℕ) (place : Position) (was : WriterState) (error : StreamError) (now : WriterState)
     : Type 0 where
-  pub stopped : (front : List ℕ) → IsPlaceAfter front place → StopsInPart settings.depth settings.unique_names settings.flow front text was error now
+  pub stopped : (front : List ℕ) → IsPositionAfter front place → StopsInPart settings.values.depth settings.unique_names settings.values.flow front text was error now
   pub grew : Grew was (emitter_error error) now
 
-abbrev pub LastStep : JsonSettings → List ℕ → Place → WriterState → Result (Unit {0}) StreamError → WriterState → Type 0
+abbrev pub LastStep : JsonSettings → List ℕ → Position → WriterState → Result (Unit {0}) StreamError → WriterState → Type 0
 LastStep settings text place was (Ok done) now = BytesGiven settings text was now
 LastStep settings text place was (Err error) now = LastStopped settings text place was error now
 
@@ -81,16 +81,16 @@ pub record CompleteGiven (settings : JsonSettings) (held : List ℕ) (was : Writ
   pub bare : IsBare now
   pub left : LeavesLast count held cut
   pub advances :
-      Advances settings.depth settings.flow settings.unique_names held was before (drop (length held - count) held) now after
+      Advances settings.values.depth settings.values.flow settings.unique_names held was before (drop (length held - count) held) now after
   pub grew : Grew was None now
 
 -- so of those before an error
-pub record CompleteStopped (settings : JsonSettings) (held : List ℕ) (place : Place) (was : WriterState) (before : Option (List ℕ))
+pub record CompleteStopped (settings : JsonSettings) (held : List ℕ) (place : Position) (was : WriterState) (before : Option (List ℕ))
     (error : StreamError) (now : WriterState) (after : Option (List ℕ)) : Type 0 where
-  pub stops : StopsWithin settings.depth settings.flow settings.unique_names held place was before error now after
+  pub stops : StopsWithin settings.values.depth settings.values.flow settings.unique_names held place was before error now after
   pub grew : Grew was (emitter_error error) now
 
-abbrev pub CompleteStep : JsonSettings → List ℕ → Place → WriterState → Option (List ℕ) → Result ℕ StreamError → Cut → WriterState → Option (List ℕ)
+abbrev pub CompleteStep : JsonSettings → List ℕ → Position → WriterState → Option (List ℕ) → Result ℕ StreamError → Cut → WriterState → Option (List ℕ)
     → Type 0
 CompleteStep settings held place was before (Ok count) cut now after = CompleteGiven settings held was before count cut now after
 CompleteStep settings held place was before (Err error) cut now after = CompleteStopped settings held place was before error now after
@@ -100,16 +100,16 @@ pub record CompleteDropped {A : Type 0} (settings : JsonSettings) (came : Incomi
     (now : WriterState) (after : Option (List ℕ)) : Type 0 where
   pub bare : IsBare now
   pub scanned : IsScanned left
-  pub place : MovesPlace came.held.items left.held.items came.reading.place left.reading.place
+  pub place : MovesPosition came.held.items left.held.items came.reading.position left.reading.position
   pub advances :
-      Advances settings.depth settings.flow settings.unique_names came.held.items was before left.held.items now after
+      Advances settings.values.depth settings.values.flow settings.unique_names came.held.items was before left.held.items now after
   pub grew : Grew was None now
 
 abbrev pub DropStep : {A : Type 0} → JsonSettings → Incoming A → WriterState → Option (List ℕ) → Result (Unit {0}) StreamError → Incoming A
     → WriterState → Option (List ℕ) → Type 0
 DropStep settings came was before (Ok done) left now after = CompleteDropped settings came was before left now after
 DropStep settings came was before (Err error) left now after =
-    CompleteStopped settings came.held.items came.reading.place was before error now after
+    CompleteStopped settings came.held.items came.reading.position was before error now after
 
 -- ---- all texts of a reader
 
@@ -120,14 +120,14 @@ pub record TextsSent (settings : JsonSettings) (ahead left : Option (List ℕ)) 
   pub sound : IsSoundSending was (Ok tt) now
   pub ended : IsAtEnd left
   pub bare : IsBare now
-  pub sent : IfSome ahead (λ text. SentTexts settings.depth settings.unique_names settings.flow text was before now after)
+  pub sent : IfSome ahead (λ text. SentTexts settings.values.depth settings.unique_names settings.values.flow text was before now after)
 
 -- The first of them were sent, and no more; earlier output stays, and an error of the emitter is the one that is returned.
 pub record TextsUnsent (settings : JsonSettings) (ahead : Option (List ℕ)) (was : WriterState) (before : Option (List ℕ)) (error : StreamError)
     (now : WriterState) (after : Option (List ℕ)) : Type 0 where
   pub grows : Grows was.emitter.page now.emitter.page
   pub sound : IsSoundSending was (Err error) now
-  pub stopped : IfSome ahead (λ text. StopsSending settings.depth settings.unique_names settings.flow text was before error now after)
+  pub stopped : IfSome ahead (λ text. StopsSending settings.values.depth settings.unique_names settings.values.flow text was before error now after)
 
 abbrev pub SendsTexts : JsonSettings → (ahead left : Option (List ℕ)) → WriterState → Option (List ℕ) → Result (Unit {0}) StreamError → WriterState
     → Option (List ℕ) → Type 0

@@ -14,7 +14,7 @@ use Rattle.yaml_writer.specs.WasGiven.{EmitsTaking, GaveEvents, StaysUsable, Nex
 use Rattle.yaml_writer.specs.Writing.{Finishes, WriterState, opening}
 use Rattle.yaml_json.specs.Cuts.{HasScanned}
 use Rattle.yaml_json.specs.Failing.{events_with_separators, writers_error}
-use Rattle.yaml_json.specs.Places.{HasPlaceWithin, IsPlaceAfter}
+use Rattle.yaml_json.specs.Places.{HasPlaceWithin, IsPositionAfter}
 use Rattle.yaml_json.specs.Refused.{HaveNamesOnce, IsOfText, TokensStopAt}
 use Rattle.yaml_json.specs.Texts.{texts_in}
 use Rattle.yaml_json.specs.TokenEvents.{tokens_events}
@@ -24,7 +24,7 @@ use Rattle.yaml_json.specs.declared.stream.Incoming.{Incoming}
 use Rattle.yaml_json.specs.declared.error.JsonError.TheVariants as errors
 use Rattle.yaml_json.specs.declared.error.StreamError.{StreamError}
 use Rattle.yaml_json.specs.declared.error.StreamError.TheVariants as faults
-use Rattle.yaml_json.specs.declared.places.Place.{Place}
+use Rattle.yaml_base.specs.declared.places.Position.{Position}
 
 -- each of some texts is UTF-8
 abbrev pub AreUtf8 : List (List ℕ × Json) → Type 0
@@ -87,12 +87,6 @@ abbrev pub IsSoundSending : WriterState → Result (Unit {0}) StreamError → Wr
 IsSoundSending was (Ok done) now = now.emitter.error ≡ None
 IsSoundSending was (Err error) now = HasErrorSaid was (emitter_error error) now
 
--- the error is the emitter's, or of reading, and not that of a text
-abbrev pub IsByNoText : StreamError → Type 0
-IsByNoText (faults.Refused error) = IsOfText error → ⊥
-IsByNoText (faults.NotText line column) = ⊥
-IsByNoText _ = Unit {0}
-
 -- nothing but an allocation of the reading failed, or the reader
 abbrev pub IsByReader : StreamError → Type 0
 IsByReader (faults.Refused error) = error ≡ errors.Emitter Memory
@@ -103,7 +97,7 @@ IsByReader _ = ⊥
 abbrev pub StopsPartAt : (depth : ℕ) → (unique : Bool) → (text : List ℕ) → (taken left : List Token) → StreamError → Type 0
 StopsPartAt depth unique text taken left (faults.Refused error) =
     TokensStopAt depth unique text taken left error × (IsUtf8 text ⊎ ((taken ≡ []) × (IsOfText error → ⊥)))
-StopsPartAt depth unique text taken left (faults.NotText line column) = (taken ≡ []) × (IsUtf8 text → ⊥)
+StopsPartAt depth unique text taken left (faults.NotText position) = (taken ≡ []) × (IsUtf8 text → ⊥)
 StopsPartAt depth unique text taken left _ = taken ≡ []
 
 -- A writer was given the events of a text's first tokens, and no more, for this reason; the error has its place there, counted from the
@@ -165,10 +159,10 @@ pub record StopsSending (depth : ℕ) (unique in_flow : Bool) (text : List ℕ) 
   pub documents : SentDocuments in_flow parts was before error handed after
 
 -- If the sending had these bytes ahead, which begin at this place, it stops.
-abbrev pub StopsWithin : (depth : ℕ) → (in_flow unique : Bool) → List ℕ → Place → WriterState → Option (List ℕ) → StreamError → WriterState
+abbrev pub StopsWithin : (depth : ℕ) → (in_flow unique : Bool) → List ℕ → Position → WriterState → Option (List ℕ) → StreamError → WriterState
     → Option (List ℕ) → Type 0
 StopsWithin depth in_flow unique ahead place before held error now holds =
-    (text : List ℕ) (was : WriterState) (start : Option (List ℕ)) (more front : List ℕ) → IsPlaceAfter front place → front ++ (ahead ++ more) ≡ text
+    (text : List ℕ) (was : WriterState) (start : Option (List ℕ)) (more front : List ℕ) → IsPositionAfter front place → front ++ (ahead ++ more) ≡ text
     → SentSoFar depth in_flow unique text was start (ahead ++ more) before held
     → StopsSending depth unique in_flow text was start error now holds
 

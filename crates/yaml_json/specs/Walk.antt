@@ -47,16 +47,11 @@ LeavesOpen depth taken levels = (deep : ℕ) → depth ≤ deep → LeavesOpenAt
 
 -- the token is a whole value
 abbrev pub IsScalar : Token → Type 0
-IsScalar Token.begin_object = ⊥
-IsScalar Token.end_object = ⊥
-IsScalar Token.begin_array = ⊥
-IsScalar Token.end_array = ⊥
-IsScalar (Token.key text) = ⊥
 IsScalar (Token.string text) = Unit {0}
 IsScalar (Token.number text) = Unit {0}
 IsScalar (Token.boolean flag) = Unit {0}
 IsScalar Token.null = Unit {0}
-IsScalar Token.bad = ⊥
+IsScalar _ = ⊥
 
 -- the token that opens a collection, and the one that closes it
 abbrev pub opener : CollectionKind → Token
@@ -73,16 +68,9 @@ is_sequence Mapping = false
 
 -- the token closes a collection of this kind
 abbrev pub closes : Token → CollectionKind → Bool
-closes Token.begin_object kind = false
 closes Token.end_object kind = not (is_sequence kind)
-closes Token.begin_array kind = false
 closes Token.end_array kind = is_sequence kind
-closes (Token.key text) kind = false
-closes (Token.string text) kind = false
-closes (Token.number text) kind = false
-closes (Token.boolean flag) kind = false
-closes Token.null kind = false
-closes Token.bad kind = false
+closes _ kind = false
 
 -- the token opens a collection
 abbrev pub IsOpener : Token → Type 0
@@ -165,16 +153,8 @@ pub record BeginFailed (depth : ℕ) (in_flow : Bool) (token : Token) (levels : 
 
 -- The place at which the text breaks off, if no value begins with a token: after the string of a name, or at the token.
 abbrev pub spot_of : Token → Spot
-spot_of Token.begin_object = At
-spot_of Token.end_object = At
-spot_of Token.begin_array = At
-spot_of Token.end_array = At
 spot_of (Token.key text) = PastString
-spot_of (Token.string text) = At
-spot_of (Token.number text) = At
-spot_of (Token.boolean flag) = At
-spot_of Token.null = At
-spot_of Token.bad = At
+spot_of _ = At
 
 -- no value begins with the token, or it opens one too many
 abbrev pub RefusesToken : (depth : ℕ) → List CollectionKind → Token → Stop → Type 0
@@ -267,16 +247,10 @@ WhyStopped depth unique taken left stops.Failed = Unit {0}
 
 -- a value begins with the token, or it is a name
 abbrev pub IsBeginner : Token → Type 0
-IsBeginner Token.begin_object = Unit {0}
 IsBeginner Token.end_object = ⊥
-IsBeginner Token.begin_array = Unit {0}
 IsBeginner Token.end_array = ⊥
-IsBeginner (Token.key text) = Unit {0}
-IsBeginner (Token.string text) = Unit {0}
-IsBeginner (Token.number text) = Unit {0}
-IsBeginner (Token.boolean flag) = Unit {0}
-IsBeginner Token.null = Unit {0}
 IsBeginner Token.bad = ⊥
+IsBeginner _ = Unit {0}
 
 -- an allowed value goes on with a value or a name more, so also after a comma
 pub record GoesOn (depth : ℕ) (unique : Bool) (taken : List Token) : Type 0 where
@@ -286,17 +260,9 @@ pub record GoesOn (depth : ℕ) (unique : Bool) (taken : List Token) : Type 0 wh
 
 -- the next token, if any, is of its first lexeme, and not of the one after a string, too
 abbrev pub NoStringNext : List Token → Type 0
-NoStringNext [] = Unit {0}
-NoStringNext (Token.begin_object ∷ after) = Unit {0}
-NoStringNext (Token.end_object ∷ after) = Unit {0}
-NoStringNext (Token.begin_array ∷ after) = Unit {0}
-NoStringNext (Token.end_array ∷ after) = Unit {0}
 NoStringNext (Token.key text ∷ after) = ⊥
 NoStringNext (Token.string text ∷ after) = ⊥
-NoStringNext (Token.number text ∷ after) = Unit {0}
-NoStringNext (Token.boolean flag ∷ after) = Unit {0}
-NoStringNext (Token.null ∷ after) = Unit {0}
-NoStringNext (Token.bad ∷ after) = Unit {0}
+NoStringNext _ = Unit {0}
 
 -- The next token is a name, and its string is possible there; or it is a string, and is possible as a name.
 abbrev pub CouldStandOther : (taken left : List Token) → Type 0
@@ -379,10 +345,10 @@ pub record WalkProgress (depth : ℕ) (in_flow : Bool) (start : List Token) (was
 
 -- The error has the same meaning for the text as the stop.
 abbrev pub MatchesStop : (text : List ℕ) → Stop → JsonError → Type 0
-MatchesStop text (stops.NotJson spot) (errors.NotJson line column says) = is_marked text ≡ false
-MatchesStop text (stops.NotJson spot) (errors.Marked line column) = is_marked text ≡ true
-MatchesStop text stops.TooDeep (errors.TooDeep line column) = Unit {0}
-MatchesStop text stops.NameAgain (errors.DuplicateName line column) = Unit {0}
+MatchesStop text (stops.NotJson spot) (errors.NotJson position says) = is_marked text ≡ false
+MatchesStop text (stops.NotJson spot) (errors.Marked position) = is_marked text ≡ true
+MatchesStop text stops.TooDeep (errors.TooDeep position) = Unit {0}
+MatchesStop text stops.NameAgain (errors.DuplicateName position) = Unit {0}
 MatchesStop text stops.Memory (errors.Emitter returned) = Unit {0}
 MatchesStop text stops.Failed (errors.Emitter returned) = Unit {0}
 MatchesStop _ _ _ = ⊥

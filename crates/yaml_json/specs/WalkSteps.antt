@@ -28,20 +28,20 @@ at nest writer = record { nest = nest; writer = writer }
 
 -- the token was given, with which a value begins
 pub record TokenGiven {A : Type 0} (settings : JsonSettings) (token : Token) (before after : JsonWalk A) : Type 0 where
-  pub began : BeganValue settings.depth settings.flow token before.nest.kinds.items before.writer after.nest.kinds.items after.writer
-  pub fits : IsNesting settings.depth settings.unique_names after.nest
+  pub began : BeganValue settings.values.depth settings.values.flow token before.nest.kinds.items before.writer after.nest.kinds.items after.writer
+  pub fits : IsNesting settings.values.depth settings.unique_names after.nest
   pub names : KeepsNamesAfter before.nest.names (token ∷ []) after.nest.names
   pub kept : Kept before.writer (Ok tt) after.writer
 
 -- no value begins with the token, and the writer is as before; or the writer failed at it
 pub record TokenStopped {A : Type 0} (settings : JsonSettings) (token : Token) (before : JsonWalk A) (stop : Stop) (after : JsonWalk A) : Type 0 where
-  pub refused : RefusesToken settings.depth before.nest.kinds.items token stop
+  pub refused : RefusesToken settings.values.depth before.nest.kinds.items token stop
   pub same : IsByText stop → after.writer ≡ before.writer
   pub unmoved : StaysUnlessFailed before.writer after.writer
   pub kept : Kept before.writer (Err stop) after.writer
   pub failed :
       IfSome (failure_of after.writer stop)
-      (λ error. BeginFailed settings.depth settings.flow token before.nest.kinds.items before.writer error after.writer)
+      (λ error. BeginFailed settings.values.depth settings.values.flow token before.nest.kinds.items before.writer error after.writer)
 
 abbrev pub TokenStep : {A : Type 0} → JsonSettings → Token → JsonWalk A → Result (Unit {0}) Stop → JsonWalk A → Type 0
 TokenStep settings token before (Ok done) after = TokenGiven settings token before after
@@ -53,21 +53,21 @@ TokenStep settings token before (Err stop) after = TokenStopped settings token b
 pub record FirstGiven {A : Type 0} (settings : JsonSettings) (reader : Reader) (before : JsonWalk A) (left : Reader) (after : JsonWalk A)
     : Type 0 where
   pub began :
-      BeganFirstValue settings.depth settings.flow reader.ahead before.nest.kinds.items before.writer left.ahead after.nest.kinds.items after.writer
-  pub fits : IsNesting settings.depth settings.unique_names after.nest
+      BeganFirstValue settings.values.depth settings.values.flow reader.ahead before.nest.kinds.items before.writer left.ahead after.nest.kinds.items after.writer
+  pub fits : IsNesting settings.values.depth settings.unique_names after.nest
   pub names : KeepsTo before.nest.names reader.ahead left.ahead after.nest.names
   pub kept : Kept before.writer (Ok tt) after.writer
 
 -- no value begins with the first of them, or there is none, and the writer is as before; or the writer failed at it
 pub record FirstStopped {A : Type 0} (settings : JsonSettings) (reader : Reader) (before : JsonWalk A) (stop : Stop) (after : JsonWalk A)
     : Type 0 where
-  pub refused : RefusesFirst settings.depth before.nest.kinds.items reader.ahead stop
+  pub refused : RefusesFirst settings.values.depth before.nest.kinds.items reader.ahead stop
   pub same : IsByText stop → after.writer ≡ before.writer
   pub unmoved : StaysUnlessFailed before.writer after.writer
   pub kept : Kept before.writer (Err stop) after.writer
   pub failed :
       IfSome (failure_of after.writer stop)
-      (λ error. FirstFailed settings.depth settings.flow reader.ahead before.nest.kinds.items before.writer error after.writer)
+      (λ error. FirstFailed settings.values.depth settings.values.flow reader.ahead before.nest.kinds.items before.writer error after.writer)
 
 abbrev pub FirstStep : {A : Type 0} → JsonSettings → Reader → JsonWalk A → Result (Unit {0}) Stop → Reader → JsonWalk A → Type 0
 FirstStep settings reader before (Ok done) left after = FirstGiven settings reader before left after
@@ -78,8 +78,8 @@ FirstStep settings reader before (Err stop) left after = FirstStopped settings r
 -- The first of the tokens ahead were given, and the walk is after them.
 pub record Walked {A : Type 0} (settings : JsonSettings) (reader : Reader) (before : JsonWalk A) (left : Reader) (after : JsonWalk A)
     : Type 0 where
-  pub stepped : WalkedOn settings.depth settings.flow reader.ahead before.nest.kinds.items before.writer left.ahead after.nest.kinds.items after.writer
-  pub fits : IsNesting settings.depth settings.unique_names after.nest
+  pub stepped : WalkedOn settings.values.depth settings.values.flow reader.ahead before.nest.kinds.items before.writer left.ahead after.nest.kinds.items after.writer
+  pub fits : IsNesting settings.values.depth settings.unique_names after.nest
   pub names : KeepsTo before.nest.names reader.ahead left.ahead after.nest.names
   pub last : LastRead reader left
   pub kept : Kept before.writer (Ok tt) after.writer
@@ -89,13 +89,13 @@ pub record WalkStopped {A : Type 0} (settings : JsonSettings) (reader : Reader) 
     (after : JsonWalk A) : Type 0 where
   pub refused :
       IsByText stop
-      → Refuses settings.depth settings.unique_names settings.flow before.nest.kinds.items before.nest.names reader.ahead left.before before.writer stop
+      → Refuses settings.values.depth settings.unique_names settings.values.flow before.nest.kinds.items before.nest.names reader.ahead left.before before.writer stop
       after.writer
   pub level : StaysLevelUnlessFailed before.writer after.writer
   pub kept : Kept before.writer (Err stop) after.writer
   pub failed :
       IfSome (failure_of after.writer stop)
-      (λ error. StepFailed settings.depth settings.flow reader.ahead before.nest.kinds.items before.writer error after.writer)
+      (λ error. StepFailed settings.values.depth settings.values.flow reader.ahead before.nest.kinds.items before.writer error after.writer)
 
 abbrev pub WalkStep : {A : Type 0} → JsonSettings → Reader → JsonWalk A → Result (Unit {0}) Stop → Reader → JsonWalk A → Type 0
 WalkStep settings reader before (Ok done) left after = Walked settings reader before left after
@@ -107,7 +107,7 @@ WalkStep settings reader before (Err stop) left after = WalkStopped settings rea
 pub record ValueGiven {A : Type 0} (settings : JsonSettings) (reader : Reader) (before : JsonWalk A) (left : Reader) (after : JsonWalk A)
     : Type 0 where
   pub none : HasNoneOpen settings.unique_names after.nest
-  pub written : WroteValue settings.depth settings.flow reader.ahead before.writer left.ahead after.writer
+  pub written : WroteValue settings.values.depth settings.values.flow reader.ahead before.writer left.ahead after.writer
   pub names : HasUniqueNames settings.unique_names reader.ahead left.ahead
   pub last : LastRead reader left
   pub kept : Kept before.writer (Ok tt) after.writer
@@ -115,7 +115,7 @@ pub record ValueGiven {A : Type 0} (settings : JsonSettings) (reader : Reader) (
 -- all of them were
 pub record OnlyGiven {A : Type 0} (settings : JsonSettings) (reader : Reader) (before after : JsonWalk A) : Type 0 where
   pub none : HasNoneOpen settings.unique_names after.nest
-  pub written : WroteDocument settings.depth settings.flow reader.ahead before.writer after.writer
+  pub written : WroteDocument settings.values.depth settings.values.flow reader.ahead before.writer after.writer
   pub names : settings.unique_names ≡ true → NamesOnce [] reader.ahead
   pub kept : Kept before.writer (Ok tt) after.writer
 
@@ -124,11 +124,11 @@ pub record ValueStopped {A : Type 0} (settings : JsonSettings) (reader : Reader)
     (after : JsonWalk A) : Type 0 where
   pub refused :
       IsByText stop
-      → TextStopsWriting settings.depth settings.unique_names settings.flow reader.ahead left.before before.writer stop after.writer
+      → TextStopsWriting settings.values.depth settings.unique_names settings.values.flow reader.ahead left.before before.writer stop after.writer
   pub unopened : IsSome (failure_of after.writer stop) → StaysUnlessOpened before.writer after.writer
   pub kept : Kept before.writer (Err stop) after.writer
   pub failed :
-      IfSome (failure_of after.writer stop) (λ error. FailedInValue settings.depth settings.flow reader.ahead before.writer error after.writer)
+      IfSome (failure_of after.writer stop) (λ error. FailedInValue settings.values.depth settings.values.flow reader.ahead before.writer error after.writer)
 
 abbrev pub ValueStep : {A : Type 0} → JsonSettings → Reader → JsonWalk A → Result (Unit {0}) Stop → Reader → JsonWalk A → Type 0
 ValueStep settings reader before (Ok done) left after = ValueGiven settings reader before left after
@@ -142,17 +142,17 @@ OnlyStep settings reader before (Err stop) left after = ValueStopped settings re
 
 -- the text is JSON, and its events were given
 pub record TextGiven (settings : JsonSettings) (text : List ℕ) (before after : WriterState) : Type 0 where
-  pub written : WroteText settings.depth settings.flow text before after
+  pub written : WroteText settings.values.depth settings.values.flow text before after
   pub names : settings.unique_names ≡ true → NamesOnce [] (tokens text)
   pub kept : Kept before (Ok tt) after
 
 -- the text stops the writing at this offset, or the writer failed
 pub record TextStopped (settings : JsonSettings) (text : List ℕ) (before : WriterState) (stop : Stop) (offset : ℕ) (after : WriterState) : Type 0 where
-  pub refused : IsByText stop → StopsText settings.depth settings.unique_names settings.flow text before stop after
-  pub place : IsByText stop → StopsAtLexeme settings.depth text offset stop
+  pub refused : IsByText stop → StopsText settings.values.depth settings.unique_names settings.values.flow text before stop after
+  pub place : IsByText stop → StopsAtLexeme settings.values.depth text offset stop
   pub unopened : IsSome (failure_of after stop) → StaysUnlessOpened before after
   pub kept : Kept before (Err stop) after
-  pub failed : IfSome (failure_of after stop) (λ error. FailedInText settings.depth settings.flow text before error after)
+  pub failed : IfSome (failure_of after stop) (λ error. FailedInText settings.values.depth settings.values.flow text before error after)
 
 abbrev pub TextStep : JsonSettings → List ℕ → WriterState → Result (Unit {0}) (Stop × ℕ) → WriterState → Type 0
 TextStep settings text before (Ok done) after = TextGiven settings text before after

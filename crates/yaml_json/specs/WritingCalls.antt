@@ -19,7 +19,7 @@ use Rattle.yaml_json.specs.declared.settings.JsonSettings.{JsonSettings}
 pub record TextWritten (settings : JsonSettings) (text : List ℕ) (was now : WriterState) : Type 0 where
   pub grows : Grows was.emitter.page now.emitter.page
   pub sound : IsSound was (Ok tt) now
-  pub written : WroteText settings.depth settings.flow text was now
+  pub written : WroteText settings.values.depth settings.values.flow text was now
   pub names : HasNamesOnce settings.unique_names text
 
 -- The writer was given the events of the text's first tokens, and no more, since the text is refused or the writer failed; earlier output
@@ -28,9 +28,9 @@ pub record TextWritten (settings : JsonSettings) (text : List ℕ) (was now : Wr
 pub record TextUnwritten (settings : JsonSettings) (text : List ℕ) (was : WriterState) (error : JsonError) (now : WriterState) : Type 0 where
   pub grows : Grows was.emitter.page now.emitter.page
   pub sound : IsSound was (Err error) now
-  pub refused : DeniesJson error → IsNotJson settings.depth text
-  pub stopped : StopsInText settings.depth settings.unique_names settings.flow text was error now
-  pub place : HasPlace settings.depth text error
+  pub refused : DeniesJson error → IsNotJson settings.values.depth text
+  pub stopped : StopsInText settings.values.depth settings.unique_names settings.values.flow text was error now
+  pub place : HasPlace settings.values.depth text error
   pub unopened : IsSome (writers_error error) → StaysUnlessOpened was now
 
 abbrev pub WritesText : JsonSettings → List ℕ → WriterState → Result (Unit {0}) JsonError → WriterState → Type 0
@@ -43,15 +43,15 @@ WritesText settings text was (Err error) now = TextUnwritten settings text was e
 pub record TextsWritten (settings : JsonSettings) (text : List ℕ) (was now : WriterState) : Type 0 where
   pub grows : Grows was.emitter.page now.emitter.page
   pub sound : IsSound was (Ok tt) now
-  pub written : WroteTexts settings.depth settings.flow text was now
-  pub reads : ReadsTexts settings.depth settings.flow text was now
+  pub written : WroteTexts settings.values.depth settings.values.flow text was now
+  pub reads : ReadsTexts settings.values.depth settings.values.flow text was now
   pub names : HaveNamesOnce settings.unique_names (texts_in text)
 
 -- the writer was given the documents of the first of them, and the events of the first tokens of the next, and no more
 pub record TextsUnwritten (settings : JsonSettings) (text : List ℕ) (was : WriterState) (error : JsonError) (now : WriterState) : Type 0 where
   pub grows : Grows was.emitter.page now.emitter.page
   pub sound : IsSound was (Err error) now
-  pub stopped : StopsInTexts settings.depth settings.unique_names settings.flow text was error now
+  pub stopped : StopsInTexts settings.values.depth settings.unique_names settings.values.flow text was error now
 
 abbrev pub WritesTexts : JsonSettings → List ℕ → WriterState → Result (Unit {0}) JsonError → WriterState → Type 0
 WritesTexts settings text was (Ok done) now = TextsWritten settings text was now
@@ -73,6 +73,6 @@ pub record HasNoYaml (given : Settings) (in_flow : Bool) (depth : ℕ) (unique :
 
 abbrev pub ReturnsYaml : {A : Type 0} → JsonSettings → List ℕ → Result (Vec ℕ A) JsonError → Type 0
 ReturnsYaml settings text (Ok bytes) =
-    HasYaml (seen_settings settings.writer) settings.flow settings.depth settings.unique_names text bytes.items
+    HasYaml (seen_settings settings.values.emitter) settings.values.flow settings.values.depth settings.unique_names text bytes.items
 ReturnsYaml settings text (Err error) =
-    HasNoYaml (seen_settings settings.writer) settings.flow settings.depth settings.unique_names text error
+    HasNoYaml (seen_settings settings.values.emitter) settings.values.flow settings.values.depth settings.unique_names text error

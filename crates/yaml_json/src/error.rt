@@ -4,6 +4,7 @@ ghost use Rattle.std.specs.Prelude.{◌≡◌};
 use crate::expecting::Expected;
 use std::io;
 use thiserror::Error;
+use yaml_base::Position;
 use yaml_writer::yaml_error_t;
 
 /// The reason why a text isn't written as YAML.
@@ -12,33 +13,29 @@ pub enum JsonError {
     /// The text is no JSON. The first bracket, string, word, comma or colon that isn't possible at its place begins here; if the text
     /// ends too early, this is its end. Lines end with LF, and both numbers count from 1, columns in characters. `expected` names the
     /// input that is possible here, by the bytes before.
-    #[error("line {line}, column {column}: {expected}")]
+    #[error("{position}: {expected}")]
     NotJson {
-        line: usize,
-        column: usize,
+        position: Position,
         expected: Expected,
     },
     /// The text is no JSON, since a byte order mark begins it, here.
-    #[error("line {line}, column {column}: a byte order mark")]
+    #[error("{position}: a byte order mark")]
     Marked {
-        line: usize,
-        column: usize,
+        position: Position,
     },
     /// Arrays and objects nest deeper than was allowed. The first that lies too deep begins here.
-    #[error("line {line}, column {column}: arrays and objects nest too deep")]
+    #[error("{position}: arrays and objects nest too deep")]
     TooDeep {
-        line: usize,
-        column: usize,
+        position: Position,
     },
     /// An object has a name twice, and each was to come once. The second begins here.
-    #[error("line {line}, column {column}: a name that comes twice in its object")]
+    #[error("{position}: a name that comes twice in its object")]
     DuplicateName {
-        line: usize,
-        column: usize,
+        position: Position,
     },
     /// The bytes pass the limit (`WriteError`), or an allocation failed (`Memory`). If more than 1,000,000 levels were allowed,
     /// the emitter refuses any deeper level (`TooDeep`).
-    #[error("{0}")]
+    #[error(transparent)]
     Emitter(yaml_error_t),
 }
 
@@ -59,15 +56,15 @@ impl From<yaml_error_t> for JsonError {
 #[derive(Clone, Copy, Debug, Drop, Error)]
 pub enum StreamError {
     /// One of the texts isn't written.
-    #[error("{0}")]
+    #[error(transparent)]
     Refused(JsonError),
     /// The first bytes that are no UTF-8 begin here.
-    #[error("line {line}, column {column}: not UTF-8")]
-    NotText { line: usize, column: usize },
+    #[error("{position}: not UTF-8")]
+    NotText { position: Position },
     /// Reading failed.
     #[error("cannot read: {0}")]
-    ReadFailed(io::Error),
+    ReadFailed(#[source] io::Error),
     /// The sink failed.
     #[error("cannot write: {0}")]
-    WriteFailed(io::Error),
+    WriteFailed(#[source] io::Error),
 }

@@ -25,9 +25,9 @@ pub use several::write_json_texts;
 pub use stream::send_json_texts;
 pub use texts::{write_json, yaml_from_json};
 pub use tokens::Tokens;
-pub use yaml_base::place_of;
+pub use yaml_base::{Position, position_of};
 pub use yaml_writer::{
-    Quotes, Settings, Writer, YAML_ANY_BREAK, YAML_ANY_ENCODING, YAML_CR_BREAK, YAML_CRLN_BREAK,
-    YAML_LN_BREAK, YAML_UTF8_ENCODING, YAML_UTF16BE_ENCODING, YAML_UTF16LE_ENCODING,
-    value_settings, yaml_break_t, yaml_encoding_t, yaml_error_t,
+    Quotes, Settings, ValueSettings, Writer, YAML_ANY_BREAK, YAML_ANY_ENCODING, YAML_CR_BREAK,
+    YAML_CRLN_BREAK, YAML_LN_BREAK, YAML_UTF8_ENCODING, YAML_UTF16BE_ENCODING,
+    YAML_UTF16LE_ENCODING, value_settings, yaml_break_t, yaml_encoding_t, yaml_error_t,
 };

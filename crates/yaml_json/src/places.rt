@@ -1,17 +1,17 @@
-//! The line and the column of an offset in a text.
-ghost use Rattle.std.specs.Prelude.{◌≡◌, ◌≢◌, ◌+◌, ◌++◌, ◌<◌, ◌≤◌, ℕ, List, [], drop, length};
+//! The places at which texts stop the writing.
+ghost use Rattle.std.specs.Prelude.{◌≡◌, ◌≢◌, ◌+◌, ◌++◌, ◌<◌, ◌≤◌, ℕ, List, drop, length};
 ghost use Rattle.json.specs.Lex.{between, in_word, lex};
 ghost use Rattle.json.specs.Word.{head};
 ghost use Rattle.yaml_json.specs.Ahead.{IsTrimmed};
 ghost use Rattle.yaml_json.specs.Lexing.{EndsWord};
 ghost use Rattle.yaml_json.specs.Offsets.{IsOffset, PassesLexeme};
-ghost use Rattle.yaml_json.specs.Places.{IsPlaceAfter, many_bytes};
-ghost use Rattle.yaml_writer.specs.Places.{AreOf};
+ghost use Rattle.yaml_base.specs.Positions.{IsPositionOf};
+ghost use Rattle.yaml_json.specs.Places.{IsPositionAfter, many_bytes};
 
 use crate::lexemes::{after_string, skip_blanks};
 use crate::values::{Spot, Stop};
 use crate::words::{is_delimiter, is_operator};
-use yaml_base::place_of;
+use yaml_base::{Position, position_of};
 
 /// Returns the text after the word whose first byte is before a place.
 fn after_word(text: &str, from: usize) -> &str
@@ -69,41 +69,28 @@ pub(crate) fn offset_of(text: &str, last: usize, stop: Stop) -> usize
     }
 }
 
-/// A line and a column, both from 1.
-#[derive(Clone, Copy)]
-pub(crate) struct Place {
-    line: usize,
-    column: usize,
-}
-
-impl Place {
-    pub(crate) fn first() -> Place
-        ensures { IsPlaceAfter [] result }
-    {
-        Place { line: 1, column: 1 }
-    }
-
-    /// Returns a place in a text that begins at this one, by its place in that text.
-    pub(crate) fn and(self, line: usize, column: usize) -> (usize, usize)
-        ensures { (front part : List ℕ) (at : ℕ) → IsPlaceAfter front self → AreOf part at line column → at ≤ length part
-            → length front + at < many_bytes → AreOf (front ++ part) (length front + at) result.0 result.1 }
-    {
-        if line <= 1 {
-            (
-                self.line,
-                self.column.saturating_add(column).saturating_sub(1),
-            )
-        } else {
-            (self.line.saturating_add(line).saturating_sub(1), column)
+/// Returns a position in a text that begins at `start` of a longer one, by its position in that text.
+pub(crate) fn position_from(start: Position, position: Position) -> Position
+    ensures { (front part : List ℕ) (at : ℕ) → IsPositionAfter front start → IsPositionOf part at position → at ≤ length part
+        → length front + at < many_bytes → IsPositionOf (front ++ part) (length front + at) result }
+{
+    let Position { line, column } = position;
+    if line <= 1 {
+        Position {
+            line: start.line,
+            column: start.column.saturating_add(column).saturating_sub(1),
+        }
+    } else {
+        Position {
+            line: start.line.saturating_add(line).saturating_sub(1),
+            column,
         }
     }
+}
 
-    /// Returns the place that follows these bytes, the first of which is at this one.
-    pub(crate) fn after(self, bytes: &[u8]) -> Place
-        ensures { (front : List ℕ) → IsPlaceAfter front self → IsPlaceAfter (front ++ bytes.now) result }
-    {
-        let (line, column) = place_of(bytes, bytes.len());
-        let (line, column) = self.and(line, column);
-        Place { line, column }
-    }
+/// Returns the position that follows these bytes, which begin at `start`.
+pub(crate) fn position_after(start: Position, bytes: &[u8]) -> Position
+    ensures { (front : List ℕ) → IsPositionAfter front start → IsPositionAfter (front ++ bytes.now) result }
+{
+    position_from(start, position_of(bytes, bytes.len()))
 }

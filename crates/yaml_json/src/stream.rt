@@ -3,21 +3,21 @@ ghost use Rattle.std.specs.Prelude.{◌≡◌, ◌≤◌, ◌-◌, ℕ, Bool, Li
 ghost use Rattle.json.specs.Token.{Token};
 ghost use Rattle.yaml_json.specs.Nests.{AwaitsText};
 ghost use Rattle.yaml_json.specs.Cuts.{HasScanned};
-ghost use Rattle.yaml_json.specs.Places.{HasPlaceWithin, IsPlaceAfter, MovesPlace};
+ghost use Rattle.yaml_json.specs.Places.{HasPlaceWithin, IsPositionAfter, MovesPosition};
 ghost use Rattle.yaml_json.specs.SendingCalls.{BytesStep, CompleteStep, DropStep, LastStep, NextStep, ReadStep, SendsTexts};
 ghost use Rattle.yaml_json.specs.Sent.{IsIncoming, IsScanned, StopsPartAt, emitter_error};
 ghost use Rattle.yaml_writer.specs.WasGiven.{IsBare};
 
 use crate::cuts::{Cut, find_end, new_cut};
 use crate::error::{JsonError, StreamError};
-use crate::places::Place;
+use crate::places::{position_after, position_from};
 use crate::settings::JsonSettings;
 use crate::texts::{Room, error_of, write_text_in};
 use bumpalo::Bump;
 use std::alloc::Allocator;
 use std::io::{ErrorKind, Read, Write};
 use std::{io, str};
-use yaml_base::place_of;
+use yaml_base::{Position, position_of};
 use yaml_writer::{Writer, yaml_error_t};
 
 /// The number of bytes that are read at once.
@@ -30,8 +30,8 @@ const NO_MEMORY: StreamError = StreamError::Refused(JsonError::Emitter(yaml_erro
 pub(crate) struct Reading<A: Allocator> {
     alloc: A,
     pub(crate) cut: Cut,
-    /// The place at which the input begins that came and isn't written yet.
-    place: Place,
+    /// The position at which the input begins that came and isn't written yet.
+    position: Position,
 }
 
 /// The input that came and isn't written yet.
@@ -46,14 +46,14 @@ impl<A: Allocator + Copy> Incoming<A> {
     fn new(alloc: A) -> Self
         ensures scanned { IsScanned result }
         ensures nothing { result.held.items ≡ [] }
-        ensures place { IsPlaceAfter [] result.reading.place }
+        ensures place { IsPositionAfter [] result.reading.position }
     {
         Incoming {
             held: Vec::new(alloc),
             reading: Reading {
                 alloc,
                 cut: new_cut(),
-                place: Place::first(),
+                position: Position { line: 1, column: 1 },
             },
         }
     }
@@ -62,8 +62,8 @@ impl<A: Allocator + Copy> Incoming<A> {
 /// Reads a part. Returns whether more may follow.
 fn read_more<A: Allocator + Copy, R: Read>(
     alloc: A,
-    reader: &mut R,
     incoming: &mut Incoming<A>,
+    reader: &mut R,
 ) -> Result<bool, StreamError>
     requires { IsScanned incoming.old }
     ensures { ReadStep incoming.old (R.remaining reader.old) result incoming.new (R.remaining reader.new) }
@@ -102,8 +102,8 @@ fn write_bytes<'a, A: Allocator + Copy>(
     let text = match str::from_utf8(bytes) {
         Ok(text) => text,
         Err(error) => {
-            let (line, column) = place_of(bytes, error.valid_up_to());
-            return Err(StreamError::NotText { line, column });
+            let position = position_of(bytes, error.valid_up_to());
+            return Err(StreamError::NotText { position });
         }
     };
     match write_text_in(room, writer, text, settings) {
@@ -113,43 +113,33 @@ fn write_bytes<'a, A: Allocator + Copy>(
 }
 
 /// Adds the text's start to the error's position.
-fn shifted_by(error: StreamError, start: Place) -> StreamError
+fn shifted_by(error: StreamError, start: Position) -> StreamError
     ensures says { (depth : ℕ) (unique : Bool) (all : List ℕ) (taken left : List Token) → StopsPartAt depth unique all taken left error
         → StopsPartAt depth unique all taken left result }
     ensures by_emitter { emitter_error result ≡ emitter_error error }
-    ensures place { (depth : ℕ) (front part : List ℕ) → IsPlaceAfter front start → HasPlaceWithin depth [] part error
+    ensures place { (depth : ℕ) (front part : List ℕ) → IsPositionAfter front start → HasPlaceWithin depth [] part error
         → HasPlaceWithin depth front part result }
 {
     match error {
-        StreamError::Refused(
-            JsonError::NotJson {
-                line,
-                column,
-                expected,
-            },
-        ) => {
-            let (line, column) = start.and(line, column);
-            StreamError::Refused(JsonError::NotJson {
-                line,
-                column,
-                expected,
-            })
+        StreamError::Refused(JsonError::NotJson { position, expected }) => {
+            let position = position_from(start, position);
+            StreamError::Refused(JsonError::NotJson { position, expected })
         }
-        StreamError::Refused(JsonError::Marked { line, column }) => {
-            let (line, column) = start.and(line, column);
-            StreamError::Refused(JsonError::Marked { line, column })
+        StreamError::Refused(JsonError::Marked { position }) => {
+            let position = position_from(start, position);
+            StreamError::Refused(JsonError::Marked { position })
         }
-        StreamError::Refused(JsonError::TooDeep { line, column }) => {
-            let (line, column) = start.and(line, column);
-            StreamError::Refused(JsonError::TooDeep { line, column })
+        StreamError::Refused(JsonError::TooDeep { position }) => {
+            let position = position_from(start, position);
+            StreamError::Refused(JsonError::TooDeep { position })
         }
-        StreamError::Refused(JsonError::DuplicateName { line, column }) => {
-            let (line, column) = start.and(line, column);
-            StreamError::Refused(JsonError::DuplicateName { line, column })
+        StreamError::Refused(JsonError::DuplicateName { position }) => {
+            let position = position_from(start, position);
+            StreamError::Refused(JsonError::DuplicateName { position })
         }
-        StreamError::NotText { line, column } => {
-            let (line, column) = start.and(line, column);
-            StreamError::NotText { line, column }
+        StreamError::NotText { position } => {
+            let position = position_from(start, position);
+            StreamError::NotText { position }
         }
         other => other,
     }
@@ -177,13 +167,13 @@ fn keep_last<A: Allocator + Copy>(incoming: &mut Incoming<A>, count: usize)
     requires { count ≤ length incoming.old.held.items }
     ensures kept { incoming.new.held.items ≡ drop (length incoming.old.held.items - count) incoming.old.held.items }
     ensures cut { incoming.new.reading.cut ≡ incoming.old.reading.cut }
-    ensures place { MovesPlace incoming.old.held.items incoming.new.held.items incoming.old.reading.place incoming.new.reading.place }
+    ensures place { MovesPosition incoming.old.held.items incoming.new.held.items incoming.old.reading.position incoming.new.reading.position }
 {
     let start = incoming.held.len() - count;
     if start == 0 {
         return;
     }
-    incoming.reading.place = incoming.reading.place.after(&incoming.held[..start]);
+    incoming.reading.position = position_after(incoming.reading.position, &incoming.held[..start]);
     incoming.held.copy_within(start.., 0);
     incoming.held.truncate(count);
 }
@@ -198,8 +188,8 @@ fn write_texts<A: Allocator + Copy, W: Write>(
 ) -> Result<usize, StreamError>
     requires bare { IsBare writer.old }
     requires scanned { HasScanned held.now reading.old.cut }
-    ensures place { reading.new.place ≡ reading.old.place }
-    ensures gives { CompleteStep settings.now held.now reading.old.place writer.old (W.contents sink.old) result reading.new.cut writer.new
+    ensures place { reading.new.position ≡ reading.old.position }
+    ensures gives { CompleteStep settings.now held.now reading.old.position writer.old (W.contents sink.old) result reading.new.cut writer.new
         (W.contents sink.new) }
 {
     let arena = Bump::new(reading.alloc);
@@ -209,7 +199,7 @@ fn write_texts<A: Allocator + Copy, W: Write>(
         let (first, more) = rest.split_at(end);
         if let Err(error) = write_bytes(&mut room, writer, first, settings) {
             let done = &held[..held.len() - rest.len()];
-            return Err(shifted_by(error, reading.place.after(done)));
+            return Err(shifted_by(error, position_after(reading.position, done)));
         }
         if let Err(error) = begin_next(writer, sink) {
             return Err(error);
@@ -248,14 +238,14 @@ fn write_last<A: Allocator + Copy>(
     settings: &JsonSettings,
 ) -> Result<(), StreamError>
     requires { IsBare writer.old }
-    ensures { LastStep settings.now incoming.old.held.items incoming.old.reading.place writer.old result writer.new }
+    ensures { LastStep settings.now incoming.old.held.items incoming.old.reading.position writer.old result writer.new }
 {
     let text = incoming.held.as_slice();
     let reading = &mut incoming.reading;
     let arena = Bump::new(reading.alloc);
     let mut room = Room::new(reading.alloc, &arena, settings.unique_names);
     if let Err(error) = write_bytes(&mut room, writer, text, settings) {
-        return Err(shifted_by(error, reading.place));
+        return Err(shifted_by(error, reading.position));
     }
     Ok(())
 }
@@ -276,11 +266,11 @@ fn write_last<A: Allocator + Copy>(
 /// `Refused` as by `write_json_texts`; `NotText` if a text isn't UTF-8; `ReadFailed` and `WriteFailed`. Until then the sink was
 /// given whole documents, those of the texts before the one that is refused. A sink that failed has a beginning of their bytes, and
 /// the writer still has the bytes that were offered to it last. The writer can be used further, as after an error of `write_json`.
-pub fn send_json_texts<A: Allocator + Copy, R: Read, W: Write>(
+pub fn send_json_texts<A: Allocator + Copy, W: Write, R: Read>(
     alloc: A,
     writer: &mut Writer<A>,
-    reader: &mut R,
     sink: &mut W,
+    reader: &mut R,
     settings: JsonSettings,
 ) -> Result<(), StreamError>
     requires { IsBare writer.old }
@@ -292,7 +282,7 @@ pub fn send_json_texts<A: Allocator + Copy, R: Read, W: Write>(
     let mut turns = u64::MAX;
     'parts: while turns > 0 {
         turns -= 1;
-        match read_more(alloc, reader, &mut incoming) {
+        match read_more(alloc, &mut incoming, reader) {
             Ok(true) => {}
             Ok(false) => {
                 let answer = write_last(writer, &mut incoming, &settings);

@@ -17,7 +17,7 @@ use crate::tokens::Tokens;
 use crate::values::{Nesting, Stop, write_only_value};
 use bumpalo::Bump;
 use std::alloc::Allocator;
-use yaml_base::place_of;
+use yaml_base::position_of;
 use yaml_writer::{Writer, yaml_error_t};
 
 /// The byte order mark in UTF-8. No JSON text begins with it.
@@ -37,28 +37,18 @@ pub(crate) fn error_of<A: Allocator + Copy>(
     ensures expected { SaysExpected part.now stopped.1 result }
 {
     let (stop, offset) = stopped;
+    let position = position_of(text.as_bytes(), at);
     match stop {
         Stop::NotJson(_) => {
-            let (line, column) = place_of(text.as_bytes(), at);
             if part.as_bytes().starts_with(MARK) {
-                JsonError::Marked { line, column }
+                JsonError::Marked { position }
             } else {
                 let expected = expected_at(part, offset);
-                JsonError::NotJson {
-                    line,
-                    column,
-                    expected,
-                }
+                JsonError::NotJson { position, expected }
             }
         }
-        Stop::TooDeep => {
-            let (line, column) = place_of(text.as_bytes(), at);
-            JsonError::TooDeep { line, column }
-        }
-        Stop::NameAgain => {
-            let (line, column) = place_of(text.as_bytes(), at);
-            JsonError::DuplicateName { line, column }
-        }
+        Stop::TooDeep => JsonError::TooDeep { position },
+        Stop::NameAgain => JsonError::DuplicateName { position },
         Stop::Memory => JsonError::Emitter(yaml_error_t::Memory),
         Stop::Failed => JsonError::Emitter(writer.error().unwrap_or(yaml_error_t::Memory)),
     }
@@ -123,8 +113,8 @@ pub(crate) fn write_text_by<A: Allocator + Copy>(
     write_text_in(&mut room, writer, text, settings)
 }
 
-/// Gives a writer the events of a JSON text, by all of these settings but those of a writer. Arrays and objects may nest
-/// `settings.depth` deep. Each of them is in flow if it is empty or `settings.flow` is set, else in a block. Keys keep
+/// Gives a writer the events of a JSON text, by all of these settings but `settings.values.emitter`. Arrays and objects may nest
+/// `settings.values.depth` deep. Each of them is in flow if it is empty or `settings.values.flow` is set, else in a block. Keys keep
 /// their order. A key may come once in an object if `settings.unique_names` is set; else it is written as often as it comes.
 ///
 /// The writer must have no anchor and no tag for the next node. After `Ok` it was given exactly the text's events, has no anchor and
@@ -132,7 +122,7 @@ pub(crate) fn write_text_by<A: Allocator + Copy>(
 ///
 /// # Errors
 ///
-/// `NotJson` if the text isn't JSON up to the place that it names: a token that isn't possible there, or the text's end. It names the
+/// `NotJson` if the text isn't JSON up to the position that it names: a token that isn't possible there, or the text's end. It names the
 /// input that is possible there. `Marked` in its place if the text begins with a byte order mark.
 /// `TooDeep` if the text is JSON up to an array or an object that opens too deep, `DuplicateName` if it is JSON up to a key
 /// that its object has already and may have once. `Emitter` with the error of the writer's
@@ -161,7 +151,7 @@ pub fn write_json<A: Allocator + Copy>(
 ///
 /// `NotJson`, `Marked`, `TooDeep` and `DuplicateName` as by `write_json`. `Emitter` with
 /// `WriteError` if the bytes pass the limit, with `Memory` if an allocation fails, and with `TooDeep` if arrays and objects
-/// nest more than 1,000,000 deep and `settings.depth` allows it. No other error of the writer comes.
+/// nest more than 1,000,000 deep and `settings.values.depth` allows it. No other error of the writer comes.
 pub fn yaml_from_json<A: Allocator + Copy>(
     alloc: A,
     text: &str,
@@ -169,7 +159,7 @@ pub fn yaml_from_json<A: Allocator + Copy>(
 ) -> Result<Vec<u8, A>, JsonError>
     ensures { ReturnsYaml settings text.now result }
 {
-    let Ok(mut writer) = Writer::new(alloc, settings.writer) else {
+    let Ok(mut writer) = Writer::new(alloc, settings.values.emitter) else {
         return Err(JsonError::Emitter(yaml_error_t::Memory));
     };
     if let Err(error) = write_json(alloc, &mut writer, text, settings) {

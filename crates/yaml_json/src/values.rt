@@ -113,17 +113,17 @@ fn begin<'a, A: Allocator + Copy>(
     settings: &JsonSettings,
 ) -> Result<(), Stop>
     requires bare { IsBare writer.old }
-    requires fits { IsNesting settings.now.depth settings.now.unique_names nest.old }
+    requires fits { IsNesting settings.now.values.depth settings.now.unique_names nest.old }
     ensures { TokenStep settings.now (opener kind) (at nest.old writer.old) result (at nest.new writer.new) }
 {
-    if nest.kinds.len() == settings.depth {
+    if nest.kinds.len() == settings.values.depth {
         return Err(Stop::TooDeep);
     }
     if let Err(_) = nest.names.enter() {
         return Err(Stop::Memory);
     }
     match nest.kinds.push(kind) {
-        Ok(()) => answer_of(start(writer, kind, settings.flow)),
+        Ok(()) => answer_of(start(writer, kind, settings.values.flow)),
         Err(_) => Err(Stop::Memory),
     }
 }
@@ -137,7 +137,7 @@ fn write_token<'a, A: Allocator + Copy>(
     settings: &JsonSettings,
 ) -> Result<(), Stop>
     requires bare { IsBare writer.old }
-    requires fits { IsNesting settings.now.depth settings.now.unique_names nest.old }
+    requires fits { IsNesting settings.now.values.depth settings.now.unique_names nest.old }
     requires good { token ≢ Token.Bad → IsPrintable (token_of token) }
     ensures { TokenStep settings.now (token_of token.entry) (at nest.old writer.old) result (at nest.new writer.new) }
 {
@@ -177,7 +177,7 @@ fn write_first<'a, A: Allocator + Copy>(
     settings: &JsonSettings,
 ) -> Result<(), Stop>
     requires bare { IsBare writer.old }
-    requires fits { IsNesting settings.now.depth settings.now.unique_names nest.old }
+    requires fits { IsNesting settings.now.values.depth settings.now.unique_names nest.old }
     ensures steps { FirstStep settings.now reader.old (at nest.old writer.old) result reader.new (at nest.new writer.new) }
     ensures before { reader.new.before ≡ reader.old.ahead }
     ensures text { reader.new.text ≡ reader.old.text }
@@ -224,7 +224,7 @@ fn write_next<'a, A: Allocator + Copy>(
     settings: &JsonSettings,
 ) -> Result<(), Stop>
     requires bare { IsBare writer.old }
-    requires fits { IsNesting settings.now.depth settings.now.unique_names nest.old }
+    requires fits { IsNesting settings.now.values.depth settings.now.unique_names nest.old }
     requires innermost { IsInnermost kind nest.old.kinds.items }
     ensures steps { WalkStep settings.now reader.old (at nest.old writer.old) result reader.new (at nest.new writer.new) }
     ensures text { reader.new.text ≡ reader.old.text }

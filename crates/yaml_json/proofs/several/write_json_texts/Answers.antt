@@ -10,7 +10,7 @@ use Rattle.yaml_json.proofs.several.write_json_texts.Goals as goal
 pub texts-init : goal.texts-init
 texts-init g c = (
   search rules,
-  texts_begin c.args.settings.depth c.args.settings.flow c.args.settings.unique_names c.args.text.now c.args.writer.now c.requires,
+  texts_begin c.args.settings.values.depth c.args.settings.values.flow c.args.settings.unique_names c.args.text.now c.args.writer.now c.requires,
   grew_itself c.args.writer.now,
 )
 
@@ -33,10 +33,10 @@ returns-then-is_empty g c =
     record {
       grows = (grew_then was c.texts.writer now None c.texts.invariant.2 (grew_kept c.texts.writer now wrote.kept)).grows;
       sound = wrote.kept.sound;
-      written = texts_done s.depth s.flow s.unique_names text was rest first later c.texts.writer now cut so_far wrote.names wrote.written last;
-      reads = texts_read s.depth s.flow s.unique_names text was rest first later c.texts.writer now cut so_far wrote.names wrote.written last
+      written = texts_done s.values.depth s.values.flow s.unique_names text was rest first later c.texts.writer now cut so_far wrote.names wrote.written last;
+      reads = texts_read s.values.depth s.values.flow s.unique_names text was rest first later c.texts.writer now cut so_far wrote.names wrote.written last
           c.promised.ensures.stands.texts;
-      names = texts_names s.depth s.flow s.unique_names text was rest first later c.texts.writer now cut so_far wrote.names wrote.written last;
+      names = texts_names s.values.depth s.values.flow s.unique_names text was rest first later c.texts.writer now cut so_far wrote.names wrote.written last;
     }
 
 pub texts-smaller : goal.texts-smaller
@@ -46,7 +46,7 @@ texts-smaller g c =
 pub texts-preserved : goal.texts-preserved
 texts-preserved g c = (
   search rules,
-  texts_go_on c.args.settings.depth c.args.settings.flow c.args.settings.unique_names c.args.text.now c.args.writer.now c.texts.rest.now
+  texts_go_on c.args.settings.values.depth c.args.settings.values.flow c.args.settings.unique_names c.args.text.now c.args.writer.now c.texts.rest.now
       c.first_cut.result.0.now c.first_cut.result.1.now
       c.texts.writer c.write_text_by.new.writer c.first_cut.ensures c.texts.invariant.1 c.in_default.ensures.names c.in_default.ensures.written
       c.next_document.result
@@ -77,10 +77,10 @@ returns-in-Err g c =
     record {
       grows = grew.grows;
       sound = grew.sound;
-      stopped = texts_stopped s.depth s.flow s.unique_names c.args.text.now c.args.writer.now c.texts.rest.now first c.first_cut.result.1.now
+      stopped = texts_stopped s.values.depth s.values.flow s.unique_names c.args.text.now c.args.writer.now c.texts.rest.now first c.first_cut.result.1.now
           c.texts.writer now c.first_cut.ensures c.texts.invariant.1 error
-          (text_stopped s.depth s.unique_names s.flow first c.texts.writer now c.in-Err.stop error c.error_of.ensures.says failed.refused failed.failed)
-          (placed_after s.depth c.args.text.now first before c.in-Err.at c.saturating_add.result c.in-Err.stop error c.error_of.ensures.says failed.place
+          (text_stopped s.values.depth s.unique_names s.values.flow first c.texts.writer now c.in-Err.stop error c.error_of.ensures.says failed.refused failed.failed)
+          (placed_after s.values.depth c.args.text.now first before c.in-Err.at c.saturating_add.result c.in-Err.stop error c.error_of.ensures.says failed.place
           c.error_of.ensures.place (λ within. grind (arith, joined, cut)) c.error_of.ensures.expected);
     }
 
@@ -96,7 +96,7 @@ returns-in-Err-next_document g c =
     record {
       grows = grew.grows;
       sound = grew.sound;
-      stopped = next_failed s.depth s.flow s.unique_names c.args.text.now c.args.writer.now c.texts.rest.now c.first_cut.result.0.now
+      stopped = next_failed s.values.depth s.values.flow s.unique_names c.args.text.now c.args.writer.now c.texts.rest.now c.first_cut.result.0.now
           c.first_cut.result.1.now c.texts.writer now c.first_cut.ensures c.texts.invariant.1 c.in_default.ensures.names c.in_default.ensures.written
           c.next_document.new.self error (is_more c.first_cut.result.1.now c.is_empty.result c.is_empty.ensures c.if-is_empty.false) passed;
     }

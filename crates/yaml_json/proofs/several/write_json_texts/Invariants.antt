@@ -7,7 +7,7 @@ use Rattle.yaml_json.proofs.several.write_json_texts.Given as goal
 
 abbrev pub invariant-texts : goal.invariant-texts
 invariant-texts g l =
-    shadow (Utf8 l.rest) × TextsSoFar l.settings.depth l.settings.flow l.settings.unique_names l.text l.initial.writer l.rest l.writer
+    shadow (Utf8 l.rest) × TextsSoFar l.settings.values.depth l.settings.values.flow l.settings.unique_names l.text l.initial.writer l.rest l.writer
     × Grew l.initial.writer None l.writer
 
 abbrev pub decreases-texts : goal.decreases-texts

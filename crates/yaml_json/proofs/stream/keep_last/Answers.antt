@@ -3,7 +3,7 @@ use Rattle.std.proofs.lemmas.List.Edits.{take-paste}
 use Rattle.std.specs.List.{copy_within}
 use lib.Seq.{paste}
 use Rattle.yaml_json.proofs.PlacesAfter.{moves_nothing, moves_on}
-use Rattle.yaml_json.specs.Places.{IsPlaceAfter}
+use Rattle.yaml_json.specs.Places.{IsPositionAfter}
 use Rattle.yaml_json.proofs.stream.keep_last.Goals as goal
 
 -- The last bytes, which are moved to the front.
@@ -31,15 +31,15 @@ returns-clause-place g c =
     let start = c.len.result - c.args.count in
     let whole : held.len ≡ length held.items = omega (arith, c.deref.ensures.len, ap length c.deref.ensures.value) in
     let first : c.len.result - c.args.count ≡ length held.items - c.args.count = omega (arith, whole, c.len.ensures) in
-    moves_on held.items c.truncate.new.self.items (take start held.items) start c.args.incoming.now.reading.place c.after-incoming.result
+    moves_on held.items c.truncate.new.self.items (take start held.items) start c.args.incoming.now.reading.position c.position_after-incoming.result
     (moved_last held.items c.copy_within.new.self.items c.truncate.new.self.items start held.len c.args.count whole c.requires first
     c.copy_within.ensures.items c.truncate.ensures.items)
     refl
-    (λ front follows. subst (λ (t : List ℕ). IsPlaceAfter (front ++ take start t) c.after-incoming.result) c.deref.ensures.value
-    (c.after-incoming.ensures front follows))
+    (λ front follows. subst (λ (t : List ℕ). IsPositionAfter (front ++ take start t) c.position_after-incoming.result) c.deref.ensures.value
+    (c.position_after-incoming.ensures front follows))
 
 pub returns-then-start-eq0-clause-place : goal.returns-then-start-eq0-clause-place
 returns-then-start-eq0-clause-place g c =
     let held = c.args.incoming.now.held.items in
-    let place = c.args.incoming.now.reading.place in
+    let place = c.args.incoming.now.reading.position in
     moves_nothing held held place place refl refl

@@ -11,8 +11,8 @@ parts-init g c =
     let a = c.args in (
       c.requires,
       c.new-incoming.ensures.scanned,
-      comes_first a.settings.depth a.settings.flow a.settings.unique_names a.writer.now (g.W.Write.contents a.sink.now) (g.R.Read.remaining a.reader.now)
-          c.new-incoming.result.held.items c.new-incoming.result.reading.place c.new-incoming.ensures.nothing c.new-incoming.ensures.place c.requires,
+      comes_first a.settings.values.depth a.settings.values.flow a.settings.unique_names a.writer.now (g.W.Write.contents a.sink.now) (g.R.Read.remaining a.reader.now)
+          c.new-incoming.result.held.items c.new-incoming.result.reading.position c.new-incoming.ensures.nothing c.new-incoming.ensures.place c.requires,
       grew_itself a.writer.now,
     )
 
@@ -27,10 +27,10 @@ returns-in-Err g c =
     record {
       grows = grew.grows;
       sound = grew.sound;
-      stopped = comes_stopped s.depth s.flow s.unique_names a.writer.now start first l.incoming.held.items l.incoming.reading.place
+      stopped = comes_stopped s.values.depth s.values.flow s.unique_names a.writer.now start first l.incoming.held.items l.incoming.reading.position
           (g.R.Read.remaining l.reader) l.writer (g.W.Write.contents l.sink) c.in-Err.error
-          (λ next left. stops_by_reader s.depth s.unique_names next left c.in-Err.error c.in-Err.ensures)
-          (nowhere_by_reader s.depth c.in-Err.error c.in-Err.ensures) l.invariant.2;
+          (λ next left. stops_by_reader s.values.depth s.unique_names next left c.in-Err.error c.in-Err.ensures)
+          (nowhere_by_reader s.values.depth c.in-Err.error c.in-Err.ensures) l.invariant.2;
     }
 
 pub parts-preserved : goal.parts-preserved
@@ -41,16 +41,16 @@ parts-preserved g c =
     let start = g.W.Write.contents a.sink.now in
     let first = g.R.Read.remaining a.reader.now in
     let later = g.R.Read.remaining c.read_more.new.reader in
-    let comes = more_came s.depth s.flow s.unique_names a.writer.now start first l.incoming c.read_more.new.incoming (g.R.Read.remaining l.reader) later
+    let comes = more_came s.values.depth s.values.flow s.unique_names a.writer.now start first l.incoming c.read_more.new.incoming (g.R.Read.remaining l.reader) later
     l.writer (g.W.Write.contents l.sink) c.in-Ok-true.ensures.come c.in-Ok-true.ensures.place l.invariant.2 in
-    let done = complete_given s.depth s.flow s.unique_names a.writer.now start first c.read_more.new.incoming.held.items
-    c.write_complete.new.incoming.held.items c.read_more.new.incoming.reading.place c.write_complete.new.incoming.reading.place later l.writer
+    let done = complete_given s.values.depth s.values.flow s.unique_names a.writer.now start first c.read_more.new.incoming.held.items
+    c.write_complete.new.incoming.held.items c.read_more.new.incoming.reading.position c.write_complete.new.incoming.reading.position later l.writer
     c.write_complete.new.writer (g.W.Write.contents l.sink) (g.W.Write.contents c.write_complete.new.sink) c.in_default.ensures.advances
     c.in_default.ensures.place comes in (
       c.in_default.ensures.bare,
       c.in_default.ensures.scanned,
-      comes_kept s.depth s.flow s.unique_names a.writer.now start first c.write_complete.new.incoming.held.items
-          c.write_complete.new.incoming.reading.place later c.write_complete.new.writer (g.W.Write.contents c.write_complete.new.sink)
+      comes_kept s.values.depth s.values.flow s.unique_names a.writer.now start first c.write_complete.new.incoming.held.items
+          c.write_complete.new.incoming.reading.position later c.write_complete.new.writer (g.W.Write.contents c.write_complete.new.sink)
           (g.W.Write.contents c.flush.new.self) c.flush.ensures.bytes done,
       grew_then a.writer.now l.writer c.write_complete.new.writer None l.invariant.3 c.in_default.ensures.grew,
     )
@@ -66,9 +66,9 @@ returns-in-Ok-false g c =
     let held = c.read_more.new.incoming.held.items in
     let end = c.in-Ok-false.ensures.end c.in-Ok-false.field-0-test in
     let scanned = subst (λ (i : Incoming g.row.A.Denot). IsScanned i) (sym end.1) l.invariant.1 in
-    let comes = more_came s.depth s.flow s.unique_names a.writer.now start first l.incoming c.read_more.new.incoming (g.R.Read.remaining l.reader) later
+    let comes = more_came s.values.depth s.values.flow s.unique_names a.writer.now start first l.incoming c.read_more.new.incoming (g.R.Read.remaining l.reader) later
     l.writer (g.W.Write.contents l.sink) c.in-Ok-false.ensures.come c.in-Ok-false.ensures.place l.invariant.2 in
-    ends_sending s a.writer.now start held c.read_more.new.incoming.reading.place later l.writer (g.W.Write.contents l.sink) end.0
+    ends_sending s a.writer.now start held c.read_more.new.incoming.reading.position later l.writer (g.W.Write.contents l.sink) end.0
     c.read_more.new.incoming.reading.cut scanned.0 scanned.1 c.write_last-answer.result c.write_last-answer.new.writer first l.invariant.3
     c.write_last-answer.ensures c.promised.ensures.stands.texts comes
 
@@ -81,14 +81,14 @@ returns-in-Err-write_complete g c =
     let first = g.R.Read.remaining a.reader.now in
     let later = g.R.Read.remaining c.read_more.new.reader in
     let error = c.in-Err-write_complete.error in
-    let comes = more_came s.depth s.flow s.unique_names a.writer.now start first l.incoming c.read_more.new.incoming (g.R.Read.remaining l.reader) later
+    let comes = more_came s.values.depth s.values.flow s.unique_names a.writer.now start first l.incoming c.read_more.new.incoming (g.R.Read.remaining l.reader) later
     l.writer (g.W.Write.contents l.sink) c.in-Ok-true.ensures.come c.in-Ok-true.ensures.place l.invariant.2 in
     let grew = grew_then a.writer.now l.writer c.write_complete.new.writer (emitter_error error) l.invariant.3 c.in-Err-write_complete.ensures.grew in
     record {
       grows = grew.grows;
       sound = grew.sound;
-      stopped = complete_stopped s.depth s.flow s.unique_names a.writer.now start first c.read_more.new.incoming.held.items
-          c.read_more.new.incoming.reading.place later l.writer
+      stopped = complete_stopped s.values.depth s.values.flow s.unique_names a.writer.now start first c.read_more.new.incoming.held.items
+          c.read_more.new.incoming.reading.position later l.writer
           (g.W.Write.contents l.sink) (g.W.Write.contents c.write_complete.new.sink) error c.write_complete.new.writer
           c.in-Err-write_complete.ensures.stops comes;
     }
@@ -101,20 +101,20 @@ returns-in-Err-flush g c =
     let start = g.W.Write.contents a.sink.now in
     let first = g.R.Read.remaining a.reader.now in
     let later = g.R.Read.remaining c.read_more.new.reader in
-    let comes = more_came s.depth s.flow s.unique_names a.writer.now start first l.incoming c.read_more.new.incoming (g.R.Read.remaining l.reader) later
+    let comes = more_came s.values.depth s.values.flow s.unique_names a.writer.now start first l.incoming c.read_more.new.incoming (g.R.Read.remaining l.reader) later
     l.writer (g.W.Write.contents l.sink) c.in-Ok-true.ensures.come c.in-Ok-true.ensures.place l.invariant.2 in
     let held = c.write_complete.new.incoming.held.items in
     let writer = c.write_complete.new.writer in
-    let done = complete_given s.depth s.flow s.unique_names a.writer.now start first c.read_more.new.incoming.held.items held
-    c.read_more.new.incoming.reading.place c.write_complete.new.incoming.reading.place later l.writer writer
+    let done = complete_given s.values.depth s.values.flow s.unique_names a.writer.now start first c.read_more.new.incoming.held.items held
+    c.read_more.new.incoming.reading.position c.write_complete.new.incoming.reading.position later l.writer writer
     (g.W.Write.contents l.sink) (g.W.Write.contents c.write_complete.new.sink) c.in_default.ensures.advances c.in_default.ensures.place comes in
     let grew = grew_then a.writer.now l.writer writer None l.invariant.3 c.in_default.ensures.grew in
     record {
       grows = grew.grows;
       sound = grew.sound;
-      stopped = comes_stopped s.depth s.flow s.unique_names a.writer.now start first held c.write_complete.new.incoming.reading.place later writer
+      stopped = comes_stopped s.values.depth s.values.flow s.unique_names a.writer.now start first held c.write_complete.new.incoming.reading.position later writer
           (g.W.Write.contents c.flush.new.self) (faults.WriteFailed c.in-Err-flush.error) (λ next left. refl) (λ front part. tt)
-          (comes_kept s.depth s.flow s.unique_names a.writer.now start first held c.write_complete.new.incoming.reading.place later writer
+          (comes_kept s.values.depth s.values.flow s.unique_names a.writer.now start first held c.write_complete.new.incoming.reading.position later writer
           (g.W.Write.contents c.write_complete.new.sink) (g.W.Write.contents c.flush.new.self) c.flush.ensures.bytes done);
     }
 
@@ -127,8 +127,8 @@ returns g c =
     record {
       grows = grew.grows;
       sound = grew.sound;
-      stopped = comes_stopped s.depth s.flow s.unique_names a.writer.now (g.W.Write.contents a.sink.now) (g.R.Read.remaining a.reader.now)
-          l.incoming.held.items l.incoming.reading.place (g.R.Read.remaining l.reader) l.writer (g.W.Write.contents l.sink)
+      stopped = comes_stopped s.values.depth s.values.flow s.unique_names a.writer.now (g.W.Write.contents a.sink.now) (g.R.Read.remaining a.reader.now)
+          l.incoming.held.items l.incoming.reading.position (g.R.Read.remaining l.reader) l.writer (g.W.Write.contents l.sink)
           (faults.ReadFailed c.from.result) (λ next left. refl) (λ front part. tt) l.invariant.2;
     }
 

@@ -6,8 +6,8 @@ abbrev pub invariant-parts : goal.invariant-parts
 invariant-parts g l =
     IsBare l.writer × IsScanned l.incoming
     × IfSome (g.R.Read.remaining l.fn.reader)
-    (λ text. Comes l.settings.depth l.settings.flow l.settings.unique_names text l.fn.writer (g.W.Write.contents l.fn.sink) l.incoming.held.items
-    l.incoming.reading.place (g.R.Read.remaining l.reader) l.writer (g.W.Write.contents l.sink))
+    (λ text. Comes l.settings.values.depth l.settings.values.flow l.settings.unique_names text l.fn.writer (g.W.Write.contents l.fn.sink) l.incoming.held.items
+    l.incoming.reading.position (g.R.Read.remaining l.reader) l.writer (g.W.Write.contents l.sink))
     × Grew l.fn.writer None l.writer
 
 abbrev pub decreases-parts : goal.decreases-parts

@@ -19,8 +19,7 @@ returns-in-Err g c =
           left = tokens c.args.bytes.now;
           split = refl;
           why = (refl, c.in-Err.ensures.cases.0);
-          place = placed_no_text c.args.settings.now.depth c.args.bytes.now c.valid_up_to.result c.place_of-line.result.0 c.place_of-line.result.1
-              (c.place_of-line.ensures.line, c.place_of-line.ensures.column)
+          place = placed_no_text c.args.settings.now.values.depth c.args.bytes.now c.valid_up_to.result c.position_of-position.result c.position_of-position.ensures
               (subst (IsValidUpTo c.args.bytes.now) (sym c.valid_up_to.ensures) c.in-Err.ensures.cases.1);
           gave = wrote_nothing writer c.requires.bare;
         };
@@ -51,13 +50,13 @@ returns-in-Err-write_text_in g c =
     record {
       ready = tt;
       gives = record {
-        stopped = subst (λ (t : List ℕ). StopsInPart s.depth s.unique_names s.flow [] t was (faults.Refused error) now) c.in-Ok.ensures.cases.0
-            (part_stopped s.depth s.unique_names s.flow c.in-Ok.text.now was error now
+        stopped = subst (λ (t : List ℕ). StopsInPart s.values.depth s.unique_names s.values.flow [] t was (faults.Refused error) now) c.in-Ok.ensures.cases.0
+            (part_stopped s.values.depth s.unique_names s.values.flow c.in-Ok.text.now was error now
             (subst IsUtf8 (sym c.in-Ok.ensures.cases.0) c.in-Ok.ensures.cases.1)
-            (text_stopped s.depth s.unique_names s.flow c.in-Ok.text.now was now c.in-Err-write_text_in.stop error c.error_of.ensures.says failed.refused
+            (text_stopped s.values.depth s.unique_names s.values.flow c.in-Ok.text.now was now c.in-Err-write_text_in.stop error c.error_of.ensures.says failed.refused
             failed.failed)
-            (placed_first s.depth c.in-Ok.text.now c.in-Err-write_text_in.at error c.error_of.ensures.place
-            (placed_as s.depth c.in-Ok.text.now c.in-Ok.text.now c.in-Err-write_text_in.at c.in-Err-write_text_in.stop error c.error_of.ensures.says
+            (placed_first s.values.depth c.in-Ok.text.now c.in-Err-write_text_in.at error c.error_of.ensures.place
+            (placed_as s.values.depth c.in-Ok.text.now c.in-Ok.text.now c.in-Err-write_text_in.at c.in-Err-write_text_in.stop error c.error_of.ensures.says
             failed.place c.error_of.ensures.expected)));
         grew = grew_said was now c.in-Err-write_text_in.stop (writers_error error) c.error_of.ensures.by_writer failed.kept;
       };

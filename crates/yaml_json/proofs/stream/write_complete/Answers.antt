@@ -1,6 +1,7 @@
 use Rattle.yaml_json.proofs.Common.{ℕ, ◌-◌, drop, length, List, refl, subst, sym, HasScanned, StopsWithin}
 use Rattle.yaml_json.proofs.SendingSteps.{left_scanned, left_within, advances_left}
-use Rattle.yaml_json.specs.{Places.MovesPlace, declared.places.Place.Place}
+use Rattle.yaml_base.specs.declared.places.Position.{Position}
+use Rattle.yaml_json.specs.Places.{MovesPosition}
 use Rattle.yaml_json.proofs.stream.write_complete.Goals as goal
 
 pub write_texts-requires : goal.write_texts-requires
@@ -26,8 +27,8 @@ returns-in-Ok g c =
       bare = gave.bare;
       scanned = left_scanned slice held left.held.items c.in-Ok.count c.write_texts.new.reading.cut left.reading.cut c.as_slice-held.ensures.value
           c.keep_last.ensures.kept c.keep_last.ensures.cut gave.left;
-      place = subst (λ (place : Place). MovesPlace held left.held.items place left.reading.place) c.in-Ok.ensures.place c.keep_last.ensures.place;
-      advances = advances_left a.settings.now.depth a.settings.now.flow a.settings.now.unique_names slice a.writer.now (g.W.Write.contents a.sink.now)
+      place = subst (λ (place : Position). MovesPosition held left.held.items place left.reading.position) c.in-Ok.ensures.place c.keep_last.ensures.place;
+      advances = advances_left a.settings.now.values.depth a.settings.now.values.flow a.settings.now.unique_names slice a.writer.now (g.W.Write.contents a.sink.now)
           (drop (length slice - c.in-Ok.count) slice) c.write_texts.new.writer (g.W.Write.contents c.write_texts.new.sink) gave.advances
           held left.held.items c.in-Ok.count refl c.as_slice-held.ensures.value c.keep_last.ensures.kept;
       grew = gave.grew;
@@ -38,7 +39,7 @@ returns-in-Err g c =
     let a = c.args in
     let stopped = c.in-Err.ensures.gives in
     record {
-      stops = subst (λ (t : List ℕ). StopsWithin a.settings.now.depth a.settings.now.flow a.settings.now.unique_names t a.incoming.now.reading.place
+      stops = subst (λ (t : List ℕ). StopsWithin a.settings.now.values.depth a.settings.now.values.flow a.settings.now.unique_names t a.incoming.now.reading.position
           a.writer.now (g.W.Write.contents a.sink.now) c.in-Err.error c.write_texts.new.writer (g.W.Write.contents c.write_texts.new.sink))
           c.as_slice-held.ensures.value stopped.stops;
       grew = stopped.grew;

@@ -12,9 +12,9 @@ returns-in-Err g c =
     let held = c.args.incoming.now.held.items in
     let failed = c.in-Err.ensures.gives in
     record {
-      stopped = λ front follows. part_placed s.depth s.unique_names s.flow front held was c.in-Err.error c.shifted_by.result now c.shifted_by.ensures.says
-          (c.shifted_by.ensures.place s.depth front held follows)
-          (subst (λ (t : List ℕ). StopsInPart s.depth s.unique_names s.flow [] t was c.in-Err.error now) c.as_slice-text.ensures.value failed.stopped);
+      stopped = λ front follows. part_placed s.values.depth s.unique_names s.values.flow front held was c.in-Err.error c.shifted_by.result now c.shifted_by.ensures.says
+          (c.shifted_by.ensures.place s.values.depth front held follows)
+          (subst (λ (t : List ℕ). StopsInPart s.values.depth s.unique_names s.values.flow [] t was c.in-Err.error now) c.as_slice-text.ensures.value failed.stopped);
       grew = subst (λ (found : Option yaml_error_t). Grew was found now) (sym c.shifted_by.ensures.by_emitter) failed.grew;
     }
 

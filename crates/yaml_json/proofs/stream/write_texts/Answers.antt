@@ -6,7 +6,7 @@ use Rattle.yaml_json.{specs.Failing.Grew, specs.Sent.StopsInPart, specs.Sent.emi
 use Rattle.yaml_json.proofs.SentParts.{part_placed}
 use Rattle.yaml_json.proofs.Growing.{grew_itself, grew_then, grew_kept}
 use Rattle.yaml_json.proofs.SendingSteps.{whole_suffix, suffix_on, advances_none, advances_same, stops_at_first, advances_on, stops_next}
-use Rattle.yaml_json.specs.Places.{IsPlaceAfter}
+use Rattle.yaml_json.specs.Places.{IsPositionAfter}
 use Rattle.yaml_json.proofs.stream.write_texts.Goals as goal
 
 pub texts-init : goal.texts-init
@@ -17,7 +17,7 @@ texts-init g c =
       c.requires.scanned,
       suffix.0,
       suffix.1,
-      advances_none a.settings.now.depth a.settings.now.flow a.settings.now.unique_names a.held.now a.writer.now (g.W.Write.contents a.sink.now)
+      advances_none a.settings.now.values.depth a.settings.now.values.flow a.settings.now.unique_names a.held.now a.writer.now (g.W.Write.contents a.sink.now)
           a.held.now refl,
       c.new-room.ensures,
       grew_itself a.writer.now,
@@ -43,7 +43,7 @@ texts-preserved g c =
     let gave = c.in_default-write_bytes.ensures.gives in
     let named = subst (λ (t : List ℕ). a.settings.now.unique_names ≡ true → NamesOnce [] (tokens t)) c.split_at.ensures.front gave.given.names in
     let readable = subst IsUtf8 c.split_at.ensures.front gave.utf8 in
-    let wrote = subst (λ (t : List ℕ). WroteText a.settings.now.depth a.settings.now.flow t l.writer c.write_bytes.new.writer) c.split_at.ensures.front
+    let wrote = subst (λ (t : List ℕ). WroteText a.settings.now.values.depth a.settings.now.values.flow t l.writer c.write_bytes.new.writer) c.split_at.ensures.front
     gave.given.written in
     let suffix = suffix_on a.held.now l.rest.now c.split_at.result.1.now c.in-Some.end l.invariant.2 l.invariant.3 (omega (arith, within))
     c.split_at.ensures.back in (
@@ -51,9 +51,9 @@ texts-preserved g c =
       c.new_cut-reading.ensures c.split_at.result.1.now,
       suffix.0,
       suffix.1,
-      advances_same a.settings.now.depth a.settings.now.flow a.settings.now.unique_names a.held.now a.writer.now (g.W.Write.contents a.sink.now)
+      advances_same a.settings.now.values.depth a.settings.now.values.flow a.settings.now.unique_names a.held.now a.writer.now (g.W.Write.contents a.sink.now)
           (drop c.in-Some.end l.rest.now) c.begin_next.new.writer (g.W.Write.contents c.begin_next.new.sink)
-          (advances_on a.settings.now.depth a.settings.now.flow a.settings.now.unique_names a.held.now a.writer.now (g.W.Write.contents a.sink.now)
+          (advances_on a.settings.now.values.depth a.settings.now.values.flow a.settings.now.unique_names a.held.now a.writer.now (g.W.Write.contents a.sink.now)
           l.rest.now l.writer (g.W.Write.contents l.sink) l.invariant.4 c.in-Some.end cuts c.write_bytes.new.writer named readable wrote c.begin_next.new.writer
           (g.W.Write.contents c.begin_next.new.sink) next)
           c.split_at.result.1.now (sym c.split_at.ensures.back),
@@ -79,11 +79,11 @@ returns-in-Err g c =
     record {
       place = l.invariant.7;
       gives = record {
-        stops = stops_at_first s.depth s.flow s.unique_names a.held.now a.writer.now (g.W.Write.contents a.sink.now) l.rest.now l.writer
-            (g.W.Write.contents l.sink) l.invariant.4 c.in-Some.end c.in-Some.ensures a.reading.now.place error now done parts
-            (λ front follows. part_placed s.depth s.unique_names s.flow (front ++ done) first l.writer c.in-Err.error error now c.shifted_by.ensures.says
-            (c.shifted_by.ensures.place s.depth (front ++ done) first (c.after.ensures front (subst (IsPlaceAfter front) (sym l.invariant.7) follows)))
-            (subst (λ (t : List ℕ). StopsInPart s.depth s.unique_names s.flow [] t l.writer c.in-Err.error now) c.split_at.ensures.front
+        stops = stops_at_first s.values.depth s.values.flow s.unique_names a.held.now a.writer.now (g.W.Write.contents a.sink.now) l.rest.now l.writer
+            (g.W.Write.contents l.sink) l.invariant.4 c.in-Some.end c.in-Some.ensures a.reading.now.position error now done parts
+            (λ front follows. part_placed s.values.depth s.unique_names s.values.flow (front ++ done) first l.writer c.in-Err.error error now c.shifted_by.ensures.says
+            (c.shifted_by.ensures.place s.values.depth (front ++ done) first (c.position_after.ensures front (subst (IsPositionAfter front) (sym l.invariant.7) follows)))
+            (subst (λ (t : List ℕ). StopsInPart s.values.depth s.unique_names s.values.flow [] t l.writer c.in-Err.error now) c.split_at.ensures.front
             c.in-Err.ensures.gives.stopped));
         grew = grew_then a.writer.now l.writer now (emitter_error error) l.invariant.6
             (subst (λ (found : Option yaml_error_t). Grew l.writer found now) (sym c.shifted_by.ensures.by_emitter) c.in-Err.ensures.gives.grew);
@@ -100,12 +100,12 @@ returns-in-Err-begin_next g c =
     let gave = c.in_default-write_bytes.ensures.gives in
     let named = subst (λ (t : List ℕ). s.unique_names ≡ true → NamesOnce [] (tokens t)) c.split_at.ensures.front gave.given.names in
     let readable = subst IsUtf8 c.split_at.ensures.front gave.utf8 in
-    let wrote = subst (λ (t : List ℕ). WroteText s.depth s.flow t l.writer given) c.split_at.ensures.front gave.given.written in
+    let wrote = subst (λ (t : List ℕ). WroteText s.values.depth s.values.flow t l.writer given) c.split_at.ensures.front gave.given.written in
     record {
       place = l.invariant.7;
       gives = record {
-        stops = stops_next s.depth s.flow s.unique_names a.held.now a.writer.now (g.W.Write.contents a.sink.now) l.rest.now l.writer
-            (g.W.Write.contents l.sink) l.invariant.4 c.in-Some.end c.in-Some.ensures given named readable wrote a.reading.now.place error
+        stops = stops_next s.values.depth s.values.flow s.unique_names a.held.now a.writer.now (g.W.Write.contents a.sink.now) l.rest.now l.writer
+            (g.W.Write.contents l.sink) l.invariant.4 c.in-Some.end c.in-Some.ensures given named readable wrote a.reading.now.position error
             c.begin_next.new.writer (g.W.Write.contents c.begin_next.new.sink) c.in-Err-begin_next.ensures.failed;
         grew = grew_then a.writer.now l.writer c.begin_next.new.writer (emitter_error error) l.invariant.6
             (grew_then l.writer given c.begin_next.new.writer (emitter_error error) (grew_kept l.writer given gave.given.kept)
@@ -125,7 +125,7 @@ returns-clause-gives g c =
         scanned = subst (λ (t : List ℕ). HasScanned t c.find_end.new.cut) (sym l.invariant.3) c.in_default.ensures.0;
         all = c.in_default.ensures.1 ∙ ap length (sym l.invariant.3);
       };
-      advances = advances_same a.settings.now.depth a.settings.now.flow a.settings.now.unique_names a.held.now a.writer.now
+      advances = advances_same a.settings.now.values.depth a.settings.now.values.flow a.settings.now.unique_names a.held.now a.writer.now
           (g.W.Write.contents a.sink.now) l.rest.now l.writer (g.W.Write.contents l.sink) l.invariant.4 rest (sym l.invariant.3);
       grew = l.invariant.6;
     }

@@ -10,19 +10,19 @@ returns-in-Err g c =
     let text = c.args.text.now in
     let error = c.error_of.result in
     let failed = c.in-Err.ensures in
-    let stopped = text_stopped s.depth s.unique_names s.flow text c.args.writer.now c.write_text_by.new.writer c.in-Err.stop error c.error_of.ensures.says
+    let stopped = text_stopped s.values.depth s.unique_names s.values.flow text c.args.writer.now c.write_text_by.new.writer c.in-Err.stop error c.error_of.ensures.says
     failed.refused failed.failed in
     record {
       grows = failed.kept.grows;
       sound = said_as c.args.writer.now c.write_text_by.new.writer c.in-Err.stop (writers_error error) c.error_of.ensures.by_writer failed.kept;
-      refused = why_no_json s.depth s.unique_names text error
-          (explained s.depth s.unique_names s.flow text c.args.writer.now c.write_text_by.new.writer error stopped);
+      refused = why_no_json s.values.depth s.unique_names text error
+          (explained s.values.depth s.unique_names s.values.flow text c.args.writer.now c.write_text_by.new.writer error stopped);
       stopped = stopped;
       place = (
         c.in-Err.at,
         (
           c.error_of.ensures.place,
-          placed_as s.depth text text c.in-Err.at c.in-Err.stop error c.error_of.ensures.says failed.place
+          placed_as s.values.depth text text c.in-Err.at c.in-Err.stop error c.error_of.ensures.says failed.place
               c.error_of.ensures.expected,
         ),
       );

@@ -24,7 +24,7 @@ returns-in-Err g c =
     let now = c.write_only_value.new.writer in
     let stop = c.in-Err.stop in
     let stopped = λ (by_text : IsByText stop). subst
-    (λ (all : List Token). TextStopsWriting s.depth s.unique_names s.flow all reader.before c.args.writer.now stop now) c.new-tokens.ensures.ahead
+    (λ (all : List Token). TextStopsWriting s.values.depth s.unique_names s.values.flow all reader.before c.args.writer.now stop now) c.new-tokens.ensures.ahead
     (failed.refused by_text) in
     let from = subst (λ (t : List ℕ). AreFrom t reader.before c.last_offset.result) (c.in-Err.ensures.text ∙ c.new-tokens.ensures.text)
     c.last_offset.ensures in
@@ -32,7 +32,7 @@ returns-in-Err g c =
       ready = tt;
       gives = record {
         refused = λ by_text. (reader.before, stopped by_text);
-        place = λ by_text. stops_at_lexeme s.depth s.unique_names s.flow text reader.before c.args.writer.now now c.last_offset.result
+        place = λ by_text. stops_at_lexeme s.values.depth s.unique_names s.values.flow text reader.before c.args.writer.now now c.last_offset.result
             c.offset_of-at.result from stop (stopped by_text) c.offset_of-at.ensures;
         unopened = failed.unopened;
         kept = failed.kept;

@@ -18,10 +18,10 @@ returns-in-Err g c =
     let unwritten = c.in-Err.ensures in
     record {
       refused = unwritten.refused;
-      why = explained s.depth s.unique_names s.flow text first.writer now error unwritten.stopped;
+      why = explained s.values.depth s.unique_names s.values.flow text first.writer now error unwritten.stopped;
       failed = if_some (writers_error error)
-          (λ code. text_failed (seen_settings s.writer) s.flow s.depth text first.writer now code first.ensures.made c.promised.ensures.stands)
-          (writer_failed s.depth s.unique_names s.flow text first.writer now error unwritten.stopped unwritten.sound);
+          (λ code. text_failed (seen_settings s.values.emitter) s.values.flow s.values.depth text first.writer now code first.ensures.made c.promised.ensures.stands)
+          (writer_failed s.values.depth s.unique_names s.values.flow text first.writer now error unwritten.stopped unwritten.sound);
       place = unwritten.place;
     }
 
@@ -31,7 +31,7 @@ returns-in-Ok-finish g c =
     let first = c.in-Ok in
     let wrote = c.in_default-write_json.ensures in
     record {
-      stream = yaml_of (seen_settings s.writer) s.flow s.depth c.args.text.now c.in-Ok-finish.bytes.items first.writer c.write_json.new.writer
+      stream = yaml_of (seen_settings s.values.emitter) s.values.flow s.values.depth c.args.text.now c.in-Ok-finish.bytes.items first.writer c.write_json.new.writer
           first.ensures.made wrote.written c.promised-2.ensures.stands.texts c.in-Ok-finish.ensures.finishes;
       names = wrote.names;
     }
@@ -45,7 +45,7 @@ returns-in-Err-finish g c =
     record {
       refused = λ denied. absurd denied;
       why = tt;
-      failed = finish_failed (seen_settings s.writer) s.flow s.depth c.args.text.now first.writer now c.in-Err-finish.error first.ensures.made
+      failed = finish_failed (seen_settings s.values.emitter) s.values.flow s.values.depth c.args.text.now first.writer now c.in-Err-finish.error first.ensures.made
           c.promised-2.ensures.stands written (c.in-Err-finish.ensures.unfinished (bare_awaits_none now written.wrote.bare));
       place = (0, (tt, tt));
     }

@@ -17,13 +17,13 @@ returns-then-len-settings g c =
 pub returns-in-Err : goal.returns-in-Err
 returns-in-Err g c =
     let a = c.args in
-    let room : length a.nest.now.kinds.items < a.settings.now.depth = grind (arith, c.requires.fits.0) in
+    let room : length a.nest.now.kinds.items < a.settings.now.values.depth = grind (arith, c.requires.fits.0) in
     opener_without_room a.settings.now a.kind a.nest.now _ a.writer.now room
 
 pub returns-in-Err-push : goal.returns-in-Err-push
 returns-in-Err-push g c =
     let a = c.args in
-    let room : length a.nest.now.kinds.items < a.settings.now.depth = grind (arith, c.requires.fits.0) in
+    let room : length a.nest.now.kinds.items < a.settings.now.values.depth = grind (arith, c.requires.fits.0) in
     opener_without_room a.settings.now a.kind a.nest.now _ a.writer.now room
 
 pub returns-in-Ok : goal.returns-in-Ok
@@ -31,7 +31,7 @@ returns-in-Ok g c =
     let a = c.args in
     let fits = c.requires.fits in
     let entered = c.in_default.ensures in
-    let room : length a.nest.now.kinds.items < a.settings.now.depth = grind (arith, fits.0) in
+    let room : length a.nest.now.kinds.items < a.settings.now.values.depth = grind (arith, fits.0) in
     let more : length c.push.new.self.items ≡ length a.nest.now.kinds.items + 1 =
     ap length c.in-Ok.ensures.items ∙ length-append a.nest.now.kinds.items (a.kind ∷ []) in
     let as_many = λ (kept : c.enter.new.self.are_kept ≡ true). let was = sym entered.kept ∙ kept in

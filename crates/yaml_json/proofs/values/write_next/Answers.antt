@@ -56,7 +56,7 @@ returns-then-not-new-clause-steps g c =
     c.in-Ok.ensures.first ∙ ap (λ (t : Token). token_of t ∷ c.next_token.new.reader.ahead) c.in-Key.is in
     let old : c.in-Ok-add.new ≡ false = grind arith in
     walk_refused a.settings.now a.reader.now c.next_token.new.reader (at a.nest.now a.writer.now) _ stops.NameAgain tt
-    (again_stopped a.settings.now.depth a.settings.now.unique_names a.settings.now.flow a.nest.now.kinds.items inner.outer a.nest.now.names
+    (again_stopped a.settings.now.values.depth a.settings.now.unique_names a.settings.now.values.flow a.nest.now.kinds.items inner.outer a.nest.now.names
     c.requires.fits.1 a.reader.now.ahead a.writer.now a.writer.now refl c.next_token.new.reader.before c.in-Ok.ensures.before is c.in-Key.key.now
     c.next_token.new.reader.ahead first c.add.new.self c.in-Ok-add.ensures.kept c.in-Ok-add.new c.in-Ok-add.ensures.adds old)
     tt
@@ -115,7 +115,7 @@ returns-in-String-clause-steps g c =
     let first : a.reader.now.ahead ≡ tokens.string text ∷ c.next_token.new.reader.ahead =
     c.in-Ok.ensures.first ∙ ap (λ (t : Token). token_of t ∷ c.next_token.new.reader.ahead) c.in-String.is in
     walk_refused a.settings.now a.reader.now c.next_token.new.reader (at a.nest.now a.writer.now) a.nest.now (stops.NotJson PastString) tt
-    (string_stopped a.settings.now.depth a.settings.now.unique_names a.settings.now.flow a.nest.now.kinds.items inner.outer a.nest.now.names
+    (string_stopped a.settings.now.values.depth a.settings.now.unique_names a.settings.now.values.flow a.nest.now.kinds.items inner.outer a.nest.now.names
     c.requires.fits.1 a.reader.now.ahead a.writer.now a.writer.now refl c.next_token.new.reader.before c.in-Ok.ensures.before is text
     c.next_token.new.reader.ahead first)
     tt
@@ -129,7 +129,7 @@ returns-in_default-clause-steps g c =
     let other = closes_not token a.kind (sym c.closes.ensures ∙ c.if-closes.false) in
     let no_end = λ (end : token ≡ tokens.end_object). other (end ∙ ap closer (sym c.in-Mapping.is)) in
     walk_refused a.settings.now a.reader.now c.next_token.new.reader (at a.nest.now a.writer.now) a.nest.now (stops.NotJson At) tt
-    (member_stopped a.settings.now.depth a.settings.now.unique_names a.settings.now.flow a.nest.now.kinds.items inner.outer a.nest.now.names
+    (member_stopped a.settings.now.values.depth a.settings.now.unique_names a.settings.now.values.flow a.nest.now.kinds.items inner.outer a.nest.now.names
     c.requires.fits.1 a.reader.now.ahead a.writer.now a.writer.now refl c.next_token.new.reader.before c.in-Ok.ensures.before is token
     c.next_token.new.reader.ahead c.in-Ok.ensures.first (no_name c.in-Ok.token c.in_default.not-Key, no_end)
     (no_string c.in-Ok.token c.next_token.new.reader.ahead c.in_default.not-Key c.in_default.not-String))

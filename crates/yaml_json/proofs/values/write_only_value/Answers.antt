@@ -51,9 +51,9 @@ returns-else-is_at_end-clause-steps g c =
     let step = c.in_default.ensures.steps in
     let last = step.last in
     record {
-      refused = λ by_text. past_stopped c.write_value.new.reader.ahead s.depth s.unique_names s.flow a.reader.now.ahead
+      refused = λ by_text. past_stopped c.write_value.new.reader.ahead s.values.depth s.unique_names s.values.flow a.reader.now.ahead
           c.write_value.new.reader.before last.front last.last a.writer.now now step.written
-          (value_names s.depth s.unique_names a.reader.now.ahead c.write_value.new.reader.ahead step.written.json step.written.read step.names)
+          (value_names s.values.depth s.unique_names a.reader.now.ahead c.write_value.new.reader.ahead step.written.json step.written.read step.names)
           last.parts last.were (c.is_at_end.ensures.more c.if-is_at_end.false);
       unopened = λ some. absurd (false≢true some);
       kept = kept_then a.writer.now now now (Err (stops.NotJson PastValue)) step.kept (kept_same now now (stops.NotJson PastValue) refl tt);

@@ -82,13 +82,13 @@ pub returns-in-Key : goal.returns-in-Key
 returns-in-Key g c =
     let a = c.args in
     refused_step a.settings.now (token_of a.token) a.nest.now a.writer.now PastString
-    (subst (λ (t : Token). RefusesToken a.settings.now.depth a.nest.now.kinds.items (token_of t) (stops.NotJson PastString)) (sym c.in-Key.is)
-    (name_refused a.settings.now.depth a.nest.now.kinds.items c.in-Key.field-0.now))
+    (subst (λ (t : Token). RefusesToken a.settings.now.values.depth a.nest.now.kinds.items (token_of t) (stops.NotJson PastString)) (sym c.in-Key.is)
+    (name_refused a.settings.now.values.depth a.nest.now.kinds.items c.in-Key.field-0.now))
 
 pub returns-in_default : goal.returns-in_default
 returns-in_default g c =
     let a = c.args in
     let isn't = c.in_default in
     refused_step a.settings.now (token_of a.token) a.nest.now a.writer.now At
-    (token_refused a.settings.now.depth a.nest.now.kinds.items a.token isn't.not-Null isn't.not-Bool isn't.not-Number isn't.not-String isn't.not-BeginArray
+    (token_refused a.settings.now.values.depth a.nest.now.kinds.items a.token isn't.not-Null isn't.not-Bool isn't.not-Number isn't.not-String isn't.not-BeginArray
     isn't.not-BeginObject isn't.not-Key)

@@ -13,17 +13,17 @@ returns-in-Err-clause-steps g c =
     let now = c.write_first.new.writer in
     let stop = c.in-Err.stop in
     let step = c.in-Err.ensures.steps in
-    let refuses = subst (λ (levels : List CollectionKind). RefusesFirst s.depth levels a.reader.now.ahead stop) c.requires.none.0 step.refused in
+    let refuses = subst (λ (levels : List CollectionKind). RefusesFirst s.values.depth levels a.reader.now.ahead stop) c.requires.none.0 step.refused in
     record {
-      refused = λ by_text. first_stopped_writing s.depth s.unique_names s.flow a.reader.now.ahead c.write_first.new.reader.before
+      refused = λ by_text. first_stopped_writing s.values.depth s.unique_names s.values.flow a.reader.now.ahead c.write_first.new.reader.before
           c.in-Err.ensures.before a.writer.now now stop refuses
-          (gave_no_more s.flow [] a.writer.now now (step.same by_text) a.writer.now [] (stood_nothing s.flow a.writer.now c.requires.bare));
+          (gave_no_more s.values.flow [] a.writer.now now (step.same by_text) a.writer.now [] (stood_nothing s.values.flow a.writer.now c.requires.bare));
       unopened = λ some sound fewer. step.unmoved sound;
       kept = step.kept;
       failed = if_some (failure_of now stop)
-          (λ error. first_failed s.depth s.flow a.reader.now.ahead a.writer.now error now c.requires.bare)
+          (λ error. first_failed s.values.depth s.values.flow a.reader.now.ahead a.writer.now error now c.requires.bare)
           (subst (λ (levels : List CollectionKind). IfSome (failure_of now stop)
-          (λ error. FirstFailed s.depth s.flow a.reader.now.ahead levels a.writer.now error now))
+          (λ error. FirstFailed s.values.depth s.values.flow a.reader.now.ahead levels a.writer.now error now))
           c.requires.none.0 step.failed);
     }
 
@@ -32,9 +32,9 @@ each_token-init g c =
     let a = c.args in
     let s = a.settings.now in
     let step = c.in_default.ensures.steps in (
-      first_so_far s.depth s.flow a.reader.now.ahead a.writer.now c.write_first.new.reader.ahead c.write_first.new.nest.kinds.items
+      first_so_far s.values.depth s.values.flow a.reader.now.ahead a.writer.now c.write_first.new.reader.ahead c.write_first.new.nest.kinds.items
           c.write_first.new.writer c.requires.bare
-          (subst (λ (levels : List CollectionKind). BeganFirstValue s.depth s.flow a.reader.now.ahead levels a.writer.now
+          (subst (λ (levels : List CollectionKind). BeganFirstValue s.values.depth s.values.flow a.reader.now.ahead levels a.writer.now
           c.write_first.new.reader.ahead c.write_first.new.nest.kinds.items c.write_first.new.writer) c.requires.none.0 step.began),
       step.fits,
       names_on a.reader.now.ahead a.reader.now.ahead c.write_first.new.reader.ahead a.nest.now.names c.write_first.new.nest.names
@@ -49,7 +49,7 @@ each_token-preserved g c =
     let a = c.args in
     let l = c.each_token in
     let step = c.in_default-write_next.ensures.steps in (
-      steps_on a.settings.now.depth a.settings.now.flow a.reader.now.ahead a.writer.now l.reader.ahead l.nest.kinds.items l.writer l.invariant.0
+      steps_on a.settings.now.values.depth a.settings.now.values.flow a.reader.now.ahead a.writer.now l.reader.ahead l.nest.kinds.items l.writer l.invariant.0
           c.write_next.new.reader.ahead c.write_next.new.nest.kinds.items c.write_next.new.writer step.stepped,
       step.fits,
       names_on a.reader.now.ahead l.reader.ahead c.write_next.new.reader.ahead l.nest.names c.write_next.new.nest.names l.invariant.2 step.names,
@@ -67,14 +67,14 @@ returns-in-Err-write_next-clause-steps g c =
     let stop = c.in-Err-write_next.stop in
     let step = c.in-Err-write_next.ensures.steps in
     record {
-      refused = λ by_text. step_stopped s.depth s.flow a.reader.now.ahead a.writer.now l.reader.ahead l.nest.kinds.items l.writer l.invariant.0
+      refused = λ by_text. step_stopped s.values.depth s.values.flow a.reader.now.ahead a.writer.now l.reader.ahead l.nest.kinds.items l.writer l.invariant.0
           s.unique_names l.nest.names l.invariant.2 stop now c.write_next.new.reader.before (step.refused by_text);
       unopened = λ some sound fewer. absurd
-          (open_within s.depth s.flow a.reader.now.ahead a.writer.now l.reader.ahead l.nest.kinds.items l.writer l.invariant.0
+          (open_within s.values.depth s.values.flow a.reader.now.ahead a.writer.now l.reader.ahead l.nest.kinds.items l.writer l.invariant.0
           c.in-Some.ensures.outer c.in-Some.kind c.in-Some.ensures.is now (step.level sound) fewer);
       kept = kept_then a.writer.now l.writer now (Err stop) l.invariant.3 step.kept;
       failed = if_some (failure_of now stop)
-          (λ error. step_failed s.depth s.flow a.reader.now.ahead a.writer.now l.reader.ahead l.nest.kinds.items l.writer l.invariant.0 error now)
+          (λ error. step_failed s.values.depth s.values.flow a.reader.now.ahead a.writer.now l.reader.ahead l.nest.kinds.items l.writer l.invariant.0 error now)
           step.failed;
     }
 
@@ -87,7 +87,7 @@ returns-clause-steps g c =
     let fits = l.invariant.1.1 in
     record {
       none = (none, fits.0, λ kept. no_item l.nest.names.levels.items (fits.1 kept ∙ ap length none));
-      written = all_written s.depth s.flow a.reader.now.ahead a.writer.now l.reader.ahead l.nest.kinds.items l.writer l.invariant.0 none;
+      written = all_written s.values.depth s.values.flow a.reader.now.ahead a.writer.now l.reader.ahead l.nest.kinds.items l.writer l.invariant.0 none;
       names = names_done s.unique_names l.nest.kinds.items a.reader.now.ahead l.reader.ahead l.nest.names l.invariant.2 fits;
       last = l.invariant.5;
       kept = l.invariant.3;
