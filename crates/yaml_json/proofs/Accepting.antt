@@ -57,10 +57,6 @@ stream_sound canonical in_flow json = stream_of_sound canonical (json_events can
 mutual
   value_stays : (json : Json) (canonical in_flow : Bool) (most now : ℕ) (rest : List Event) → now + nesting json ≤ most → Stays most now rest
       → Stays most now (json_events canonical in_flow json ++ rest)
-  value_stays null canonical in_flow most now rest fits later = (omega (arith, fits), later)
-  value_stays (boolean flag) canonical in_flow most now rest fits later = (omega (arith, fits), later)
-  value_stays (number text) canonical in_flow most now rest fits later = (omega (arith, fits), later)
-  value_stays (string text) canonical in_flow most now rest fits later = (omega (arith, fits), later)
   value_stays (array inner) canonical in_flow most now rest fits later =
       let first : now ≤ most = omega (arith, fits) in
       let inside : suc now + items_nesting inner ≤ most = omega (arith, fits) in
@@ -77,6 +73,7 @@ mutual
         subst (Stays most (suc now)) (sym (append_assoc (members_events canonical in_flow inner) (mapping_end ∷ []) rest))
             (members_stay inner canonical in_flow most (suc now) (mapping_end ∷ rest) inside (second, later)),
       )
+  value_stays _ canonical in_flow most now rest fits later = (omega (arith, fits), later)
 
   items_stay : (inner : Items) (canonical in_flow : Bool) (most now : ℕ) (rest : List Event) → now + items_nesting inner ≤ most → Stays most now rest
       → Stays most now (items_events canonical in_flow inner ++ rest)

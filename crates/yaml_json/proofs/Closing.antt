@@ -12,18 +12,9 @@ use Rattle.json.specs.declared.token.Token.TheVariants as variants
 -- ---- tokens
 
 pub closes_is : (token : Token) (kind : CollectionKind) → closes token kind ≡ true → token ≡ closer kind
-closes_is Token.begin_object kind is = absurd (true≢false (sym is))
-closes_is Token.end_object Sequence is = absurd (true≢false (sym is))
 closes_is Token.end_object Mapping is = refl
-closes_is Token.begin_array kind is = absurd (true≢false (sym is))
 closes_is Token.end_array Sequence is = refl
-closes_is Token.end_array Mapping is = absurd (true≢false (sym is))
-closes_is (Token.key text) kind is = absurd (true≢false (sym is))
-closes_is (Token.string text) kind is = absurd (true≢false (sym is))
-closes_is (Token.number text) kind is = absurd (true≢false (sym is))
-closes_is (Token.boolean flag) kind is = absurd (true≢false (sym is))
-closes_is Token.null kind is = absurd (true≢false (sym is))
-closes_is Token.bad kind is = absurd (true≢false (sym is))
+closes_is _ _ is = absurd (true≢false (sym is))
 
 pub closes_not : (token : Token) (kind : CollectionKind) → closes token kind ≡ false → token ≡ closer kind → ⊥
 closes_not token Sequence isn't is = true≢false (sym (ap (λ (t : Token). closes t Sequence) is) ∙ isn't)
@@ -41,43 +32,21 @@ name_refused depth levels text = (((λ scalar. scalar), opens_none (Token.key te
 -- neither end
 pub no_closer : (token : read.Token) (kind : CollectionKind) → (token ≡ variants.EndArray → ⊥) → (token ≡ variants.EndObject → ⊥)
     → closes (token_of token) kind ≡ false
-no_closer variants.BeginObject kind isn't none = refl
 no_closer variants.EndObject kind isn't none = absurd (none refl)
-no_closer variants.BeginArray kind isn't none = refl
 no_closer variants.EndArray kind isn't none = absurd (isn't refl)
-no_closer (variants.Key text) kind isn't none = refl
-no_closer (variants.String text) kind isn't none = refl
-no_closer (variants.Number text) kind isn't none = refl
-no_closer (variants.Bool flag) kind isn't none = refl
-no_closer variants.Null kind isn't none = refl
-no_closer variants.Bad kind isn't none = refl
+no_closer _ kind isn't none = refl
 
 -- no name
 pub no_name : (token : read.Token) → ((text : Bor (List ℕ)) → token ≡ variants.Key text → ⊥) → (text : List ℕ) → token_of token ≡ Token.key text → ⊥
-no_name variants.BeginObject isn't text is = cc
-no_name variants.EndObject isn't text is = cc
-no_name variants.BeginArray isn't text is = cc
-no_name variants.EndArray isn't text is = cc
 no_name (variants.Key name) isn't text is = isn't name refl
-no_name (variants.String name) isn't text is = cc
-no_name (variants.Number name) isn't text is = cc
-no_name (variants.Bool flag) isn't text is = cc
-no_name variants.Null isn't text is = cc
-no_name variants.Bad isn't text is = cc
+no_name _ isn't text is = cc
 
 -- nor a string
 pub no_string : (token : read.Token) (after : List Token) → ((text : Bor (List ℕ)) → token ≡ variants.Key text → ⊥)
     → ((text : Bor (List ℕ)) → token ≡ variants.String text → ⊥) → NoStringNext (token_of token ∷ after)
-no_string variants.BeginObject after isn't none = tt
-no_string variants.EndObject after isn't none = tt
-no_string variants.BeginArray after isn't none = tt
-no_string variants.EndArray after isn't none = tt
 no_string (variants.Key text) after isn't none = absurd (isn't text refl)
 no_string (variants.String text) after isn't none = absurd (none text refl)
-no_string (variants.Number text) after isn't none = tt
-no_string (variants.Bool flag) after isn't none = tt
-no_string variants.Null after isn't none = tt
-no_string variants.Bad after isn't none = tt
+no_string _ after isn't none = tt
 
 -- no token with which a value begins, and no name
 pub token_refused : (depth : ℕ) (levels : List CollectionKind) (token : read.Token) → (token ≡ variants.Null → ⊥)

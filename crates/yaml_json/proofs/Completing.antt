@@ -12,15 +12,12 @@ use Rattle.yaml_base.specs.declared.kinds.CollectionKind.TheVariants.{Mapping, S
 -- A value begins with the token, and the rest goes on with these open.
 abbrev ValueThen : List CollectionKind → Token → (List CollectionKind → Type 0) → Type 0
 ValueThen kinds begin_object go = go (Mapping ∷ kinds)
-ValueThen kinds end_object go = ⊥
 ValueThen kinds begin_array go = go (Sequence ∷ kinds)
-ValueThen kinds end_array go = ⊥
-ValueThen kinds (key s) go = ⊥
 ValueThen kinds (string s) go = go kinds
 ValueThen kinds (number s) go = go kinds
 ValueThen kinds (boolean b) go = go kinds
 ValueThen kinds null go = go kinds
-ValueThen kinds bad go = ⊥
+ValueThen kinds _ go = ⊥
 
 -- an array, open within these, goes on with the token
 abbrev ItemThen : List CollectionKind → Token → (List CollectionKind → Type 0) → Type 0
@@ -29,59 +26,34 @@ ItemThen kinds end_object go = ⊥
 ItemThen kinds begin_array go = go (Sequence ∷ Sequence ∷ kinds)
 ItemThen kinds end_array go = go kinds
 ItemThen kinds (key s) go = ⊥
-ItemThen kinds (string s) go = go (Sequence ∷ kinds)
-ItemThen kinds (number s) go = go (Sequence ∷ kinds)
-ItemThen kinds (boolean b) go = go (Sequence ∷ kinds)
-ItemThen kinds null go = go (Sequence ∷ kinds)
 ItemThen kinds bad go = ⊥
+ItemThen kinds _ go = go (Sequence ∷ kinds)
 
 -- so an object
 abbrev MemberThen : List CollectionKind → Token → (Bool → List CollectionKind → Type 0) → Type 0
-MemberThen kinds begin_object go = ⊥
 MemberThen kinds end_object go = go false kinds
-MemberThen kinds begin_array go = ⊥
-MemberThen kinds end_array go = ⊥
 MemberThen kinds (key s) go = go true (Mapping ∷ kinds)
-MemberThen kinds (string s) go = ⊥
-MemberThen kinds (number s) go = ⊥
-MemberThen kinds (boolean b) go = ⊥
-MemberThen kinds null go = ⊥
-MemberThen kinds bad go = ⊥
+MemberThen kinds _ go = ⊥
 
 -- The tokens complete a value in which these are open, the innermost first. If one is owed, they begin with a value.
 abbrev pub Completes : (owed : Bool) → List CollectionKind → List Token → Type 0
-Completes true kinds [] = ⊥
 Completes true kinds (t ∷ ts) = ValueThen kinds t (λ now. Completes false now ts)
 Completes false [] [] = Unit {0}
-Completes false [] (t ∷ ts) = ⊥
-Completes false (Sequence ∷ kinds) [] = ⊥
 Completes false (Sequence ∷ kinds) (t ∷ ts) = ItemThen kinds t (λ now. Completes false now ts)
-Completes false (Mapping ∷ kinds) [] = ⊥
 Completes false (Mapping ∷ kinds) (t ∷ ts) = MemberThen kinds t (λ owed now. Completes owed now ts)
+Completes _ _ _ = ⊥
 
 -- ---- the tokens of a value do
 
 item_next : (kinds : List CollectionKind) (ts : List Token) → Completes true (Sequence ∷ kinds) ts → Completes false (Sequence ∷ kinds) ts
-item_next kinds [] so = so
-item_next kinds (begin_object ∷ ts) so = so
-item_next kinds (end_object ∷ ts) so = so
-item_next kinds (begin_array ∷ ts) so = so
 item_next kinds (end_array ∷ ts) so = absurd so
-item_next kinds (key s ∷ ts) so = so
-item_next kinds (string s ∷ ts) so = so
-item_next kinds (number s ∷ ts) so = so
-item_next kinds (boolean b ∷ ts) so = so
-item_next kinds (null ∷ ts) so = so
-item_next kinds (bad ∷ ts) so = so
+item_next kinds _ so = so
 
 mutual
   pub value_completes : (j : Json) (kinds : List CollectionKind) (ts : List Token) → Completes false kinds ts → Completes true kinds (json_tokens j ++ ts)
-  value_completes json.null kinds ts so = so
-  value_completes (json.boolean b) kinds ts so = so
-  value_completes (json.number s) kinds ts so = so
-  value_completes (json.string s) kinds ts so = so
   value_completes (json.array js) kinds ts so = items_complete js kinds ts so
   value_completes (json.object ms) kinds ts so = members_complete ms kinds ts so
+  value_completes _ kinds ts so = so
 
   items_complete : (js : Items) (kinds : List CollectionKind) (ts : List Token) → Completes false kinds ts
       → Completes false (Sequence ∷ kinds) (items_tokens js ++ ts)
@@ -135,27 +107,18 @@ member_first s kinds ts (j, (left, (is, (ms, (rest, (more, ends)))))) = (
 )
 
 completed : (owed : Bool) (kinds : List CollectionKind) (ts : List Token) → Completes owed kinds ts → EndsAfter owed kinds ts
-completed true kinds [] so = absurd so
 completed true kinds (begin_object ∷ ts) so = object_begins kinds ts (completed false (Mapping ∷ kinds) ts so)
-completed true kinds (end_object ∷ ts) so = absurd so
 completed true kinds (begin_array ∷ ts) so = array_begins kinds ts (completed false (Sequence ∷ kinds) ts so)
-completed true kinds (end_array ∷ ts) so = absurd so
-completed true kinds (key s ∷ ts) so = absurd so
 completed true kinds (string s ∷ ts) so = (json.string s, (ts, (refl, completed false kinds ts so)))
 completed true kinds (number s ∷ ts) so = (json.number s, (ts, (refl, completed false kinds ts so)))
 completed true kinds (boolean b ∷ ts) so = (json.boolean b, (ts, (refl, completed false kinds ts so)))
 completed true kinds (null ∷ ts) so = (json.null, (ts, (refl, completed false kinds ts so)))
-completed true kinds (bad ∷ ts) so = absurd so
 completed false [] [] so = refl
-completed false [] (t ∷ ts) so = absurd so
-completed false (Sequence ∷ kinds) [] so = absurd so
 completed false (Sequence ∷ kinds) (begin_object ∷ ts) so =
     item_first kinds (begin_object ∷ ts) (object_begins (Sequence ∷ kinds) ts (completed false (Mapping ∷ Sequence ∷ kinds) ts so))
-completed false (Sequence ∷ kinds) (end_object ∷ ts) so = absurd so
 completed false (Sequence ∷ kinds) (begin_array ∷ ts) so =
     item_first kinds (begin_array ∷ ts) (array_begins (Sequence ∷ kinds) ts (completed false (Sequence ∷ Sequence ∷ kinds) ts so))
 completed false (Sequence ∷ kinds) (end_array ∷ ts) so = (no_items, (ts, (refl, completed false kinds ts so)))
-completed false (Sequence ∷ kinds) (key s ∷ ts) so = absurd so
 completed false (Sequence ∷ kinds) (string s ∷ ts) so =
     item_first kinds (string s ∷ ts) (json.string s, (ts, (refl, completed false (Sequence ∷ kinds) ts so)))
 completed false (Sequence ∷ kinds) (number s ∷ ts) so =
@@ -163,18 +126,9 @@ completed false (Sequence ∷ kinds) (number s ∷ ts) so =
 completed false (Sequence ∷ kinds) (boolean b ∷ ts) so =
     item_first kinds (boolean b ∷ ts) (json.boolean b, (ts, (refl, completed false (Sequence ∷ kinds) ts so)))
 completed false (Sequence ∷ kinds) (null ∷ ts) so = item_first kinds (null ∷ ts) (json.null, (ts, (refl, completed false (Sequence ∷ kinds) ts so)))
-completed false (Sequence ∷ kinds) (bad ∷ ts) so = absurd so
-completed false (Mapping ∷ kinds) [] so = absurd so
-completed false (Mapping ∷ kinds) (begin_object ∷ ts) so = absurd so
 completed false (Mapping ∷ kinds) (end_object ∷ ts) so = (no_members, (ts, (refl, completed false kinds ts so)))
-completed false (Mapping ∷ kinds) (begin_array ∷ ts) so = absurd so
-completed false (Mapping ∷ kinds) (end_array ∷ ts) so = absurd so
 completed false (Mapping ∷ kinds) (key s ∷ ts) so = member_first s kinds ts (completed true (Mapping ∷ kinds) ts so)
-completed false (Mapping ∷ kinds) (string s ∷ ts) so = absurd so
-completed false (Mapping ∷ kinds) (number s ∷ ts) so = absurd so
-completed false (Mapping ∷ kinds) (boolean b ∷ ts) so = absurd so
-completed false (Mapping ∷ kinds) (null ∷ ts) so = absurd so
-completed false (Mapping ∷ kinds) (bad ∷ ts) so = absurd so
+completed _ _ _ so = absurd so
 
 nothing_more : (ts : List Token) → EndsAfter true [] ts → (j : Json) × (ts ≡ json_tokens j)
 nothing_more ts (j, (rest, (is, none))) = (j, is ∙ ap (λ (l : List Token). json_tokens j ++ l) none ∙ append-nil (json_tokens j))

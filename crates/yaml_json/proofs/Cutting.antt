@@ -5,7 +5,7 @@ use Rattle.yaml_json.proofs.Common.{subst, sym, ◌∙◌, arith, HasScanned, Cu
 use Rattle.std.{proofs.Common.drop-cons, proofs.lemmas.List.take-append-le, proofs.lemmas.List.take_more, specs.Str.IsCharBoundary}
 use Rattle.yaml_json.specs.{Cuts.all_onto, Cuts.Scanned, declared.cuts.Cut.Cut, declared.cuts.Mode.Mode, declared.cuts.Scan.Scan}
 use Rattle.yaml_json.specs.Texts.{scan_first_byte, scan_within, scan_in_string, onto_first, cut_text_before, texts_after}
-use Rattle.yaml_json.specs.declared.cuts.Mode.TheVariants.{AfterBackslash, Before, Behind, InString, InWord, Within}
+use Rattle.yaml_json.specs.declared.cuts.Mode.TheVariants.{Before, Behind, InString, InWord, Within}
 
 onto_one_more : (bytes : List ℕ) (byte : ℕ) (texts : List (List ℕ)) → all_onto (bytes ++ byte ∷ []) texts ≡ all_onto bytes (onto_first byte texts)
 onto_one_more [] byte texts = refl
@@ -17,11 +17,7 @@ onto_text (first ∷ bytes) text texts = ap (onto_first first) (onto_text bytes 
 
 step_few : (mode : Mode) (levels byte : ℕ) (next : Scan) → after_byte (record { mode = mode; levels = levels }) byte ≡ Some next → next.levels ≤ suc levels
 step_few Before levels byte next is = grind arith
-step_few Within levels byte next is = grind arith
-step_few InString levels byte next is = grind arith
-step_few AfterBackslash levels byte next is = grind arith
-step_few InWord levels byte next is = grind arith
-step_few Behind levels byte next is = grind arith
+step_few _ levels byte next is = grind arith
 
 module _ (done : List ℕ) (scan : Scan) (byte : ℕ) (scanned : Scanned done scan) where
   by_next : (found : Option Scan) → after_byte scan byte ≡ found → (more : List ℕ)
@@ -61,12 +57,9 @@ scan_ends done scan scanned =
 
 -- no character goes on with a byte that begins a text
 cut_outer : (mode : Mode) (levels byte : ℕ) → after_byte (record { mode = mode; levels = levels }) byte ≡ None → 128 ≤ byte → 192 ≤ byte
-cut_outer Before levels byte is high = cc
-cut_outer Within levels byte is high = cc
-cut_outer InString levels byte is high = cc
-cut_outer AfterBackslash levels byte is high = cc
 cut_outer InWord levels byte is high = grind arith
 cut_outer Behind levels byte is high = grind arith
+cut_outer _ levels byte is high = cc
 
 -- an array or an object goes on as before, and a string
 pub within_stays : (scan : Scan) (byte : ℕ) → scan.mode ≡ Within → scan_within scan.levels byte ≡ record { mode = Within; levels = scan.levels }

@@ -1,5 +1,5 @@
 -- Bytes that are no digits, sixteen at a time.
-use Rattle.std.proofs.Common.{◌≡◌, ℕ, suc, zero, ◌+◌, ◌*◌, ◌%◌, ◌^◌, ◌<◌, ◌≤◌, ltb, Bool, true, false, not, cond, List, [], ◌∷◌, map, drop, length, take}
+use Rattle.std.proofs.Common.{◌≡◌, ℕ, suc, ◌+◌, ◌*◌, ◌%◌, ◌^◌, ◌<◌, ◌≤◌, ltb, Bool, true, false, not, cond, List, [], ◌∷◌, map, drop, length, take}
 use Rattle.std.proofs.Common.{replicate, refl, ap, ap₂, ◌∙◌, arith}
 use Rattle.std.proofs.{lemmas.Bool.agree_below_at, lemmas.List.length-map}
 use Rattle.std.proofs.lemmas.Simd.{zip2_splat, zip2_of_maps, splat_is_map, map-map, mask_l-mod, trailing_mask_l, length-chunk}
@@ -40,11 +40,10 @@ one_digit false m n k some same = refl
 
 run_within : (n : ℕ) (text : List ℕ) → 0 < mask_l (map is_no_digit (take n text))
     → prefix_len (λ x. not (is_no_digit x)) (take n text) ≡ prefix_len is_ascii_digit text
-run_within zero text some = absurd (omega (arith, some))
-run_within (suc n) [] some = absurd (omega (arith, some))
 run_within (suc n) (x ∷ xs) some =
     one_digit (is_ascii_digit x) (mask_l (map is_no_digit (take n xs))) (prefix_len (λ y. not (is_no_digit y)) (take n xs)) (prefix_len is_ascii_digit xs)
     some (run_within n xs)
+run_within _ _ some = absurd (omega (arith, some))
 
 -- a vector that holds it tells its length
 pub run_told : (text : List ℕ) (from found : ℕ) → from + 16 ≤ length text → found ≡ mask_l (map is_no_digit (chunk from 16 text)) → 0 < found

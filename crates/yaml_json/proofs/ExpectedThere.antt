@@ -3,7 +3,7 @@ use Rattle.std.proofs.Common.{◌≡◌, ◌↔◌, inl, inr, ℕ, Bool, true, f
 use Rattle.std.proofs.Common.{take-append-drop}
 use Rattle.std.proofs.lemmas.Bool.{true≢false}
 use Rattle.std.proofs.lemmas.List.{append_cancel_right}
-use Rattle.json.specs.Lex.{Lexeme, Mode, between, in_escape, in_string, in_word, lex, token}
+use Rattle.json.specs.Lex.{Lexeme, Mode, between, in_word, lex, token}
 use Rattle.json.specs.Token.{bad}
 use Rattle.json.specs.Word.{ends_word}
 use Rattle.yaml_base.specs.declared.kinds.CollectionKind.{CollectionKind}
@@ -17,7 +17,7 @@ use Rattle.yaml_json.specs.Places.{ExpectedIsPossible, MayFollow}
 use Rattle.yaml_json.specs.declared.expecting.Expected.{Expected}
 use Rattle.yaml_json.specs.declared.expecting.Expected.TheVariants as expected
 use Rattle.yaml_json.specs.declared.expecting.Last.{Last}
-use Rattle.yaml_json.specs.declared.expecting.Last.TheVariants.{Nothing, Opener, Comma, Colon, First, Value}
+use Rattle.yaml_json.specs.declared.expecting.Last.TheVariants.{Nothing}
 use Rattle.yaml_json.specs.declared.expecting.Quoting.{Quoting}
 
 -- ---- the lexemes before a place
@@ -30,8 +30,7 @@ new_lexeme : (m : Mode) (t : List ℕ) → MayBegin m t → lex m t ≡ lex betw
 new_lexeme m t (inl none) = ap (lex m) none ∙ lex-none m ∙ sym (lex-none between) ∙ ap (lex between) (sym none)
 new_lexeme between t (inr may) = refl
 new_lexeme in_word t (inr may) = word_ends t may
-new_lexeme in_string t (inr may) = absurd may
-new_lexeme in_escape t (inr may) = absurd may
+new_lexeme _ t (inr may) = absurd may
 
 before_is : (front rest : List ℕ) (before : List Lexeme) → MayBegin (mode_over between front) rest
     → before ++ lex between rest ≡ lex between (front ++ rest) → before ≡ passed between front rest
@@ -42,15 +41,7 @@ before_is front rest before may parts =
 
 no_bad : (e : Expected) → names e (token bad) ≡ false
 no_bad expected.Text = refl
-no_bad expected.Value = refl
-no_bad expected.ItemOrEnd = refl
-no_bad expected.NameOrEnd = refl
-no_bad expected.Name = refl
-no_bad expected.Colon = refl
-no_bad expected.CommaOrBracket = refl
-no_bad expected.CommaOrBrace = refl
-no_bad expected.End = refl
-no_bad expected.Utf8 = refl
+no_bad _ = refl
 
 runs_good : (ls : List Lexeme) (last : Last) (kinds : List CollectionKind) → Runs last kinds ls → AreGood ls
 runs_good [] last kinds runs = tt
@@ -74,12 +65,7 @@ same = (λ x. x, λ x. x)
 blank_same : (q : Quoting) (last : Last) (kinds : List CollectionKind) (ended : Bool) (next : Option Lexeme)
     → Names (expected_by last (innermost kinds)) next ↔ Names (expected_of (standing_at q last kinds) ended) next
 blank_same q Nothing kinds true next = same
-blank_same q Nothing kinds false next = same
-blank_same q Opener kinds ended next = same
-blank_same q Comma kinds ended next = same
-blank_same q Colon kinds ended next = same
-blank_same q First kinds ended next = same
-blank_same q Value kinds ended next = same
+blank_same q _ kinds _ next = same
 
 through : {A B C : Type 0} → A ↔ B → B ↔ C → A ↔ C
 through f g = (λ x. g.0 (f.0 x), λ z. f.1 (g.1 z))

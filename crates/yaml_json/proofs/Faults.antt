@@ -16,7 +16,7 @@ use Rattle.yaml_json.specs.Places.{BeginLexemes, CannotStandAt, IsAny, IsLexemeS
 use Rattle.yaml_json.specs.Reached.{AreFrom, EndsBad, HaveTokens, Passed}
 use Rattle.yaml_json.specs.Walk.{IsBeginner, NoStringNext}
 use Rattle.yaml_json.specs.declared.tokens.Stage.{Stage}
-use Rattle.yaml_json.specs.declared.tokens.Stage.TheVariants.{Open, Behind, Owed, Over}
+use Rattle.yaml_json.specs.declared.tokens.Stage.TheVariants.{Behind, Over}
 use Rattle.yaml_json.proofs.FirstLexemes.{EndsValue, IsOfString, IsOfValue, as_string, comma_first, ends_good, first_of, of_string, of_value, some_token}
 use Rattle.yaml_json.proofs.{LexSteps.lex-none, ModeSteps.goes_on, Refusing.nothing_past}
 use Rattle.yaml_json.proofs.PunctuateSteps.{as_placed, lex-stray, put-key, put-string}
@@ -47,16 +47,12 @@ bad_begins_none taken (front, is) json begins =
 
 not_over : (text : List ℕ) (taken : List Token) (stage : Stage) (rest : List ℕ) → Passed text taken stage rest → (json : Json)
     → IsPrefix taken (json_tokens json) → stage ≡ Over → ⊥
-not_over text taken Open rest passed json begins e = cc
-not_over text taken Behind rest passed json begins e = cc
-not_over text taken Owed rest passed json begins e = cc
 not_over text taken Over rest passed json begins e = bad_begins_none taken passed json begins
+not_over text taken _ rest passed json begins e = cc
 
 ahead_is : (stage : Stage) (rest : List ℕ) → (stage ≡ Over → ⊥) → ahead stage rest ≡ punctuate (place_of stage) (lex between rest)
-ahead_is Open rest some = refl
-ahead_is Behind rest some = refl
-ahead_is Owed rest some = refl
 ahead_is Over rest some = absurd (some refl)
+ahead_is _ rest some = refl
 
 -- ---- lexemes and colons
 
@@ -74,8 +70,7 @@ less_than a b never = elim (cases_lt a b) [ inl less ↦ less | inr more ↦ abs
 
 colon_alone : (l : Lexeme) (one other : List Lexeme) → begins_colon (l ∷ one) ≡ begins_colon (l ∷ other)
 colon_alone (token t) one other = refl
-colon_alone comma one other = refl
-colon_alone colon one other = refl
+colon_alone _ one other = refl
 
 follows_first : (rest : List ℕ) (l : Lexeme) (ls more : List Lexeme) → lex between rest ≡ l ∷ ls → FollowsAs (l ∷ more) rest
 follows_first rest l ls more is e = ap begins_colon is ∙ colon_alone l ls more ∙ e
@@ -101,10 +96,9 @@ comma_head t trimmed more is = comma_first t trimmed more is
 
 no_comma_behind : (stage : Stage) (rest : List ℕ) → (stage ≡ Over → ⊥) → IsTidy stage rest → place_of stage ≡ after_value → (more : List Lexeme)
     → lex between rest ≡ comma ∷ more → ⊥
-no_comma_behind Open rest some tidy e more is = cc
 no_comma_behind Behind rest some tidy e more is = tidy.comma refl (comma_head rest tidy.trimmed more is)
-no_comma_behind Owed rest some tidy e more is = cc
 no_comma_behind Over rest some tidy e more is = absurd (some refl)
+no_comma_behind _ rest some tidy e more is = cc
 
 pub stands_here : (text : List ℕ) (taken left : List Token) (at : ℕ) → AreFrom text left at → taken ++ left ≡ tokens text → (json : Json)
     → IsPrefix taken (json_tokens json) → StandsHere text taken left at
@@ -191,9 +185,8 @@ string_may p s false ts may so =
 as_read : (p : Place) (s : List ℕ) (l : Lexeme) (ls : List Lexeme) (b : Bool) → may_begin p ≡ true → begins_colon (l ∷ ls) ≡ b
     → (u : List Token) × (punctuate p (token (string s) ∷ l ∷ ls) ≡ as_string b s ∷ u)
 as_read p s colon ls true may e = (punctuate fresh ls, put-key p s ls may)
-as_read p s (token t) ls true may e = absurd (true≢false (sym e))
-as_read p s comma ls true may e = absurd (true≢false (sym e))
 as_read p s l ls false may e = (punctuate after_value (l ∷ ls), put-string p s (l ∷ ls) may e)
+as_read p s _ ls true may e = absurd (true≢false (sym e))
 
 abbrev not_bool : Bool → Bool
 not_bool true = false

@@ -93,32 +93,25 @@ placed_some p begin_object b k e = allowed_some (may_begin p) begin_object k fre
 placed_some p end_object b k e = allowed_some (may_close p) end_object k after_value e
 placed_some p begin_array b k e = allowed_some (may_begin p) begin_array k fresh e
 placed_some p end_array b k e = allowed_some (may_close p) end_array k after_value e
-placed_some p (key s) b k e = cc
 placed_some p (string s) true k e = allowed_some (may_begin p) (key s) k after_key e
 placed_some p (string s) false k e = allowed_some (may_begin p) (string s) k after_value e
 placed_some p (number s) b k e = allowed_some (may_begin p) (number s) k after_value e
 placed_some p (boolean v) b k e = allowed_some (may_begin p) (boolean v) k after_value e
 placed_some p null b k e = allowed_some (may_begin p) null k after_value e
-placed_some p bad b k e = cc
+placed_some p _ b k e = cc
 
 pub some_after_comma : (ls : List Lexeme) → punctuate after_comma ls ≡ [] → ⊥
 unfolding punctuate
-some_after_comma [] e = cc
 some_after_comma (token t ∷ ls) e = placed_some after_comma t (begins_colon ls) (λ next. punctuate next ls) e
-some_after_comma (comma ∷ ls) e = cc
-some_after_comma (colon ∷ ls) e = cc
+some_after_comma _ e = cc
 
 pub some_token : (p : Place) (l : Lexeme) (ls : List Lexeme) → (p ≡ after_key → ⊥) → punctuate p (l ∷ ls) ≡ [] → ⊥
 unfolding punctuate
 some_token p (token t) ls apart e = placed_some p t (begins_colon ls) (λ next. punctuate next ls) (sym (as_placed p t ls) ∙ e)
-some_token fresh comma ls apart e = cc
 some_token after_value comma ls apart e = some_after_comma ls e
-some_token after_comma comma ls apart e = cc
 some_token after_key comma ls apart e = absurd (apart refl)
-some_token fresh colon ls apart e = cc
-some_token after_value colon ls apart e = cc
-some_token after_comma colon ls apart e = cc
 some_token after_key colon ls apart e = absurd (apart refl)
+some_token _ _ ls apart e = cc
 
 -- So the rest has a token.
 pub some_ahead : (p : Place) (t : List ℕ) → (p ≡ after_key → ⊥) → IsTrimmed t → (t ≡ [] → ⊥) → punctuate p (lex between t) ≡ [] → ⊥
@@ -192,11 +185,10 @@ first_of p (token bad) ls apart no_comma known = first_bad p (token bad) (λ mor
 first_of fresh comma ls apart no_comma known = first_bad fresh comma (λ more. refl)
 first_of after_value comma ls apart no_comma known = absurd (no_comma refl refl)
 first_of after_comma comma ls apart no_comma known = first_bad after_comma comma (λ more. refl)
-first_of after_key comma ls apart no_comma known = absurd (apart refl)
 first_of fresh colon ls apart no_comma known = first_bad fresh colon (λ more. refl)
 first_of after_value colon ls apart no_comma known = first_bad after_value colon (λ more. refl)
 first_of after_comma colon ls apart no_comma known = first_bad after_comma colon (λ more. refl)
-first_of after_key colon ls apart no_comma known = absurd (apart refl)
+first_of after_key _ ls apart no_comma known = absurd (apart refl)
 
 -- ---- which lexeme a token is of
 
@@ -224,16 +216,9 @@ allowed_same true x k next t left e good = (refl, (cc, cc))
 allowed_same false x k next t left e good = absurd (bad_first t left e good)
 
 abbrev is_string : Token → Bool
-is_string begin_object = false
-is_string end_object = false
-is_string begin_array = false
-is_string end_array = false
 is_string (key s) = true
 is_string (string s) = true
-is_string (number s) = false
-is_string (boolean v) = false
-is_string null = false
-is_string bad = false
+is_string _ = false
 
 name_is_string : (b : Bool) (s : List ℕ) → is_string (as_string b s) ≡ true
 name_is_string true s = refl
@@ -250,10 +235,9 @@ other_token p x b s m k next left e isn't =
     true≢false (sym (name_is_string b s) ∙ ap is_string (sym same.1.0) ∙ isn't)
 
 key_same : (a b : Bool) (x s : List ℕ) → as_string a x ≡ as_string b s → (x ≡ s) × (a ≡ b)
-key_same true true x s e = (cc, refl)
 key_same true false x s e = cc
 key_same false true x s e = cc
-key_same false false x s e = (cc, refl)
+key_same _ _ x s e = (cc, refl)
 
 named : (p : Place) (x : List ℕ) (a b : Bool) (s : List ℕ) (k : Place → List Token) (left : List Token)
     → place_token p (string x) a k ≡ as_string b s ∷ left → (x ≡ s) × ((a ≡ b) × (may_begin p ≡ true))
@@ -271,7 +255,6 @@ pub of_string : (p : Place) (ls : List Lexeme) (b : Bool) (s : List ℕ) (left :
 unfolding punctuate
 of_string fresh [] b s left apart no_comma e = absurd (none_first (as_string b s) left e)
 of_string after_value [] b s left apart no_comma e = absurd (none_first (as_string b s) left e)
-of_string after_comma [] b s left apart no_comma e = absurd (bad_first (as_string b s) left e (name_is_good b s))
 of_string after_key [] b s left apart no_comma e = absurd (apart refl)
 of_string p (token begin_object ∷ ls) b s left apart no_comma e =
     absurd (other_token p begin_object b s (may_begin p) (λ place. punctuate place ls) fresh left (sym (as_placed p begin_object ls) ∙ e) refl)
@@ -294,28 +277,19 @@ of_string p (token null ∷ ls) b s left apart no_comma e =
     absurd (other_token p null b s (may_begin p) (λ place. punctuate place ls) after_value left (sym (as_placed p null ls) ∙ e) refl)
 of_string p (token bad ∷ ls) b s left apart no_comma e =
     absurd (bad_first (as_string b s) left (sym (as_placed p bad ls) ∙ e) (name_is_good b s))
-of_string fresh (comma ∷ ls) b s left apart no_comma e = absurd (bad_first (as_string b s) left e (name_is_good b s))
 of_string after_value (comma ∷ ls) b s left apart no_comma e = absurd (no_comma refl ls refl)
-of_string after_comma (comma ∷ ls) b s left apart no_comma e = absurd (bad_first (as_string b s) left e (name_is_good b s))
 of_string after_key (comma ∷ ls) b s left apart no_comma e = absurd (apart refl)
-of_string fresh (colon ∷ ls) b s left apart no_comma e = absurd (bad_first (as_string b s) left e (name_is_good b s))
-of_string after_value (colon ∷ ls) b s left apart no_comma e = absurd (bad_first (as_string b s) left e (name_is_good b s))
-of_string after_comma (colon ∷ ls) b s left apart no_comma e = absurd (bad_first (as_string b s) left e (name_is_good b s))
 of_string after_key (colon ∷ ls) b s left apart no_comma e = absurd (apart refl)
+of_string _ _ b s left apart no_comma e = absurd (bad_first (as_string b s) left e (name_is_good b s))
 
 -- ---- a token that ends a value
 
 abbrev pub EndsValue : Token → Type 0
 EndsValue begin_object = ⊥
-EndsValue end_object = Unit {0}
 EndsValue begin_array = ⊥
-EndsValue end_array = Unit {0}
 EndsValue (key s) = ⊥
-EndsValue (string s) = Unit {0}
-EndsValue (number s) = Unit {0}
-EndsValue (boolean v) = Unit {0}
-EndsValue null = Unit {0}
 EndsValue bad = ⊥
+EndsValue _ = Unit {0}
 
 pub record IsOfValue (p : Place) (t : Token) (ls : List Lexeme) (left : List Token) : Type 0 where
   pub others : List Lexeme
@@ -367,7 +341,6 @@ pub of_value : (p : Place) (ls : List Lexeme) (t : Token) (left : List Token) �
 unfolding punctuate
 of_value fresh [] t left ends apart no_comma e = absurd (none_first t left e)
 of_value after_value [] t left ends apart no_comma e = absurd (none_first t left e)
-of_value after_comma [] t left ends apart no_comma e = absurd (bad_first t left e (ends_good t ends))
 of_value after_key [] t left ends apart no_comma e = absurd (apart refl)
 of_value p (token begin_object ∷ ls) t left ends apart no_comma e =
     absurd (opens_none begin_object (may_begin p) (λ place. punctuate place ls) fresh t left ends (sym (as_placed p begin_object ls) ∙ e) (λ never. never))
@@ -389,11 +362,7 @@ of_value p (token (boolean v) ∷ ls) t left ends apart no_comma e =
 of_value p (token null ∷ ls) t left ends apart no_comma e =
     ends_here p null (may_begin p) ls t left ends (sym (as_placed p null ls) ∙ e) (λ may more f. put-word p null more tt null_good may)
 of_value p (token bad ∷ ls) t left ends apart no_comma e = absurd (bad_first t left (sym (as_placed p bad ls) ∙ e) (ends_good t ends))
-of_value fresh (comma ∷ ls) t left ends apart no_comma e = absurd (bad_first t left e (ends_good t ends))
 of_value after_value (comma ∷ ls) t left ends apart no_comma e = absurd (no_comma refl ls refl)
-of_value after_comma (comma ∷ ls) t left ends apart no_comma e = absurd (bad_first t left e (ends_good t ends))
 of_value after_key (comma ∷ ls) t left ends apart no_comma e = absurd (apart refl)
-of_value fresh (colon ∷ ls) t left ends apart no_comma e = absurd (bad_first t left e (ends_good t ends))
-of_value after_value (colon ∷ ls) t left ends apart no_comma e = absurd (bad_first t left e (ends_good t ends))
-of_value after_comma (colon ∷ ls) t left ends apart no_comma e = absurd (bad_first t left e (ends_good t ends))
 of_value after_key (colon ∷ ls) t left ends apart no_comma e = absurd (apart refl)
+of_value _ _ t left ends apart no_comma e = absurd (bad_first t left e (ends_good t ends))

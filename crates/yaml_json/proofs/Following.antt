@@ -13,7 +13,7 @@ use Rattle.yaml_json.specs.Walk.{closes}
 use Rattle.yaml_json.specs.declared.expecting.Expected.{Expected}
 use Rattle.yaml_json.specs.declared.expecting.Expected.TheVariants as expected
 use Rattle.yaml_json.specs.declared.expecting.Last.{Last}
-use Rattle.yaml_json.specs.declared.expecting.Last.TheVariants.{Nothing, Opener, Comma, Colon, First, Value}
+use Rattle.yaml_json.specs.declared.expecting.Last.TheVariants.{Opener, Comma, Colon, First, Value}
 
 -- ---- after a lexeme
 
@@ -23,12 +23,7 @@ last_by last begin_object = Opener
 last_by last end_object = Value
 last_by last begin_array = Opener
 last_by last end_array = Value
-last_by last (key s) = after_word_byte last
-last_by last (string s) = after_word_byte last
-last_by last (number s) = after_word_byte last
-last_by last (boolean b) = after_word_byte last
-last_by last null = after_word_byte last
-last_by last bad = after_word_byte last
+last_by last _ = after_word_byte last
 
 abbrev pub last_next : Last → Lexeme → Last
 last_next last (token t) = last_by last t
@@ -41,62 +36,38 @@ kinds_by kinds begin_object = Mapping ∷ kinds
 kinds_by kinds end_object = drop 1 kinds
 kinds_by kinds begin_array = Sequence ∷ kinds
 kinds_by kinds end_array = drop 1 kinds
-kinds_by kinds (key s) = kinds
-kinds_by kinds (string s) = kinds
-kinds_by kinds (number s) = kinds
-kinds_by kinds (boolean b) = kinds
-kinds_by kinds null = kinds
-kinds_by kinds bad = kinds
+kinds_by kinds _ = kinds
 
 abbrev pub kinds_next : List CollectionKind → Lexeme → List CollectionKind
 kinds_next kinds (token t) = kinds_by kinds t
-kinds_next kinds comma = kinds
-kinds_next kinds colon = kinds
+kinds_next kinds _ = kinds
 
 -- ---- the lexemes that an input names
 
 abbrev pub begins : Token → Bool
-begins begin_object = true
 begins end_object = false
-begins begin_array = true
 begins end_array = false
 begins (key s) = false
-begins (string s) = true
-begins (number s) = true
-begins (boolean b) = true
-begins null = true
 begins bad = false
+begins _ = true
 
 abbrev pub is_text : Token → Bool
-is_text begin_object = false
-is_text end_object = false
-is_text begin_array = false
-is_text end_array = false
-is_text (key s) = false
 is_text (string s) = true
-is_text (number s) = false
-is_text (boolean b) = false
-is_text null = false
-is_text bad = false
+is_text _ = false
 
 abbrev pub by_token : (Token → Bool) → Lexeme → Bool
 by_token f (token t) = f t
-by_token f comma = false
-by_token f colon = false
+by_token f _ = false
 
 abbrev pub is_comma : Lexeme → Bool
-is_comma (token t) = false
 is_comma comma = true
-is_comma colon = false
+is_comma _ = false
 
 abbrev pub is_colon : Lexeme → Bool
-is_colon (token t) = false
-is_colon comma = false
 is_colon colon = true
+is_colon _ = false
 
 abbrev pub names : Expected → Lexeme → Bool
-names expected.Text l = by_token begins l
-names expected.Value l = by_token begins l
 names expected.ItemOrEnd l = by_token begins l || by_token (λ t. closes t Sequence) l
 names expected.NameOrEnd l = by_token is_text l || by_token (λ t. closes t Mapping) l
 names expected.Name l = by_token is_text l
@@ -105,19 +76,19 @@ names expected.CommaOrBracket l = is_comma l || by_token (λ t. closes t Sequenc
 names expected.CommaOrBrace l = is_comma l || by_token (λ t. closes t Mapping) l
 names expected.End l = false
 names expected.Utf8 l = false
+names _ l = by_token begins l
 
 -- ---- the rest of a value
 
 -- The lexemes go on with a value after this last token, with these open.
 abbrev pub Rest : Last → List CollectionKind → List Lexeme → Type 0
-Rest Nothing kinds ls = Completes true kinds (punctuate fresh ls)
 Rest Opener kinds ls = Completes false kinds (punctuate fresh ls)
 Rest Comma kinds ls = Completes false kinds (punctuate after_comma ls)
-Rest Colon kinds ls = Completes true kinds (punctuate fresh ls)
 Rest First [] ls = Completes false [] (punctuate after_value ls)
 Rest First (Sequence ∷ kinds) ls = Completes false (Sequence ∷ kinds) (punctuate after_value ls)
 Rest First (Mapping ∷ kinds) ls = Completes true (Mapping ∷ kinds) (punctuate after_key ls)
 Rest Value kinds ls = Completes false kinds (punctuate after_value ls)
+Rest _ kinds ls = Completes true kinds (punctuate fresh ls)
 
 -- A bracket that was opened, or a comma, is within what is open.
 abbrev pub IsReachable : Last → List CollectionKind → Type 0
@@ -160,25 +131,14 @@ either_text P X p s ls may f g = go (begins_colon ls) refl
 -- no colon follows a value
 no_colon : (ls : List Lexeme) (kinds : List CollectionKind) → begins_colon ls ≡ true → Completes false kinds (punctuate after_value ls) → ⊥
 unfolding punctuate
-no_colon [] kinds e so = true≢false (sym e)
-no_colon (token t ∷ ls) kinds e so = true≢false (sym e)
-no_colon (comma ∷ ls) kinds e so = true≢false (sym e)
 no_colon (colon ∷ ls) [] e so = so
 no_colon (colon ∷ ls) (Sequence ∷ kinds) e so = so
 no_colon (colon ∷ ls) (Mapping ∷ kinds) e so = so
+no_colon _ kinds e so = true≢false (sym e)
 
 late_name : (t : Token) (b : Bool) (k : Place → List Token) → place_token after_key t b k ≡ bad ∷ []
-late_name begin_object b k = refl
-late_name end_object b k = refl
-late_name begin_array b k = refl
-late_name end_array b k = refl
-late_name (key s) b k = refl
 late_name (string s) true k = refl
-late_name (string s) false k = refl
-late_name (number s) b k = refl
-late_name (boolean v) b k = refl
-late_name null b k = refl
-late_name bad b k = refl
+late_name _ _ k = refl
 
 -- nothing else follows a name
 pub no_token : (t : Token) (ls : List Lexeme) (kinds : List CollectionKind) → Completes true kinds (punctuate after_key (token t ∷ ls)) → ⊥
@@ -187,10 +147,9 @@ no_token t ls kinds so =
 
 no_other : (ls : List Lexeme) (kinds : List CollectionKind) → begins_colon ls ≡ false → Completes true kinds (punctuate after_key ls) → ⊥
 unfolding punctuate
-no_other [] kinds e so = so
 no_other (token t ∷ ls) kinds e so = no_token t ls kinds so
-no_other (comma ∷ ls) kinds e so = so
 no_other (colon ∷ ls) kinds e so = true≢false e
+no_other _ kinds e so = so
 
 pub text_owed : (p : Place) (kinds : List CollectionKind) (s : List ℕ) (ls : List Lexeme) → may_begin p ≡ true
     → Completes true kinds (punctuate p (token (string s) ∷ ls)) ↔ Completes false kinds (punctuate after_value ls)

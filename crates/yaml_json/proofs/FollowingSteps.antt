@@ -1,7 +1,7 @@
 -- One lexeme more of a value of JSON: it is named by the input that is possible, or no value goes on with it.
 use Rattle.std.proofs.Common.{◌≡◌, ◌↔◌, false, List, [], ◌∷◌, refl}
-use Rattle.json.specs.Lex.{Lexeme, after_comma, after_key, after_value, colon, comma, fresh, punctuate, token}
-use Rattle.json.specs.Token.{Token, begin_object, end_object, begin_array, end_array, key, string, number, boolean, null, bad}
+use Rattle.json.specs.Lex.{Lexeme, after_comma, after_key, after_value, fresh, punctuate, token}
+use Rattle.json.specs.Token.{Token, string}
 use Rattle.yaml_base.specs.declared.kinds.CollectionKind.{CollectionKind}
 use Rattle.yaml_base.specs.declared.kinds.CollectionKind.TheVariants.{Mapping, Sequence}
 use Rattle.yaml_json.proofs.Completing.{Completes}
@@ -18,99 +18,38 @@ Goes last kinds l ls = Rest last kinds (l ∷ ls) ↔ If (names (expected_by las
 
 first_goes : (kinds : List CollectionKind) (l : Lexeme) (ls : List Lexeme) → Goes Nothing kinds l ls
 unfolding punctuate
-first_goes kinds (token begin_object) ls = same
-first_goes kinds (token end_object) ls = same
-first_goes kinds (token begin_array) ls = same
-first_goes kinds (token end_array) ls = same
-first_goes kinds (token (key s)) ls = same
 first_goes kinds (token (string s)) ls = text_owed fresh kinds s ls refl
-first_goes kinds (token (number s)) ls = same
-first_goes kinds (token (boolean b)) ls = same
-first_goes kinds (token null) ls = same
-first_goes kinds (token bad) ls = same
-first_goes kinds comma ls = same
-first_goes kinds colon ls = same
+first_goes kinds _ ls = same
 
 member_goes : (kinds : List CollectionKind) (l : Lexeme) (ls : List Lexeme) → Goes Colon kinds l ls
 unfolding punctuate
-member_goes kinds (token begin_object) ls = same
-member_goes kinds (token end_object) ls = same
-member_goes kinds (token begin_array) ls = same
-member_goes kinds (token end_array) ls = same
-member_goes kinds (token (key s)) ls = same
 member_goes kinds (token (string s)) ls = text_owed fresh kinds s ls refl
-member_goes kinds (token (number s)) ls = same
-member_goes kinds (token (boolean b)) ls = same
-member_goes kinds (token null) ls = same
-member_goes kinds (token bad) ls = same
-member_goes kinds comma ls = same
-member_goes kinds colon ls = same
+member_goes kinds _ ls = same
 
 array_goes : (kinds : List CollectionKind) (l : Lexeme) (ls : List Lexeme) → Goes Opener (Sequence ∷ kinds) l ls
 unfolding punctuate
-array_goes kinds (token begin_object) ls = same
-array_goes kinds (token end_object) ls = same
-array_goes kinds (token begin_array) ls = same
-array_goes kinds (token end_array) ls = same
-array_goes kinds (token (key s)) ls = same
 array_goes kinds (token (string s)) ls = text_item fresh kinds s ls refl
-array_goes kinds (token (number s)) ls = same
-array_goes kinds (token (boolean b)) ls = same
-array_goes kinds (token null) ls = same
-array_goes kinds (token bad) ls = same
-array_goes kinds comma ls = same
-array_goes kinds colon ls = same
+array_goes kinds _ ls = same
 
 item_goes : (kinds : List CollectionKind) (l : Lexeme) (ls : List Lexeme) → Goes Comma (Sequence ∷ kinds) l ls
 unfolding punctuate
-item_goes kinds (token begin_object) ls = same
-item_goes kinds (token end_object) ls = same
-item_goes kinds (token begin_array) ls = same
-item_goes kinds (token end_array) ls = same
-item_goes kinds (token (key s)) ls = same
 item_goes kinds (token (string s)) ls = text_item after_comma kinds s ls refl
-item_goes kinds (token (number s)) ls = same
-item_goes kinds (token (boolean b)) ls = same
-item_goes kinds (token null) ls = same
-item_goes kinds (token bad) ls = same
-item_goes kinds comma ls = same
-item_goes kinds colon ls = same
+item_goes kinds _ ls = same
 
 object_goes : (kinds : List CollectionKind) (l : Lexeme) (ls : List Lexeme) → Goes Opener (Mapping ∷ kinds) l ls
 unfolding punctuate
-object_goes kinds (token begin_object) ls = same
-object_goes kinds (token end_object) ls = same
-object_goes kinds (token begin_array) ls = same
-object_goes kinds (token end_array) ls = same
-object_goes kinds (token (key s)) ls = same
 object_goes kinds (token (string s)) ls = text_name fresh kinds s ls refl
-object_goes kinds (token (number s)) ls = same
-object_goes kinds (token (boolean b)) ls = same
-object_goes kinds (token null) ls = same
-object_goes kinds (token bad) ls = same
-object_goes kinds comma ls = same
-object_goes kinds colon ls = same
+object_goes kinds _ ls = same
 
 name_goes : (kinds : List CollectionKind) (l : Lexeme) (ls : List Lexeme) → Goes Comma (Mapping ∷ kinds) l ls
 unfolding punctuate
-name_goes kinds (token begin_object) ls = same
-name_goes kinds (token end_object) ls = same
-name_goes kinds (token begin_array) ls = same
-name_goes kinds (token end_array) ls = same
-name_goes kinds (token (key s)) ls = same
 name_goes kinds (token (string s)) ls = text_name after_comma kinds s ls refl
-name_goes kinds (token (number s)) ls = same
-name_goes kinds (token (boolean b)) ls = same
-name_goes kinds (token null) ls = same
-name_goes kinds (token bad) ls = same
-name_goes kinds comma ls = same
-name_goes kinds colon ls = same
+name_goes kinds _ ls = same
 
 colon_goes : (kinds : List CollectionKind) (l : Lexeme) (ls : List Lexeme) → Goes First (Mapping ∷ kinds) l ls
 unfolding punctuate
 colon_goes kinds (token t) ls = (λ so. no_token t ls (Mapping ∷ kinds) so, λ never. absurd never)
-colon_goes kinds comma ls = same
-colon_goes kinds colon ls = same
+colon_goes kinds _ ls = same
 
 -- ---- after a value
 
@@ -118,35 +57,15 @@ item_over : (last : Last) (kinds : List CollectionKind) (l : Lexeme) (ls : List 
     → Completes false (Sequence ∷ kinds) (punctuate after_value (l ∷ ls))
     ↔ If (names expected.CommaOrBracket l) (Rest (last_next last l) (kinds_next (Sequence ∷ kinds) l) ls)
 unfolding punctuate
-item_over last kinds (token begin_object) ls = same
-item_over last kinds (token end_object) ls = same
-item_over last kinds (token begin_array) ls = same
-item_over last kinds (token end_array) ls = same
-item_over last kinds (token (key s)) ls = same
 item_over last kinds (token (string s)) ls = never_late (Completes false (Sequence ∷ kinds)) s ls (λ never. never)
-item_over last kinds (token (number s)) ls = same
-item_over last kinds (token (boolean b)) ls = same
-item_over last kinds (token null) ls = same
-item_over last kinds (token bad) ls = same
-item_over last kinds comma ls = same
-item_over last kinds colon ls = same
+item_over last kinds _ ls = same
 
 member_over : (last : Last) (kinds : List CollectionKind) (l : Lexeme) (ls : List Lexeme)
     → Completes false (Mapping ∷ kinds) (punctuate after_value (l ∷ ls))
     ↔ If (names expected.CommaOrBrace l) (Rest (last_next last l) (kinds_next (Mapping ∷ kinds) l) ls)
 unfolding punctuate
-member_over last kinds (token begin_object) ls = same
-member_over last kinds (token end_object) ls = same
-member_over last kinds (token begin_array) ls = same
-member_over last kinds (token end_array) ls = same
-member_over last kinds (token (key s)) ls = same
 member_over last kinds (token (string s)) ls = never_late (Completes false (Mapping ∷ kinds)) s ls (λ never. never)
-member_over last kinds (token (number s)) ls = same
-member_over last kinds (token (boolean b)) ls = same
-member_over last kinds (token null) ls = same
-member_over last kinds (token bad) ls = same
-member_over last kinds comma ls = same
-member_over last kinds colon ls = same
+member_over last kinds _ ls = same
 
 none_left : (ts : List Token) → Completes false [] ts → ts ≡ []
 none_left [] so = refl
@@ -163,10 +82,8 @@ nothing_over l ls =
 
 pub goes : (last : Last) (kinds : List CollectionKind) (l : Lexeme) (ls : List Lexeme) → IsReachable last kinds → Goes last kinds l ls
 goes Nothing kinds l ls r = first_goes kinds l ls
-goes Opener [] l ls r = absurd r
 goes Opener (Sequence ∷ kinds) l ls r = array_goes kinds l ls
 goes Opener (Mapping ∷ kinds) l ls r = object_goes kinds l ls
-goes Comma [] l ls r = absurd r
 goes Comma (Sequence ∷ kinds) l ls r = item_goes kinds l ls
 goes Comma (Mapping ∷ kinds) l ls r = name_goes kinds l ls
 goes Colon kinds l ls r = member_goes kinds l ls
@@ -176,3 +93,4 @@ goes First (Mapping ∷ kinds) l ls r = colon_goes kinds l ls
 goes Value [] l ls r = nothing_over l ls
 goes Value (Sequence ∷ kinds) l ls r = item_over Value kinds l ls
 goes Value (Mapping ∷ kinds) l ls r = member_over Value kinds l ls
+goes _ [] l ls r = absurd r

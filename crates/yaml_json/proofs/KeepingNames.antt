@@ -12,16 +12,11 @@ abbrev Taken : Type 0
 Taken = List (List (List ℕ))
 
 scalar_names : (token : Token) → IsScalar token → (levels : Taken) → NamesOnce levels (token ∷ []) × (names_after levels token ≡ levels)
-scalar_names Token.begin_object is levels = absurd is
-scalar_names Token.end_object is levels = absurd is
-scalar_names Token.begin_array is levels = absurd is
-scalar_names Token.end_array is levels = absurd is
-scalar_names (Token.key text) is levels = absurd is
 scalar_names (Token.string text) is levels = ((tt, tt), refl)
 scalar_names (Token.number text) is levels = ((tt, tt), refl)
 scalar_names (Token.boolean flag) is levels = ((tt, tt), refl)
 scalar_names Token.null is levels = ((tt, tt), refl)
-scalar_names Token.bad is levels = absurd is
+scalar_names _ is levels = absurd is
 
 opener_names : (kind : CollectionKind) (levels : Taken) → NamesOnce levels (opener kind ∷ []) × (names_after levels (opener kind) ≡ [] ∷ levels)
 opener_names Sequence levels = ((tt, tt), refl)

@@ -6,7 +6,7 @@ use Rattle.std.proofs.lemmas.Bool.{true≢false, or_parts}
 use Rattle.json.specs.Lex.{Class, Lexeme, Mode, backslash, between, class, in_escape, in_string, in_word, lex, lex_byte, operator, other, quote, space}
 use Rattle.json.specs.Lex.{string_token, token}
 use Rattle.json.specs.Text.{content, plain}
-use Rattle.json.specs.Token.{Token, begin_object, end_object, begin_array, end_array, key, string, number, boolean, null, bad}
+use Rattle.json.specs.Token.{Token, number, boolean, null, bad}
 use Rattle.json.specs.Word.{is_operator, is_space, word}
 use Rattle.yaml_base.specs.declared.kinds.CollectionKind.{CollectionKind}
 use Rattle.yaml_base.specs.declared.kinds.CollectionKind.TheVariants.{Mapping, Sequence}
@@ -19,7 +19,7 @@ use Rattle.yaml_json.proofs.WordSteps.{other_inner}
 use Rattle.yaml_json.specs.Expected.{StandingInJson, after_word_byte, open_by, standing_after, standing_over}
 use Rattle.yaml_json.specs.Lexing.{mode_after, mode_over}
 use Rattle.yaml_json.specs.declared.expecting.Last.{Last}
-use Rattle.yaml_json.specs.declared.expecting.Last.TheVariants.{Nothing, Opener, Comma, Colon, First, Value}
+use Rattle.yaml_json.specs.declared.expecting.Last.TheVariants.{Nothing, Opener, Comma, Colon, Value}
 use Rattle.yaml_json.specs.declared.expecting.Quoting.{Quoting}
 use Rattle.yaml_json.specs.declared.expecting.Quoting.TheVariants.{Outside, Inside, Escaped}
 
@@ -36,25 +36,10 @@ passed m (x ∷ xs) rest = heads m x (xs ++ rest) ++ passed (mode_after m (class
 split_byte : (m : Mode) (c : Class) (x : ℕ) (t : List ℕ) (k : Mode → List Lexeme)
     → lex_byte m c x t k ≡ lex_byte m c x t (λ next. []) ++ k (mode_after m c)
 split_byte between quote x t k = refl
-split_byte between backslash x t k = refl
-split_byte between operator x t k = refl
-split_byte between space x t k = refl
-split_byte between other x t k = refl
 split_byte in_word quote x t k = refl
-split_byte in_word backslash x t k = refl
-split_byte in_word operator x t k = refl
-split_byte in_word space x t k = refl
-split_byte in_word other x t k = refl
 split_byte in_string quote x t k = refl
-split_byte in_string backslash x t k = refl
-split_byte in_string operator x t k = refl
-split_byte in_string space x t k = refl
-split_byte in_string other x t k = refl
 split_byte in_escape quote x t k = refl
-split_byte in_escape backslash x t k = refl
-split_byte in_escape operator x t k = refl
-split_byte in_escape space x t k = refl
-split_byte in_escape other x t k = refl
+split_byte _ _ x t k = refl
 
 pub lex_passed : (m : Mode) (front rest : List ℕ) → lex m (front ++ rest) ≡ passed m front rest ++ lex (mode_over m front) rest
 unfolding lex
@@ -108,10 +93,9 @@ no_operator x e =
 -- ---- one byte
 
 abbrev pub quoting_of : Mode → Quoting
-quoting_of between = Outside
-quoting_of in_word = Outside
 quoting_of in_string = Inside
 quoting_of in_escape = Escaped
+quoting_of _ = Outside
 
 abbrev pub standing_at : Quoting → Last → List CollectionKind → StandingInJson
 standing_at q last kinds = record { quoting = q; last = last; kinds = kinds }
@@ -125,28 +109,18 @@ abbrev Steps : Mode → List ℕ → Last → List CollectionKind → ℕ → Ty
 Steps m t last kinds x = standing_after (standing_at (quoting_of m) last kinds) x ≡ after_class m x t last kinds (class x)
 
 word_last : (last : Last) (w : Token) → IsWord w → last_by last w ≡ after_word_byte last
-word_last last begin_object is = absurd is
-word_last last end_object is = absurd is
-word_last last begin_array is = absurd is
-word_last last end_array is = absurd is
-word_last last (key s) is = absurd is
-word_last last (string s) is = absurd is
 word_last last (number s) is = refl
 word_last last (boolean b) is = refl
 word_last last null is = refl
 word_last last bad is = refl
+word_last last _ is = absurd is
 
 word_kinds : (kinds : List CollectionKind) (w : Token) → IsWord w → kinds_by kinds w ≡ kinds
-word_kinds kinds begin_object is = absurd is
-word_kinds kinds end_object is = absurd is
-word_kinds kinds begin_array is = absurd is
-word_kinds kinds end_array is = absurd is
-word_kinds kinds (key s) is = absurd is
-word_kinds kinds (string s) is = absurd is
 word_kinds kinds (number s) is = refl
 word_kinds kinds (boolean b) is = refl
 word_kinds kinds null is = refl
 word_kinds kinds bad is = refl
+word_kinds kinds _ is = absurd is
 
 text_begins : (last : Last) (kinds : List CollectionKind) (o : Option (List ℕ))
     → standing_at Inside (after_word_byte last) kinds ≡ standing_at Inside (last_by last (string_token o)) (kinds_by kinds (string_token o))
@@ -192,17 +166,12 @@ in_string_steps t last kinds =
 escape_steps : (t : List ℕ) (last : Last) (kinds : List CollectionKind) (x : ℕ) (c : Class)
     → standing_at Inside last kinds ≡ after_class in_escape x t last kinds c
 escape_steps t last kinds x quote = refl
-escape_steps t last kinds x backslash = refl
-escape_steps t last kinds x operator = refl
-escape_steps t last kinds x space = refl
-escape_steps t last kinds x other = refl
+escape_steps t last kinds x _ = refl
 
 -- within a word the last token is that word, and no quote comes before its end
 abbrev pub IsWithin : Mode → Last → List ℕ → Type 0
-IsWithin between last t = Unit {0}
 IsWithin in_word last t = (after_word_byte last ≡ last) × QuoteFree t
-IsWithin in_string last t = Unit {0}
-IsWithin in_escape last t = Unit {0}
+IsWithin _ last t = Unit {0}
 
 byte_steps : (m : Mode) (x : ℕ) (t : List ℕ) (last : Last) (kinds : List CollectionKind) → IsWithin m last (x ∷ t) → Steps m t last kinds x
 byte_steps between x t last kinds within = between_steps t last kinds x
@@ -226,11 +195,7 @@ good_second (l ∷ xs) ys good = good_second xs ys good.1
 
 settled_last : (last : Last) → after_word_byte (after_word_byte last) ≡ after_word_byte last
 settled_last Nothing = refl
-settled_last Opener = refl
-settled_last Comma = refl
-settled_last Colon = refl
-settled_last First = refl
-settled_last Value = refl
+settled_last _ = refl
 
 settled_word : (last : Last) (w : Token) → IsWord w → after_word_byte (last_by last w) ≡ last_by last w
 settled_word last w is = ap after_word_byte (word_last last w is) ∙ settled_last last ∙ sym (word_last last w is)
@@ -239,9 +204,8 @@ inner_by : (q b o s : Bool) → mode_after in_word (cond q quote (cond b backsla
     → ((o || s) ≡ false) ⊎ (b ≡ true)
 inner_by true b o s e f = absurd (true≢false f)
 inner_by false true o s e f = inr refl
-inner_by false false true s e f = cc
-inner_by false false false true e f = cc
 inner_by false false false false e f = inl refl
+inner_by false false _ _ e f = cc
 
 -- a backslash is no delimiter
 backslash_inner : (x : ℕ) → (x == 92) ≡ true → (is_operator x || is_space x) ≡ false
@@ -253,13 +217,9 @@ goes_on x t (inr escape) free = free.1 (backslash_inner x escape)
 
 word_within : (x : ℕ) (t : List ℕ) (last : Last) → QuoteFree (x ∷ t) → (c : Class) → class x ≡ c → after_word_byte last ≡ last
     → IsWithin (mode_after in_word c) (last_over last (lex_byte in_word c x t (λ next. []))) t
-word_within x t last free quote e settled =
-    (settled, goes_on x t (inner_by (x == 34) (x == 92) (is_operator x) (is_space x) (ap (mode_after in_word) e) free.0) free)
-word_within x t last free backslash e settled =
-    (settled, goes_on x t (inner_by (x == 34) (x == 92) (is_operator x) (is_space x) (ap (mode_after in_word) e) free.0) free)
 word_within x t last free operator e settled = tt
 word_within x t last free space e settled = tt
-word_within x t last free other e settled =
+word_within x t last free _ e settled =
     (settled, goes_on x t (inner_by (x == 34) (x == 92) (is_operator x) (is_space x) (ap (mode_after in_word) e) free.0) free)
 
 word_good : (x : ℕ) (t : List ℕ) → (token (word (x ∷ t)) ≡ token bad → ⊥) → QuoteFree (x ∷ t)
@@ -267,28 +227,20 @@ word_good x t good = good_word (x ∷ t) (λ e. good (ap token e))
 
 begins_within : (x : ℕ) (t : List ℕ) (last : Last) (c : Class) → class x ≡ c → AreGood (lex_byte between c x t (λ next. []))
     → IsWithin (mode_after between c) (last_over last (lex_byte between c x t (λ next. []))) t
-begins_within x t last quote e good = tt
 begins_within x t last backslash e good = absurd (good.0 refl)
-begins_within x t last operator e good = tt
-begins_within x t last space e good = tt
 begins_within x t last other e good = (
   settled_word last (word (x ∷ t)) (IsWord-word (x ∷ t)),
   (word_good x t good.0).1 (other_inner x e),
 )
+begins_within x t last _ e good = tt
 
 string_within : (x : ℕ) (t : List ℕ) (last : Last) (c : Class) → IsWithin (mode_after in_string c) (last_over last (lex_byte in_string c x t (λ next. []))) t
 string_within x t last quote = tt
-string_within x t last backslash = tt
-string_within x t last operator = tt
-string_within x t last space = tt
-string_within x t last other = tt
+string_within x t last _ = tt
 
 escape_within : (x : ℕ) (t : List ℕ) (last : Last) (c : Class) → IsWithin (mode_after in_escape c) (last_over last (lex_byte in_escape c x t (λ next. []))) t
 escape_within x t last quote = tt
-escape_within x t last backslash = tt
-escape_within x t last operator = tt
-escape_within x t last space = tt
-escape_within x t last other = tt
+escape_within x t last _ = tt
 
 next_within : (m : Mode) (x : ℕ) (t : List ℕ) (last : Last) → IsWithin m last (x ∷ t) → AreGood (heads m x t)
     → IsWithin (mode_after m (class x)) (last_over last (heads m x t)) t

@@ -33,11 +33,9 @@ each_operator P a b c d f g x e =
 
 word_over : (q b o s : Bool) (x : ℕ) (xs : List ℕ) (k : Mode → List Lexeme) → (o || s) ≡ false
     → lex_byte in_word (cond q quote (cond b backslash (cond o operator (cond s space other)))) x xs k ≡ k in_word
-word_over true b o s x xs k e = refl
-word_over false true o s x xs k e = refl
-word_over false false false false x xs k e = refl
 word_over false false false true x xs k e = absurd (true≢false e)
 word_over false false true s x xs k e = absurd (true≢false e)
+word_over _ _ _ _ x xs k e = refl
 
 string_over : (o s : Bool) (x : ℕ) (xs : List ℕ) (k : Mode → List Lexeme) → lex_byte in_string (cond o operator (cond s space other)) x xs k ≡ k in_string
 string_over true s x xs k = refl
@@ -46,10 +44,7 @@ string_over false false x xs k = refl
 
 escape_over : (c : Class) (x : ℕ) (xs : List ℕ) (k : Mode → List Lexeme) → lex_byte in_escape c x xs k ≡ k in_string
 escape_over quote x xs k = refl
-escape_over backslash x xs k = refl
-escape_over operator x xs k = refl
-escape_over space x xs k = refl
-escape_over other x xs k = refl
+escape_over _ x xs k = refl
 
 -- ---- one byte
 

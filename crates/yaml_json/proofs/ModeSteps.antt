@@ -53,8 +53,7 @@ parts_class x e = or_case (is_operator x) (is_space x)
 past_delimiter : (from : Mode) (x : ℕ) (xs : List ℕ) → (is_operator x || is_space x) ≡ true → EndsBefore from (x ∷ xs) → mode_after from (class x) ≡ between
 past_delimiter between x xs e may = (parts_class x e).0
 past_delimiter in_word x xs e may = (parts_class x e).1
-past_delimiter in_string x xs e may = absurd may
-past_delimiter in_escape x xs e may = absurd may
+past_delimiter _ x xs e may = absurd may
 
 pub leads_past : (x : ℕ) (xs : List ℕ) → (is_operator x || is_space x) ≡ true → Leads (x ∷ xs) xs
 leads_past x xs e from (inl none) = cc
@@ -93,10 +92,7 @@ plain_stays x q b =
 
 escaped_stays : (c : Class) → mode_after in_escape c ≡ in_string
 escaped_stays quote = refl
-escaped_stays backslash = refl
-escaped_stays operator = refl
-escaped_stays space = refl
-escaped_stays other = refl
+escaped_stays _ = refl
 
 -- the content of a string was passed up to here, or the text ends
 abbrev pub WithinString : (d : List ℕ) (from at : ℕ) → Type 0
@@ -177,8 +173,7 @@ quote_from between x xs rest e may leads = (
   leads.2,
 )
 quote_from in_word x xs rest e may leads = absurd (true≢false (sym may ∙ ap (λ y. is_operator y || is_space y) e))
-quote_from in_string x xs rest e may leads = absurd may
-quote_from in_escape x xs rest e may leads = absurd may
+quote_from _ x xs rest e may leads = absurd may
 
 pub quote_leads : (d rest : List ℕ) → head d ≡ 34 → LeadsFrom in_string (drop 1 d) rest → Leads d rest
 quote_leads [] rest e leads from may = absurd (no_quote (head []) refl e)

@@ -1,6 +1,6 @@
 -- That no name comes twice among the tokens of a value is that each object has it once.
 use Rattle.yaml_json.proofs.Common.{suc, ℕ, ◌<◌, length, slice_index_or, List, [], ◌++◌, ◌∷◌, refl, ◌≡◌, append-nil, append_assoc, subst, sym, arith, Json}
-use Rattle.yaml_json.proofs.Common.{null, boolean, number, string, Items, array, Members, object, no_items, item, no_members, member, Token, json_tokens}
+use Rattle.yaml_json.proofs.Common.{Items, array, Members, object, no_items, item, no_members, member, Token, json_tokens}
 use Rattle.yaml_json.proofs.Common.{items_tokens, members_tokens, IsNewName, names_after, NamesOnce, all_names_after}
 use Rattle.yaml_base.proofs.Common.{⊤, All}
 use Rattle.std.{proofs.lemmas.List.Elements.All-nil, proofs.lemmas.List.Elements.All-cons, proofs.lemmas.List.Kept.AllPairs-cons, specs.Prelude.◌≢◌}
@@ -83,13 +83,10 @@ Levels = List (List (List ℕ))
 
 mutual
   once_value : (json : Json) (levels : Levels) (rest : List Token) → NamesOnce levels (json_tokens json ++ rest) → HasUniqueKeys json × NamesOnce levels rest
-  once_value null levels rest once = (tt, once.1)
-  once_value (boolean flag) levels rest once = (tt, once.1)
-  once_value (number text) levels rest once = (tt, once.1)
-  once_value (string text) levels rest once = (tt, once.1)
   once_value (array inner) levels rest once = once_items inner [] levels rest once.1
   once_value (object inner) levels rest once =
       let found = once_members inner [] levels rest once.1 in ((found.1, found.2), found.3)
+  once_value _ levels rest once = (tt, once.1)
 
   once_items : (inner : Items) (names : List (List ℕ)) (levels : Levels) (rest : List Token) → NamesOnce (names ∷ levels) (items_tokens inner ++ rest)
       → ItemsHaveUniqueKeys inner × NamesOnce levels rest
@@ -117,13 +114,10 @@ mutual
 
 mutual
   value_once : (json : Json) (levels : Levels) (rest : List Token) → HasUniqueKeys json → NamesOnce levels rest → NamesOnce levels (json_tokens json ++ rest)
-  value_once null levels rest unique once = (tt, once)
-  value_once (boolean flag) levels rest unique once = (tt, once)
-  value_once (number text) levels rest unique once = (tt, once)
-  value_once (string text) levels rest unique once = (tt, once)
   value_once (array inner) levels rest unique once = (tt, items_once inner [] levels rest unique once)
   value_once (object inner) levels rest unique once =
       (tt, members_once inner [] levels rest (new_to_none (keys inner)) unique.0 unique.1 once)
+  value_once _ levels rest unique once = (tt, once)
 
   items_once : (inner : Items) (names : List (List ℕ)) (levels : Levels) (rest : List Token) → ItemsHaveUniqueKeys inner → NamesOnce levels rest
       → NamesOnce (names ∷ levels) (items_tokens inner ++ rest)

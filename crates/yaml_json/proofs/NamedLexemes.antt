@@ -2,7 +2,7 @@
 use Rattle.std.proofs.Common.{◌≡◌, ◌⊎◌, inl, inr, ℕ, Bool, true, false, ◌||◌, None, Some, List, refl, sym, ap, ◌∙◌}
 use Rattle.std.proofs.lemmas.Bool.{true≢false}
 use Rattle.json.specs.Lex.{Lexeme, colon, comma, token}
-use Rattle.json.specs.Token.{Token, begin_object, end_object, begin_array, end_array, key, string, number, boolean, null, bad}
+use Rattle.json.specs.Token.{Token, begin_object, end_object, begin_array, end_array, string, number, boolean, null}
 use Rattle.yaml_base.specs.declared.kinds.CollectionKind.TheVariants.{Mapping, Sequence}
 use Rattle.yaml_json.proofs.Closing.{closes_is}
 use Rattle.yaml_json.proofs.Following.{begins, by_token, is_colon, is_comma, is_text, names}
@@ -15,65 +15,46 @@ use Rattle.yaml_json.specs.declared.expecting.Expected.TheVariants as expected
 
 begins_named : (t : Token) → begins t ≡ true → IsScalar t ⊎ IsOpener t
 begins_named begin_object e = inr (Mapping, refl)
-begins_named end_object e = absurd (true≢false (sym e))
 begins_named begin_array e = inr (Sequence, refl)
-begins_named end_array e = absurd (true≢false (sym e))
-begins_named (key s) e = absurd (true≢false (sym e))
 begins_named (string s) e = inl tt
 begins_named (number s) e = inl tt
 begins_named (boolean b) e = inl tt
 begins_named null e = inl tt
-begins_named bad e = absurd (true≢false (sym e))
+begins_named _ e = absurd (true≢false (sym e))
 
 value_named : (l : Lexeme) → by_token begins l ≡ true → BeginsValue (Some l)
 value_named (token t) e = (t, (refl, begins_named t e))
-value_named comma e = absurd (true≢false (sym e))
-value_named colon e = absurd (true≢false (sym e))
+value_named _ e = absurd (true≢false (sym e))
 
 text_token : (t : Token) → is_text t ≡ true → (s : List ℕ) × (t ≡ string s)
-text_token begin_object e = absurd (true≢false (sym e))
-text_token end_object e = absurd (true≢false (sym e))
-text_token begin_array e = absurd (true≢false (sym e))
-text_token end_array e = absurd (true≢false (sym e))
-text_token (key s) e = absurd (true≢false (sym e))
 text_token (string s) e = (s, refl)
-text_token (number s) e = absurd (true≢false (sym e))
-text_token (boolean b) e = absurd (true≢false (sym e))
-text_token null e = absurd (true≢false (sym e))
-text_token bad e = absurd (true≢false (sym e))
+text_token _ e = absurd (true≢false (sym e))
 
 text_named : (l : Lexeme) → by_token is_text l ≡ true → IsText (Some l)
 text_named (token t) e = let found = text_token t e in (found.0, ap (λ (u : Token). Some (token u)) found.1)
-text_named comma e = absurd (true≢false (sym e))
-text_named colon e = absurd (true≢false (sym e))
+text_named _ e = absurd (true≢false (sym e))
 
 array_end : (l : Lexeme) → by_token (λ t. closes t Sequence) l ≡ true → Some l ≡ Some (token end_array)
 array_end (token t) e = ap (λ (u : Token). Some (token u)) (closes_is t Sequence e)
-array_end comma e = absurd (true≢false (sym e))
-array_end colon e = absurd (true≢false (sym e))
+array_end _ e = absurd (true≢false (sym e))
 
 object_end : (l : Lexeme) → by_token (λ t. closes t Mapping) l ≡ true → Some l ≡ Some (token end_object)
 object_end (token t) e = ap (λ (u : Token). Some (token u)) (closes_is t Mapping e)
-object_end comma e = absurd (true≢false (sym e))
-object_end colon e = absurd (true≢false (sym e))
+object_end _ e = absurd (true≢false (sym e))
 
 comma_named : (l : Lexeme) → is_comma l ≡ true → Some l ≡ Some comma
-comma_named (token t) e = absurd (true≢false (sym e))
 comma_named comma e = refl
-comma_named colon e = absurd (true≢false (sym e))
+comma_named _ e = absurd (true≢false (sym e))
 
 colon_named : (l : Lexeme) → is_colon l ≡ true → Some l ≡ Some colon
-colon_named (token t) e = absurd (true≢false (sym e))
-colon_named comma e = absurd (true≢false (sym e))
 colon_named colon e = refl
+colon_named _ e = absurd (true≢false (sym e))
 
 either : {A B : Type 0} (a b : Bool) → (a ≡ true → A) → (b ≡ true → B) → (a || b) ≡ true → A ⊎ B
 either true b f g e = inl (f refl)
 either false b f g e = inr (g e)
 
 pub named : (e : Expected) (l : Lexeme) → names e l ≡ true → Names e (Some l)
-named expected.Text l is = value_named l is
-named expected.Value l is = value_named l is
 named expected.ItemOrEnd l is = either (by_token begins l) (by_token (λ t. closes t Sequence) l) (value_named l) (array_end l) is
 named expected.NameOrEnd l is = either (by_token is_text l) (by_token (λ t. closes t Mapping) l) (text_named l) (object_end l) is
 named expected.Name l is = text_named l is
@@ -82,20 +63,16 @@ named expected.CommaOrBracket l is = either (is_comma l) (by_token (λ t. closes
 named expected.CommaOrBrace l is = either (is_comma l) (by_token (λ t. closes t Mapping) l) (comma_named l) (object_end l) is
 named expected.End l is = absurd (true≢false (sym is))
 named expected.Utf8 l is = absurd (true≢false (sym is))
+named _ l is = value_named l is
 
 -- ---- and no others
 
 scalar_begins : (t : Token) → IsScalar t → begins t ≡ true
-scalar_begins begin_object is = absurd is
-scalar_begins end_object is = absurd is
-scalar_begins begin_array is = absurd is
-scalar_begins end_array is = absurd is
-scalar_begins (key s) is = absurd is
 scalar_begins (string s) is = refl
 scalar_begins (number s) is = refl
 scalar_begins (boolean b) is = refl
 scalar_begins null is = refl
-scalar_begins bad is = absurd is
+scalar_begins _ is = absurd is
 
 opener_begins : (t : Token) → IsOpener t → begins t ≡ true
 opener_begins t (Sequence, is) = ap begins is
@@ -130,8 +107,6 @@ none_is : (l : Lexeme) → Some l ≡ None → ⊥
 none_is l e = cc
 
 pub only : (e : Expected) (l : Lexeme) → Names e (Some l) → names e l ≡ true
-only expected.Text l so = value_only l so
-only expected.Value l so = value_only l so
 only expected.ItemOrEnd l so =
     either_only (by_token begins l) (by_token (λ t. closes t Sequence) l) (value_only l)
     (is_so (by_token (λ t. closes t Sequence)) l (token end_array) refl) so
@@ -148,6 +123,7 @@ only expected.CommaOrBrace l so =
     (is_so (by_token (λ t. closes t Mapping)) l (token end_object) refl) so
 only expected.End l so = absurd (none_is l so)
 only expected.Utf8 l so = absurd so
+only _ l so = value_only l so
 
 -- ---- the end of the text
 
@@ -165,20 +141,10 @@ neither f g (inl x) = f x
 neither f g (inr y) = g y
 
 abbrev pub is_end : Expected → Bool
-is_end expected.Text = false
-is_end expected.Value = false
-is_end expected.ItemOrEnd = false
-is_end expected.NameOrEnd = false
-is_end expected.Name = false
-is_end expected.Colon = false
-is_end expected.CommaOrBracket = false
-is_end expected.CommaOrBrace = false
 is_end expected.End = true
-is_end expected.Utf8 = false
+is_end _ = false
 
 pub no_end : (e : Expected) → is_end e ≡ false → Names e None → ⊥
-no_end expected.Text isn't so = no_value so
-no_end expected.Value isn't so = no_value so
 no_end expected.ItemOrEnd isn't so = neither no_value (nothing_is (token end_array)) so
 no_end expected.NameOrEnd isn't so = neither no_text (nothing_is (token end_object)) so
 no_end expected.Name isn't so = no_text so
@@ -187,3 +153,4 @@ no_end expected.CommaOrBracket isn't so = neither (nothing_is comma) (nothing_is
 no_end expected.CommaOrBrace isn't so = neither (nothing_is comma) (nothing_is (token end_object)) so
 no_end expected.End isn't so = true≢false isn't
 no_end expected.Utf8 isn't so = so
+no_end _ isn't so = no_value so

@@ -87,5 +87,4 @@ module _ (depth : ℕ) (unique in_flow : Bool) (text : List ℕ) (before : List 
       subst (CannotStandAt (IsWithinDepth depth) text) (sym is) (too_deep so.taken so.left so.were so.parts so.why so.place.0 so.place.1)
   stops_at_lexeme stops.NameAgain so is =
       subst (CannotStandAt HasUniqueKeys text) (sym is) (again so.taken so.left so.were so.parts so.why so.place.0 so.place.1)
-  stops_at_lexeme stops.Memory so is = tt
-  stops_at_lexeme stops.Failed so is = tt
+  stops_at_lexeme _ so is = tt

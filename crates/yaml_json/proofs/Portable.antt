@@ -18,8 +18,7 @@ use Rattle.yaml_writer.proofs.SpellingLemmas.{whole_digits}
 
 text_written : (text : Text) (canonical : Bool) → is_written_as_nothing canonical (scalar_node (text_content text)) ≡ false
 text_written [] true = refl
-text_written [] false = refl
-text_written (c ∷ text) canonical = refl
+text_written _ _ = refl
 
 digits_filled : (negative : Bool) (whole rest : Text) → are_digits 10 whole ≡ true → is_empty (minus negative ++ whole ++ rest) ≡ false
 digits_filled negative [] rest h = absurd (false≢true h)
@@ -39,14 +38,11 @@ number_written content canonical filled =
 
 -- a value's root is written as something
 value_written : (json : Json) (canonical in_flow : Bool) → HasNumbers json → is_written_as_nothing canonical (json_node json canonical in_flow) ≡ false
-value_written null canonical in_flow numbers = refl
 value_written (boolean true) canonical in_flow numbers = refl
-value_written (boolean false) canonical in_flow numbers = refl
 value_written (number text) canonical in_flow numbers =
     number_written (number_content canonical (number_in text)) canonical (number_filled (number_in text) (number_is text numbers).valid)
 value_written (string text) canonical in_flow numbers = text_written (chars text) canonical
-value_written (array _) canonical in_flow numbers = refl
-value_written (object _) canonical in_flow numbers = refl
+value_written _ canonical in_flow numbers = refl
 
 -- No tag has a flow indicator
 

@@ -3,7 +3,7 @@ use Rattle.std.proofs.Common.{◌≡◌, ◌↔◌, ℕ, Bool, true, false, Opti
 use Rattle.std.proofs.lemmas.Bool.{true≢false}
 use Rattle.json.specs.Json.{Json}
 use Rattle.json.specs.Lex.{Lexeme, colon, comma, fresh, punctuate, token}
-use Rattle.json.specs.Token.{begin_object, end_object, begin_array, end_array, key, string, number, boolean, null, bad}
+use Rattle.json.specs.Token.{end_object, end_array, key, string, number, boolean, null, bad}
 use Rattle.json.specs.Tree.{json_tokens}
 use Rattle.yaml_base.specs.declared.kinds.CollectionKind.{CollectionKind}
 use Rattle.yaml_base.specs.declared.kinds.CollectionKind.TheVariants.{Mapping, Sequence}
@@ -35,28 +35,17 @@ Runs last kinds (l ∷ ls) = (names (expected_by last (innermost kinds)) l ≡ t
 
 word_reaches : (last : Last) (kinds : List CollectionKind) (s : List ℕ) → IsReachable (last_next last (token (string s))) kinds
 word_reaches Nothing kinds s = tt
-word_reaches Opener kinds s = tt
-word_reaches Comma kinds s = tt
-word_reaches Colon kinds s = tt
-word_reaches First kinds s = tt
-word_reaches Value kinds s = tt
+word_reaches _ kinds s = tt
 
 comma_reaches : (last : Last) (kinds : List CollectionKind) → IsReachable last kinds → names (expected_by last (innermost kinds)) comma ≡ true
     → IsReachable Comma kinds
 comma_reaches last (kind ∷ kinds) r is = tt
-comma_reaches Nothing [] r is = true≢false (sym is)
 comma_reaches Opener [] r is = r
 comma_reaches Comma [] r is = r
-comma_reaches Colon [] r is = true≢false (sym is)
-comma_reaches First [] r is = true≢false (sym is)
-comma_reaches Value [] r is = true≢false (sym is)
+comma_reaches _ [] r is = true≢false (sym is)
 
 reaches : (last : Last) (kinds : List CollectionKind) (l : Lexeme) → IsReachable last kinds → names (expected_by last (innermost kinds)) l ≡ true
     → IsReachable (last_next last l) (kinds_next kinds l)
-reaches last kinds (token begin_object) r is = tt
-reaches last kinds (token end_object) r is = tt
-reaches last kinds (token begin_array) r is = tt
-reaches last kinds (token end_array) r is = tt
 reaches last kinds (token (key s)) r is = word_reaches last kinds s
 reaches last kinds (token (string s)) r is = word_reaches last kinds s
 reaches last kinds (token (number s)) r is = word_reaches last kinds s
@@ -64,7 +53,7 @@ reaches last kinds (token (boolean b)) r is = word_reaches last kinds []
 reaches last kinds (token null) r is = word_reaches last kinds []
 reaches last kinds (token bad) r is = word_reaches last kinds []
 reaches last kinds comma r is = comma_reaches last kinds r is
-reaches last kinds colon r is = tt
+reaches last kinds _ r is = tt
 
 if_true : (b : Bool) (X : Type 0) → If b X → (b ≡ true) × X
 if_true true X x = (refl, x)
@@ -111,18 +100,17 @@ closes_all (Mapping ∷ kinds) = closes_all kinds
 
 some_rest : (last : Last) (kinds : List CollectionKind) → IsReachable last kinds → (more : List Lexeme) × Rest last kinds more
 unfolding punctuate
-some_rest Nothing kinds r = (token null ∷ closing kinds, closes_all kinds)
 some_rest Opener [] r = absurd r
 some_rest Opener (Sequence ∷ kinds) r = (token end_array ∷ closing kinds, closes_all kinds)
 some_rest Opener (Mapping ∷ kinds) r = (token end_object ∷ closing kinds, closes_all kinds)
 some_rest Comma [] r = absurd r
 some_rest Comma (Sequence ∷ kinds) r = (token null ∷ token end_array ∷ closing kinds, closes_all kinds)
 some_rest Comma (Mapping ∷ kinds) r = (token (string []) ∷ colon ∷ token null ∷ token end_object ∷ closing kinds, closes_all kinds)
-some_rest Colon kinds r = (token null ∷ closing kinds, closes_all kinds)
 some_rest First [] r = ([], tt)
 some_rest First (Sequence ∷ kinds) r = (token end_array ∷ closing kinds, closes_all kinds)
 some_rest First (Mapping ∷ kinds) r = (colon ∷ token null ∷ token end_object ∷ closing kinds, closes_all kinds)
 some_rest Value kinds r = (closing kinds, closes_all kinds)
+some_rest _ kinds r = (token null ∷ closing kinds, closes_all kinds)
 
 -- ---- the end of the text
 
@@ -145,20 +133,17 @@ ends_here Value (Mapping ∷ kinds) r so = absurd so
 
 ended : (last : Last) (kinds : List CollectionKind) → Names (expected_by last (innermost kinds)) None → Rest last kinds []
 unfolding punctuate
-ended Nothing kinds so = absurd (no_end expected.Value refl so)
 ended Opener [] so = absurd (no_end expected.ItemOrEnd refl so)
 ended Opener (Sequence ∷ kinds) so = absurd (no_end expected.ItemOrEnd refl so)
 ended Opener (Mapping ∷ kinds) so = absurd (no_end expected.NameOrEnd refl so)
-ended Comma [] so = absurd (no_end expected.Value refl so)
-ended Comma (Sequence ∷ kinds) so = absurd (no_end expected.Value refl so)
 ended Comma (Mapping ∷ kinds) so = absurd (no_end expected.Name refl so)
-ended Colon kinds so = absurd (no_end expected.Value refl so)
 ended First [] so = tt
 ended First (Sequence ∷ kinds) so = absurd (no_end expected.CommaOrBracket refl so)
 ended First (Mapping ∷ kinds) so = absurd (no_end expected.Colon refl so)
 ended Value [] so = tt
 ended Value (Sequence ∷ kinds) so = absurd (no_end expected.CommaOrBracket refl so)
 ended Value (Mapping ∷ kinds) so = absurd (no_end expected.CommaOrBrace refl so)
+ended _ _ so = absurd (no_end expected.Value refl so)
 
 -- ---- a value begins with the lexemes before
 

@@ -62,53 +62,45 @@ lex-word (x ∷ xs) e = ap (λ c. lex_byte between c x xs (λ next. lex next xs)
 
 pub put-begin_object : (p : Place) (ls : List Lexeme) → may_begin p ≡ true → punctuate p (token begin_object ∷ ls) ≡ begin_object ∷ punctuate fresh ls
 unfolding punctuate
-put-begin_object fresh ls e = refl
 put-begin_object after_value ls e = absurd (true≢false (sym e))
-put-begin_object after_comma ls e = refl
 put-begin_object after_key ls e = absurd (true≢false (sym e))
+put-begin_object _ ls e = refl
 
 pub put-begin_array : (p : Place) (ls : List Lexeme) → may_begin p ≡ true → punctuate p (token begin_array ∷ ls) ≡ begin_array ∷ punctuate fresh ls
 unfolding punctuate
-put-begin_array fresh ls e = refl
 put-begin_array after_value ls e = absurd (true≢false (sym e))
-put-begin_array after_comma ls e = refl
 put-begin_array after_key ls e = absurd (true≢false (sym e))
+put-begin_array _ ls e = refl
 
 pub put-end_object : (p : Place) (ls : List Lexeme) → may_close p ≡ true → punctuate p (token end_object ∷ ls) ≡ end_object ∷ punctuate after_value ls
 unfolding punctuate
-put-end_object fresh ls e = refl
-put-end_object after_value ls e = refl
 put-end_object after_comma ls e = absurd (true≢false (sym e))
 put-end_object after_key ls e = absurd (true≢false (sym e))
+put-end_object _ ls e = refl
 
 pub put-end_array : (p : Place) (ls : List Lexeme) → may_close p ≡ true → punctuate p (token end_array ∷ ls) ≡ end_array ∷ punctuate after_value ls
 unfolding punctuate
-put-end_array fresh ls e = refl
-put-end_array after_value ls e = refl
 put-end_array after_comma ls e = absurd (true≢false (sym e))
 put-end_array after_key ls e = absurd (true≢false (sym e))
+put-end_array _ ls e = refl
 
 pub put-key : (p : Place) (s : List ℕ) (ls : List Lexeme) → may_begin p ≡ true → punctuate p (token (string s) ∷ colon ∷ ls) ≡ key s ∷ punctuate fresh ls
 unfolding punctuate
-put-key fresh s ls e = refl
 put-key after_value s ls e = absurd (true≢false (sym e))
-put-key after_comma s ls e = refl
 put-key after_key s ls e = absurd (true≢false (sym e))
+put-key _ s ls e = refl
 
 put-text : (b : Bool) (p : Place) (s : List ℕ) (k : Place → List Token) → may_begin p ≡ true → b ≡ false
     → place_token p (string s) b k ≡ string s ∷ k after_value
 put-text true p s k e f = absurd (true≢false f)
-put-text false fresh s k e f = refl
 put-text false after_value s k e f = absurd (true≢false (sym e))
-put-text false after_comma s k e f = refl
 put-text false after_key s k e f = absurd (true≢false (sym e))
+put-text false _ s k e f = refl
 
 pub as_placed : (p : Place) (t : Token) (ls : List Lexeme) → punctuate p (token t ∷ ls) ≡ place_token p t (begins_colon ls) (λ next. punctuate next ls)
 unfolding punctuate
 as_placed fresh t ls = refl
-as_placed after_value t ls = refl
-as_placed after_comma t ls = refl
-as_placed after_key t ls = refl
+as_placed _ t ls = refl
 
 pub put-string : (p : Place) (s : List ℕ) (ls : List Lexeme) → may_begin p ≡ true → begins_colon ls ≡ false
     → punctuate p (token (string s) ∷ ls) ≡ string s ∷ punctuate after_value ls
@@ -148,16 +140,11 @@ IsWord-word t =
     (IsWord-cond (head t == ascii.lower_n) third last (IsWord-literal ascii.null_text t null tt) (IsWord-number t (after_number t))))
 
 put-good : (b : Bool) (p : Place) (w : Token) (k : Place → List Token) → IsWord w → (w ≡ bad → ⊥) → may_begin p ≡ true → place_token p w b k ≡ w ∷ k after_value
-put-good b p begin_object k i n e = absurd i
-put-good b p end_object k i n e = absurd i
-put-good b p begin_array k i n e = absurd i
-put-good b p end_array k i n e = absurd i
-put-good b p (key s) k i n e = absurd i
-put-good b p (string s) k i n e = absurd i
 put-good b p (number s) k i n e = ap (λ may. if_allowed may (number s) k after_value) e
 put-good b p (boolean v) k i n e = ap (λ may. if_allowed may (boolean v) k after_value) e
 put-good b p null k i n e = ap (λ may. if_allowed may null k after_value) e
 put-good b p bad k i n e = absurd (n refl)
+put-good b p _ k i n e = absurd i
 
 pub put-word : (p : Place) (w : Token) (ls : List Lexeme) → IsWord w → (w ≡ bad → ⊥) → may_begin p ≡ true
     → punctuate p (token w ∷ ls) ≡ w ∷ punctuate after_value ls
@@ -170,58 +157,35 @@ put-bad p ls = as_placed p bad ls
 
 pub stray-comma : (p : Place) (ls : List Lexeme) → may_begin p ≡ true → punctuate p (comma ∷ ls) ≡ bad ∷ []
 unfolding punctuate
-stray-comma fresh ls e = refl
 stray-comma after_value ls e = absurd (true≢false (sym e))
-stray-comma after_comma ls e = refl
 stray-comma after_key ls e = absurd (true≢false (sym e))
+stray-comma _ ls e = refl
 
 pub stray-colon : (p : Place) (ls : List Lexeme) → may_begin p ≡ true → punctuate p (colon ∷ ls) ≡ bad ∷ []
 unfolding punctuate
-stray-colon fresh ls e = refl
 stray-colon after_value ls e = absurd (true≢false (sym e))
-stray-colon after_comma ls e = refl
 stray-colon after_key ls e = absurd (true≢false (sym e))
+stray-colon _ ls e = refl
 
 abbrev IsNoCloser : Token → Type 0
-IsNoCloser begin_object = Unit {0}
 IsNoCloser end_object = ⊥
-IsNoCloser begin_array = Unit {0}
 IsNoCloser end_array = ⊥
-IsNoCloser (key s) = Unit {0}
-IsNoCloser (string s) = Unit {0}
-IsNoCloser (number s) = Unit {0}
-IsNoCloser (boolean b) = Unit {0}
-IsNoCloser null = Unit {0}
-IsNoCloser bad = Unit {0}
+IsNoCloser _ = Unit {0}
 
 word_no_closer : (w : Token) → IsWord w → IsNoCloser w
-word_no_closer begin_object i = tt
 word_no_closer end_object i = i
-word_no_closer begin_array i = tt
 word_no_closer end_array i = i
-word_no_closer (key s) i = tt
-word_no_closer (string s) i = tt
-word_no_closer (number s) i = tt
-word_no_closer (boolean b) i = tt
-word_no_closer null i = tt
-word_no_closer bad i = tt
+word_no_closer _ i = tt
 
 text_no_closer : (o : Option (List ℕ)) → IsNoCloser (string_token o)
 text_no_closer None = tt
 text_no_closer (Some s) = tt
 
 late : (b : Bool) (t : Token) (k : Place → List Token) → IsNoCloser t → place_token after_value t b k ≡ bad ∷ []
-late b begin_object k n = refl
 late b end_object k n = absurd n
-late b begin_array k n = refl
 late b end_array k n = absurd n
-late b (key s) k n = refl
 late true (string s) k n = refl
-late false (string s) k n = refl
-late b (number s) k n = refl
-late b (boolean v) k n = refl
-late b null k n = refl
-late b bad k n = refl
+late _ _ k n = refl
 
 late_token : (t : Token) (ls : List Lexeme) → IsNoCloser t → punctuate after_value (token t ∷ ls) ≡ bad ∷ []
 late_token t ls n = as_placed after_value t ls ∙ late (begins_colon ls) t (λ next. punctuate next ls) n

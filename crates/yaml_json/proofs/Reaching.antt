@@ -30,17 +30,13 @@ left_is text rest taken stage has = last_is text has.leads.1.passed rest has.lea
 
 pub placed : (text : List ℕ) (taken : List Token) (stage : Stage) (rest : List ℕ) → (stage ≡ Over → ⊥) → HaveTokens text taken (place_of stage) rest
     → Passed text taken stage rest
-placed text taken Open rest some have = have
-placed text taken Behind rest some have = have
-placed text taken Owed rest some have = have
 placed text taken Over rest some have = absurd (some refl)
+placed text taken _ rest some have = have
 
 pub is_placed : (text : List ℕ) (taken : List Token) (stage : Stage) (rest : List ℕ) → (stage ≡ Over → ⊥) → Passed text taken stage rest
     → HaveTokens text taken (place_of stage) rest
-is_placed text taken Open rest some have = have
-is_placed text taken Behind rest some have = have
-is_placed text taken Owed rest some have = have
 is_placed text taken Over rest some have = absurd (some refl)
+is_placed text taken _ rest some have = have
 
 open_behind : Open ≡ Behind → ⊥
 open_behind e = cc
@@ -91,9 +87,7 @@ reads_on text taken stage rest step some has reads leads =
 
 pub no_key_place : (stage : Stage) → place_of stage ≡ after_key → ⊥
 no_key_place Open e = cc
-no_key_place Behind e = cc
-no_key_place Owed e = cc
-no_key_place Over e = cc
+no_key_place _ e = cc
 
 owed_some : (rest : List ℕ) → punctuate after_comma (lex between rest) ≡ [] → ⊥
 owed_some rest e = some_after_comma (lex between rest) e
@@ -111,10 +105,8 @@ more_so Over rest tidy (inl is) some e = cc
 more_so Over rest tidy (inr is) some e = cc
 
 pub more_owed : (stage : Stage) (rest : List ℕ) → IsTidy stage rest → stage ≡ Owed → ahead stage rest ≡ [] → ⊥
-more_owed Open rest tidy is e = cc
-more_owed Behind rest tidy is e = cc
 more_owed Owed rest tidy is e = owed_some rest e
-more_owed Over rest tidy is e = cc
+more_owed _ rest tidy is e = cc
 
 -- ---- the last token of some
 

@@ -140,17 +140,14 @@ separated_colon true t ls = refl
 separated_colon false t ls = refl
 
 pub spelled_colon : (due : Bool) (ts : List Token) → begins_colon (spelled due ts) ≡ false
-spelled_colon due [] = refl
 spelled_colon due (begin_object ∷ ts) = separated_colon due begin_object (spelled false ts)
-spelled_colon due (end_object ∷ ts) = refl
 spelled_colon due (begin_array ∷ ts) = separated_colon due begin_array (spelled false ts)
-spelled_colon due (end_array ∷ ts) = refl
 spelled_colon due (key s ∷ ts) = separated_colon due (string s) (colon ∷ spelled false ts)
 spelled_colon due (string s ∷ ts) = separated_colon due (string s) (spelled true ts)
 spelled_colon due (number s ∷ ts) = separated_colon due (number s) (spelled true ts)
 spelled_colon due (boolean v ∷ ts) = separated_colon due (boolean v) (spelled true ts)
 spelled_colon due (null ∷ ts) = separated_colon due null (spelled true ts)
-spelled_colon due (bad ∷ ts) = refl
+spelled_colon due _ = refl
 
 abbrev pub AreSpelled : List Token → Type 0
 AreSpelled ts = (punctuate fresh (spelled false ts) ≡ ts) × (punctuate after_value (spelled true ts) ≡ ts)
@@ -159,9 +156,7 @@ AreSpelled ts = (punctuate fresh (spelled false ts) ≡ ts) × (punctuate after_
 pub begun_so : (p : Place) → may_begin p ≡ true → (t : Token) → IsBeginner t → (ts : List Token) → AreSpelled ts
     → punctuate p (spelled false (t ∷ ts)) ≡ t ∷ ts
 begun_so p may begin_object is ts so = put-begin_object p (spelled false ts) may ∙ ap (λ (l : List Token). begin_object ∷ l) so.0
-begun_so p may end_object is ts so = absurd is
 begun_so p may begin_array is ts so = put-begin_array p (spelled false ts) may ∙ ap (λ (l : List Token). begin_array ∷ l) so.0
-begun_so p may end_array is ts so = absurd is
 begun_so p may (key s) is ts so = put-key p s (spelled false ts) may ∙ ap (λ (l : List Token). key s ∷ l) so.0
 begun_so p may (string s) is ts so = put-string p s (spelled true ts) may (spelled_colon true ts) ∙ ap (λ (l : List Token). string s ∷ l) so.1
 begun_so p may (number s) is ts so =
@@ -169,7 +164,7 @@ begun_so p may (number s) is ts so =
 begun_so p may (boolean v) is ts so =
     put-word p (boolean v) (spelled true ts) tt (boolean_good v) may ∙ ap (λ (l : List Token). boolean v ∷ l) so.1
 begun_so p may null is ts so = put-word p null (spelled true ts) tt null_good may ∙ ap (λ (l : List Token). null ∷ l) so.1
-begun_so p may bad is ts so = absurd is
+begun_so p may _ is ts so = absurd is
 
 -- and a comma before it
 owed : (ls : List Lexeme) → punctuate after_value (comma ∷ ls) ≡ punctuate after_comma ls
@@ -178,25 +173,22 @@ owed ls = refl
 
 begun_after : (t : Token) → IsBeginner t → (ts : List Token) → AreSpelled ts → punctuate after_value (spelled true (t ∷ ts)) ≡ t ∷ ts
 begun_after begin_object is ts so = owed (spelled false (begin_object ∷ ts)) ∙ begun_so after_comma refl begin_object tt ts so
-begun_after end_object is ts so = absurd is
 begun_after begin_array is ts so = owed (spelled false (begin_array ∷ ts)) ∙ begun_so after_comma refl begin_array tt ts so
-begun_after end_array is ts so = absurd is
 begun_after (key s) is ts so = owed (spelled false (key s ∷ ts)) ∙ begun_so after_comma refl (key s) tt ts so
 begun_after (string s) is ts so = owed (spelled false (string s ∷ ts)) ∙ begun_so after_comma refl (string s) tt ts so
 begun_after (number s) is ts so = owed (spelled false (number s ∷ ts)) ∙ begun_so after_comma refl (number s) tt ts so
 begun_after (boolean v) is ts so = owed (spelled false (boolean v ∷ ts)) ∙ begun_so after_comma refl (boolean v) tt ts so
 begun_after null is ts so = owed (spelled false (null ∷ ts)) ∙ begun_so after_comma refl null tt ts so
-begun_after bad is ts so = absurd is
+begun_after _ is ts so = absurd is
 
 begins : (t : Token) → IsBeginner t → (ts : List Token) → AreSpelled ts → AreSpelled (t ∷ ts)
 begins t is ts so = (begun_so fresh refl t is ts so, begun_after t is ts so)
 
 pub nothing_left : (p : Place) → may_close p ≡ true → punctuate p [] ≡ []
 unfolding punctuate
-nothing_left fresh may = refl
-nothing_left after_value may = refl
 nothing_left after_comma may = absurd (true≢false (sym may))
 nothing_left after_key may = absurd (true≢false (sym may))
+nothing_left _ may = refl
 
 pub are_spelled : (ts : List Token) → AllGood ts → AreSpelled ts
 are_spelled [] good = (nothing_left fresh refl, nothing_left after_value refl)
@@ -222,14 +214,12 @@ are_spelled (bad ∷ ts) good = absurd (good.0 refl)
 -- ---- from a stage
 
 abbrev pub due_at : Stage → Bool
-due_at Open = false
 due_at Behind = true
-due_at Owed = false
 due_at Over = true
+due_at _ = false
 
 pub goes_on_at : (stage : Stage) (t : Token) → IsBeginner t → (ts : List Token) → AllGood ts
     → punctuate (place_of stage) (spelled (due_at stage) (t ∷ ts)) ≡ t ∷ ts
 goes_on_at Open t is ts good = begun_so fresh refl t is ts (are_spelled ts good)
-goes_on_at Behind t is ts good = begun_after t is ts (are_spelled ts good)
 goes_on_at Owed t is ts good = begun_so after_comma refl t is ts (are_spelled ts good)
-goes_on_at Over t is ts good = begun_after t is ts (are_spelled ts good)
+goes_on_at _ t is ts good = begun_after t is ts (are_spelled ts good)

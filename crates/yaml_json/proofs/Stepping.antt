@@ -171,17 +171,15 @@ closes_array text rest step e left ends = record {
 
 pub at_end_closed : (stage : Stage) → closes_here stage ≡ true → ahead stage [] ≡ []
 unfolding lex punctuate
-at_end_closed Open e = refl
-at_end_closed Behind e = refl
 at_end_closed Owed e = absurd (true≢false (sym e))
 at_end_closed Over e = absurd (true≢false (sym e))
+at_end_closed _ e = refl
 
 pub at_end_owed : (stage : Stage) → (stage ≡ Over → ⊥) → closes_here stage ≡ false → ahead stage [] ≡ bad ∷ []
 unfolding lex punctuate
-at_end_owed Open some e = absurd (true≢false e)
-at_end_owed Behind some e = absurd (true≢false e)
 at_end_owed Owed some e = refl
 at_end_owed Over some e = absurd (some refl)
+at_end_owed _ some e = absurd (true≢false e)
 
 unclosed : (t : List ℕ) → head t ≡ 125 → punctuate after_comma (lex between t) ≡ bad ∷ []
 unfolding punctuate
@@ -202,30 +200,26 @@ pub closed_here : (stage : Stage) (text : List ℕ) (step : Step) → closes_her
     → ReadsFirst stage text step
 closed_here Open text step e steps = record { first = steps.first fresh refl; passes = steps.passes fresh refl; tidy = steps.tidy }
 closed_here Behind text step e steps = record { first = steps.first after_value refl; passes = steps.passes after_value refl; tidy = steps.tidy }
-closed_here Owed text step e steps = absurd (true≢false (sym e))
-closed_here Over text step e steps = absurd (true≢false (sym e))
+closed_here _ text step e steps = absurd (true≢false (sym e))
 
 pub begun_here : (stage : Stage) (text : List ℕ) (step : Step) → begins_here stage ≡ true → StepsFrom may_begin (lex between text) step
     → ReadsFirst stage text step
 begun_here Open text step e steps = record { first = steps.first fresh refl; passes = steps.passes fresh refl; tidy = steps.tidy }
-begun_here Behind text step e steps = absurd (true≢false (sym e))
 begun_here Owed text step e steps = record { first = steps.first after_comma refl; passes = steps.passes after_comma refl; tidy = steps.tidy }
-begun_here Over text step e steps = absurd (true≢false (sym e))
+begun_here _ text step e steps = absurd (true≢false (sym e))
 
 pub may_not_close : (stage : Stage) (text : List ℕ) → (stage ≡ Over → ⊥) → closes_here stage ≡ false → (head text ≡ 125) ⊎ (head text ≡ 93)
     → ahead stage text ≡ bad ∷ []
-may_not_close Open text some e closer = absurd (true≢false e)
-may_not_close Behind text some e closer = absurd (true≢false e)
 may_not_close Owed text some e (inl object) = unclosed text object
 may_not_close Owed text some e (inr array) = unclosed_array text array
 may_not_close Over text some e closer = absurd (some refl)
+may_not_close _ text some e closer = absurd (true≢false e)
 
 pub may_not_begin : (stage : Stage) (text : List ℕ) → (stage ≡ Over → ⊥) → begins_here stage ≡ false → IsTidy stage text
     → (text ≡ [] → ⊥) → (head text ≡ 125 → ⊥) → (head text ≡ 93 → ⊥) → ahead stage text ≡ bad ∷ []
-may_not_begin Open text some e tidy more a b = absurd (true≢false e)
 may_not_begin Behind text some e tidy more a b = stray-behind text tidy.trimmed more (tidy.comma refl) a b
-may_not_begin Owed text some e tidy more a b = absurd (true≢false e)
 may_not_begin Over text some e tidy more a b = absurd (some refl)
+may_not_begin _ text some e tidy more a b = absurd (true≢false e)
 
 -- ---- tokens that are read can be written
 
@@ -236,16 +230,8 @@ printable_ahead Owed rest = ArePrintableOrBad-tokens_at AfterComma rest
 printable_ahead Over rest = tt
 
 good_printable : (t : variants.Token) → IsPrintableOrBad (token_of t) → (t ≡ tokens.Bad → ⊥) → IsPrintable (token_of t)
-good_printable tokens.BeginObject p isn't = p
-good_printable tokens.EndObject p isn't = p
-good_printable tokens.BeginArray p isn't = p
-good_printable tokens.EndArray p isn't = p
-good_printable (tokens.Key s) p isn't = p
-good_printable (tokens.String s) p isn't = p
-good_printable (tokens.Number s) p isn't = p
-good_printable (tokens.Bool b) p isn't = p
-good_printable tokens.Null p isn't = p
 good_printable tokens.Bad p isn't = absurd (isn't refl)
+good_printable _ p isn't = p
 
 pub first_printable : (stage : Stage) (rest : List ℕ) (t : variants.Token) (left : List Token) → ahead stage rest ≡ token_of t ∷ left
     → (t ≡ tokens.Bad → ⊥) → IsPrintable (token_of t)

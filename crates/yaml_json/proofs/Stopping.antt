@@ -34,19 +34,15 @@ FailedAt was event error now = ((error ≡ Memory) × (now ≡ was)) ⊎ FailedH
 -- the stop tells of the error of a call
 told : (P : yaml_error_t → Type 0) (now : WriterState) (error : yaml_error_t) (stop : Stop) → TellsOf error stop
     → (error ≡ Memory) ⊎ (now.emitter.error ≡ Some error) → P error → IfSome (failure_of now stop) P
-told P now error (stops.NotJson spot) tells found held = absurd tells
-told P now error stops.TooDeep tells found held = absurd tells
-told P now error stops.NameAgain tells found held = absurd tells
 told P now error stops.Memory is found held = subst P is held
 told P now error stops.Failed isn't (inl is) held = absurd (isn't is)
 told P now error stops.Failed isn't (inr has) held = subst (λ (found : Option yaml_error_t). P (unwrap_or found Memory)) (sym has) held
+told P now error _ tells found held = absurd tells
 
 never_by_text : (error : yaml_error_t) (stop : Stop) → TellsOf error stop → IsByText stop → ⊥
-never_by_text error (stops.NotJson spot) tells by_text = tells
-never_by_text error stops.TooDeep tells by_text = tells
-never_by_text error stops.NameAgain tells by_text = tells
 never_by_text error stops.Memory tells by_text = by_text
 never_by_text error stops.Failed tells by_text = by_text
+never_by_text error _ tells by_text = tells
 
 abbrev CodeOf : WriterState → yaml_error_t → Type 0
 CodeOf now error = (error ≡ Memory) ⊎ (now.emitter.error ≡ Some error)
@@ -56,9 +52,8 @@ answered : (P : Type 0) (Q : yaml_error_t → Type 0) (now : WriterState) (answe
     → IsWritersAnswer answer result → OnOk answer P → IfErr answer (λ error. CodeOf now error × Q error)
     → OnOk result P × (RefusesText result → ⊥) × IfSome (emitter_error_of now result) Q
 answered P Q now (Ok done) (Ok same) is held failed = (held, (λ refused. refused), tt)
-answered P Q now (Ok done) (Err stop) is held failed = absurd is
-answered P Q now (Err error) (Ok same) is held failed = absurd is
 answered P Q now (Err error) (Err stop) is held failed = (tt, never_by_text error stop is, told Q now error stop is failed.0 failed.1)
+answered P Q now _ _ is held failed = absurd is
 
 code_at : (before after : WriterState) (event : Event) (error : yaml_error_t) → FailedAt before event error after → CodeOf after error
 code_at before after event error (inl memory) = inl memory.0
@@ -77,8 +72,6 @@ pub answered_end : (before after : WriterState) (answer : Result (Unit {0}) yaml
     → OnOk result (EndsInnermost before (Ok tt) after) × (RefusesText result → ⊥)
     × IfSome (emitter_error_of after result) (λ error. FailedAtEnd before error after)
 answered_end before after (Ok done) (Ok same) is ends = (ends, (λ refused. refused), tt)
-answered_end before after (Ok done) (Err stop) is ends = absurd is
-answered_end before after (Err error) (Ok same) is ends = absurd is
 answered_end before after (Err error) (Err stop) is (inl none) =
     (tt, never_by_text error stop is, whatever (failure_of after stop) (λ code. inl (none.0, none.2)))
 answered_end before after (Err error) (Err stop) is (inr end) = (
@@ -86,6 +79,7 @@ answered_end before after (Err error) (Err stop) is (inr end) = (
   never_by_text error stop is,
   told (λ code. FailedAtEnd before code after) after error stop is (inr (some_from_result after.emitter.error error end.emits.answered)) (inr end),
 )
+answered_end before after _ _ is ends = absurd is
 
 -- ---- events
 
@@ -142,10 +136,8 @@ kept_memory before = record { grows = grows_itself before.emitter.page; sound = 
 -- no token was read
 pub kept_unread : (before : WriterState) (ahead : List Token) (stop : Stop) → ReadsNone ahead stop → Kept before (Err stop) before
 kept_unread before ahead (stops.NotJson spot) none = kept_same before before (stops.NotJson spot) refl tt
-kept_unread before ahead stops.TooDeep none = absurd none
-kept_unread before ahead stops.NameAgain none = absurd none
 kept_unread before ahead stops.Memory none = kept_memory before
-kept_unread before ahead stops.Failed none = absurd none
+kept_unread before ahead _ none = absurd none
 
 -- a call that succeeded, and then another
 pub kept_then : (before between after : WriterState) (result : Result (Unit {0}) Stop) → Kept before (Ok tt) between → Kept between result after
@@ -168,19 +160,15 @@ kept_then before between after result one other =
 module _ (before after : WriterState) where
   kept_gave : (error : yaml_error_t) (stop : Stop) → TellsOf error stop → Grows before.emitter.page after.emitter.page
       → after.emitter.error ≡ Some error → Kept before (Err stop) after
-  kept_gave error (stops.NotJson spot) tells grows has = absurd tells
-  kept_gave error stops.TooDeep tells grows has = absurd tells
-  kept_gave error stops.NameAgain tells grows has = absurd tells
   kept_gave error stops.Memory is grows has = record { grows = grows; sound = inr (has ∙ ap (λ (e : yaml_error_t). Some e) is) }
   kept_gave error stops.Failed isn't grows has = record { grows = grows; sound = tt }
+  kept_gave error _ tells grows has = absurd tells
 
   kept_still : (error : yaml_error_t) (stop : Stop) → TellsOf error stop → after ≡ before → Kept before (Err stop) after
-  kept_still error (stops.NotJson spot) tells same = absurd tells
-  kept_still error stops.TooDeep tells same = absurd tells
-  kept_still error stops.NameAgain tells same = absurd tells
   kept_still error stops.Memory tells same = subst (Kept before (Err stops.Memory)) (sym same) (kept_memory before)
   kept_still error stops.Failed tells same =
       subst (Kept before (Err stops.Failed)) (sym same) (record { grows = grows_itself before.emitter.page; sound = tt })
+  kept_still error _ tells same = absurd tells
 
   -- that gives an event
   pub kept_event : (first : WriterState) → first.emitter ≡ before.emitter → (event : Event) (answer : Result (Unit {0}) yaml_error_t)
@@ -192,23 +180,21 @@ module _ (before after : WriterState) where
         grows = subst (λ (s : State). Grows s.page after.emitter.page) is gave.emits.grows;
         sound = none_from_result after.emitter.error gave.emits.answered;
       }
-  kept_event first is event (Ok done) (Err stop) answers gave failed = absurd answers
-  kept_event first is event (Err error) (Ok same) answers gave failed = absurd answers
   kept_event first is event (Err error) (Err stop) answers gave (inl given) =
       kept_gave error stop answers (subst (λ (s : State). Grows s.page after.emitter.page) is given.emits.grows)
       (some_from_result after.emitter.error error given.emits.answered)
   kept_event first is event (Err error) (Err stop) answers gave (inr memory) = kept_still error stop answers memory.1
+  kept_event first is event _ _ answers gave failed = absurd answers
 
   -- that ends a collection
   pub kept_end : (answer : Result (Unit {0}) yaml_error_t) (result : Result (Unit {0}) Stop) → IsWritersAnswer answer result → EndsInnermost before answer after
       → Kept before result after
   kept_end (Ok done) (Ok same) answers (inl none) = absurd (not_both (Ok done) done ExpectedDocumentEnd refl none.1)
   kept_end (Ok done) (Ok same) answers (inr end) = record { grows = end.emits.grows; sound = none_from_result after.emitter.error end.emits.answered }
-  kept_end (Ok done) (Err stop) answers ends = absurd answers
-  kept_end (Err error) (Ok same) answers ends = absurd answers
   kept_end (Err error) (Err stop) answers (inl none) = kept_still error stop answers none.2
   kept_end (Err error) (Err stop) answers (inr end) =
       kept_gave error stop answers end.emits.grows (some_from_result after.emitter.error error end.emits.answered)
+  kept_end _ _ answers ends = absurd answers
 
 -- ---- that nothing changed
 
@@ -222,18 +208,16 @@ module _ (before after : WriterState) where
       → IfErr answer (λ error. GaveEvent first event (Err error) after ⊎ ((error ≡ Memory) × (after ≡ before)))
       → OnErr result (StaysUnlessFailed before after)
   unmoved_event first event (Ok done) (Ok same) answers failed = tt
-  unmoved_event first event (Ok done) (Err stop) answers failed = absurd answers
-  unmoved_event first event (Err error) (Ok same) answers failed = absurd answers
   unmoved_event first event (Err error) (Err stop) answers (inl given) =
       λ none. absurd (has_none after.emitter.error error (some_from_result after.emitter.error error given.emits.answered) none)
   unmoved_event first event (Err error) (Err stop) answers (inr memory) = λ none. memory.1
+  unmoved_event first event _ _ answers failed = absurd answers
 
   -- or ends a collection
   pub level_end : (answer : Result (Unit {0}) yaml_error_t) (result : Result (Unit {0}) Stop) → IsWritersAnswer answer result
       → EndsInnermost before answer after → OnErr result (StaysLevelUnlessFailed before after)
   level_end (Ok done) (Ok same) answers ends = tt
-  level_end (Ok done) (Err stop) answers ends = absurd answers
-  level_end (Err error) (Ok same) answers ends = absurd answers
   level_end (Err error) (Err stop) answers (inl none) = λ sound. ap (λ (w : WriterState). w.levels) none.2
   level_end (Err error) (Err stop) answers (inr end) =
       λ none. absurd (has_none after.emitter.error error (some_from_result after.emitter.error error end.emits.answered) none)
+  level_end _ _ answers ends = absurd answers

@@ -17,49 +17,28 @@ use Rattle.yaml_json.specs.declared.values.Stop.TheVariants as stops
 
 -- no token is read
 pub unread_memory : (ahead : List Token) (now : WriterState) (stop : Stop) → ReadsNone ahead stop → IfSome (failure_of now stop) (λ error. error ≡ Memory)
-unread_memory ahead now (stops.NotJson spot) none = tt
-unread_memory ahead now stops.TooDeep none = tt
-unread_memory ahead now stops.NameAgain none = tt
 unread_memory ahead now stops.Memory none = refl
 unread_memory ahead now stops.Failed none = absurd none
+unread_memory ahead now _ none = tt
 
 -- Tokens that are refused within a value.
 spot_inside : (token : Token) → StopsInside (stops.NotJson (spot_of token))
 spot_inside Token.begin_object = tt
-spot_inside Token.end_object = tt
-spot_inside Token.begin_array = tt
-spot_inside Token.end_array = tt
-spot_inside (Token.key text) = tt
-spot_inside (Token.string text) = tt
-spot_inside (Token.number text) = tt
-spot_inside (Token.boolean flag) = tt
-spot_inside Token.null = tt
-spot_inside Token.bad = tt
+spot_inside _ = tt
 
 inside_token : (depth : ℕ) (levels : List CollectionKind) (token : Token) (stop : Stop) → RefusesToken depth levels token stop → StopsInside stop
 inside_token depth levels token (stops.NotJson spot) refuses = subst (λ (s : Spot). StopsInside (stops.NotJson s)) (sym refuses.1) (spot_inside token)
-inside_token depth levels token stops.TooDeep refuses = tt
-inside_token depth levels token stops.NameAgain refuses = tt
-inside_token depth levels token stops.Memory refuses = tt
-inside_token depth levels token stops.Failed refuses = tt
+inside_token depth levels token _ refuses = tt
 
 pub inside_first : (depth : ℕ) (levels : List CollectionKind) (ahead : List Token) (stop : Stop) → RefusesFirst depth levels ahead stop → StopsInside stop
 inside_first depth levels [] (stops.NotJson spot) refuses = subst (λ (s : Spot). StopsInside (stops.NotJson s)) (sym refuses) tt
-inside_first depth levels [] stops.TooDeep refuses = tt
-inside_first depth levels [] stops.NameAgain refuses = tt
-inside_first depth levels [] stops.Memory refuses = tt
-inside_first depth levels [] stops.Failed refuses = tt
 inside_first depth levels (token ∷ after) stop refuses = inside_token depth levels token stop refuses
+inside_first depth levels [] _ refuses = tt
 
 -- If it isn't whole, all is left.
 pub all_left : (stop : Stop) (taken left : List Token) → StopsInside stop → WereLeft stop taken left left
-all_left (stops.NotJson At) taken left inside = refl
-all_left (stops.NotJson PastString) taken left inside = refl
 all_left (stops.NotJson PastValue) taken left inside = absurd inside
-all_left stops.TooDeep taken left inside = refl
-all_left stops.NameAgain taken left inside = refl
-all_left stops.Memory taken left inside = refl
-all_left stops.Failed taken left inside = refl
+all_left _ taken left inside = refl
 
 -- no scalar closes an array
 no_scalar_closes : (token : Token) → IsScalar token → token ≡ Token.end_array → ⊥
@@ -71,11 +50,9 @@ pub first_unread : (depth : ℕ) (levels : List CollectionKind) (ahead : List To
     → RefusesFirst depth levels ahead stop
 first_unread depth levels ahead (stops.NotJson spot) none =
     subst (λ (all : List Token). RefusesFirst depth levels all (stops.NotJson spot)) (sym none.0) none.1
-first_unread depth levels ahead stops.TooDeep none = absurd none
-first_unread depth levels ahead stops.NameAgain none = absurd none
 first_unread depth levels [] stops.Memory none = tt
 first_unread depth levels (token ∷ after) stops.Memory none = tt
-first_unread depth levels ahead stops.Failed none = absurd none
+first_unread depth levels ahead _ none = absurd none
 
 pub first_stopped : (depth : ℕ) (levels : List CollectionKind) (ahead : List Token) (token : Token) (after : List Token) → ahead ≡ token ∷ after
     → (stop : Stop) → RefusesToken depth levels token stop → RefusesFirst depth levels ahead stop
@@ -190,10 +167,8 @@ module _ {A : Type 0} (depth : ℕ) (unique in_flow : Bool) (levels outer : List
         → Refuses depth unique in_flow levels held ahead last before stop now
     unread kind is (stops.NotJson spot) none by_text =
         subst (λ (s : Spot). Refuses depth unique in_flow levels held ahead last before (stops.NotJson s) now) (sym none.1) (unread_so kind is none.0)
-    unread kind is stops.TooDeep none by_text = absurd none
-    unread kind is stops.NameAgain none by_text = absurd none
     unread kind is stops.Memory none by_text = absurd by_text
-    unread kind is stops.Failed none by_text = absurd none
+    unread kind is _ none by_text = absurd none
 
   -- The token after a name is refused.
   module _ (is : levels ≡ outer ++ Mapping ∷ []) (name : List ℕ) (inner : List Token) (first : ahead ≡ Token.key name ∷ inner) (later : Names A)

@@ -49,16 +49,11 @@ abbrev pub KeepsLevels : Token → Type 0
 KeepsLevels token = (canonical in_flow : Bool) (levels : List CollectionKind) → levels_after (token_events canonical in_flow token) levels ≡ levels
 
 pub scalar_keeps : (token : Token) → IsScalar token → KeepsLevels token
-scalar_keeps Token.begin_object is canonical in_flow levels = absurd is
-scalar_keeps Token.end_object is canonical in_flow levels = absurd is
-scalar_keeps Token.begin_array is canonical in_flow levels = absurd is
-scalar_keeps Token.end_array is canonical in_flow levels = absurd is
-scalar_keeps (Token.key text) is canonical in_flow levels = absurd is
 scalar_keeps (Token.string text) is canonical in_flow levels = refl
 scalar_keeps (Token.number text) is canonical in_flow levels = refl
 scalar_keeps (Token.boolean flag) is canonical in_flow levels = refl
 scalar_keeps Token.null is canonical in_flow levels = refl
-scalar_keeps Token.bad is canonical in_flow levels = absurd is
+scalar_keeps _ is canonical in_flow levels = absurd is
 
 pub event_keeps : (in_flow : Bool) (token : Token) (event : Bool → Event) → KeepsLevels token
     → ((canonical : Bool) → token_events canonical in_flow token ≡ event canonical ∷ []) → (canonical : Bool) (levels : List CollectionKind)

@@ -5,7 +5,7 @@ use Rattle.yaml_json.specs.Failing.{events_with_separators}
 use Rattle.yaml_writer.proofs.OpenLevels.{levels_after-append, levels_after_end}
 use Rattle.yaml_writer.specs.WasGiven.{between, levels_after, levels_after_event}
 use Rattle.yaml_json.proofs.Common.{ℕ, Bool, List, [], ◌++◌, ◌∷◌, refl, ◌≡◌, append_assoc, ap, ap₂}
-use Rattle.yaml_json.proofs.Common.{sym, ◌∙◌, flat_map-append, chars, Json, null, boolean, number, string, Items, array, Members, object, no_items}
+use Rattle.yaml_json.proofs.Common.{sym, ◌∙◌, flat_map-append, chars, Json, Items, array, Members, object, no_items}
 use Rattle.yaml_json.proofs.Common.{item, no_members, member, Token, json_tokens, items_tokens, members_tokens, Event}
 use Rattle.yaml_json.proofs.Common.{scalar, sequence_start, sequence_end, mapping_start, mapping_end, text_content, collection_in, json_events, items_events}
 use Rattle.yaml_json.proofs.Common.{members_events, token_events, tokens_events}
@@ -23,14 +23,11 @@ ends_after canonical in_flow first second events later end one other =
 
 mutual
   pub value_given : (json : Json) (canonical in_flow : Bool) → tokens_events canonical in_flow (json_tokens json) ≡ json_events canonical in_flow json
-  value_given null canonical in_flow = refl
-  value_given (boolean flag) canonical in_flow = refl
-  value_given (number text) canonical in_flow = refl
-  value_given (string text) canonical in_flow = refl
   value_given (array inner) canonical in_flow =
       ap (λ (events : List Event). sequence_start (collection_in in_flow) ∷ events) (items_given inner canonical in_flow)
   value_given (object inner) canonical in_flow =
       ap (λ (events : List Event). mapping_start (collection_in in_flow) ∷ events) (members_given inner canonical in_flow)
+  value_given _ canonical in_flow = refl
 
   items_given : (inner : Items) (canonical in_flow : Bool)
       → tokens_events canonical in_flow (items_tokens inner) ≡ items_events canonical in_flow inner ++ sequence_end ∷ []
@@ -51,16 +48,13 @@ mutual
 
 mutual
   pub value_closed : (json : Json) (canonical in_flow : Bool) (levels : List CollectionKind) → levels_after (json_events canonical in_flow json) levels ≡ levels
-  value_closed null canonical in_flow levels = refl
-  value_closed (boolean flag) canonical in_flow levels = refl
-  value_closed (number text) canonical in_flow levels = refl
-  value_closed (string text) canonical in_flow levels = refl
   value_closed (array inner) canonical in_flow levels =
       levels_after-append (items_events canonical in_flow inner) (sequence_end ∷ []) (levels ++ Sequence ∷ [])
       ∙ ap (levels_after_event sequence_end) (items_closed inner canonical in_flow (levels ++ Sequence ∷ [])) ∙ levels_after_end Sequence levels
   value_closed (object inner) canonical in_flow levels =
       levels_after-append (members_events canonical in_flow inner) (mapping_end ∷ []) (levels ++ Mapping ∷ [])
       ∙ ap (levels_after_event mapping_end) (members_closed inner canonical in_flow (levels ++ Mapping ∷ [])) ∙ levels_after_end Mapping levels
+  value_closed _ canonical in_flow levels = refl
 
   items_closed : (inner : Items) (canonical in_flow : Bool) (levels : List CollectionKind) → levels_after (items_events canonical in_flow inner) levels ≡ levels
   items_closed no_items canonical in_flow levels = refl

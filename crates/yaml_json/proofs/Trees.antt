@@ -30,14 +30,11 @@ abbrev mutual
 -- their events are those of the value
 mutual
   pub node_flat : (json : Json) (canonical in_flow : Bool) → node_events (json_node json canonical in_flow) ≡ json_events canonical in_flow json
-  node_flat null canonical in_flow = refl
-  node_flat (boolean flag) canonical in_flow = refl
-  node_flat (number text) canonical in_flow = refl
-  node_flat (string text) canonical in_flow = refl
   node_flat (array items) canonical in_flow =
       ap (λ (events : List Event). sequence_start (collection_in in_flow) ∷ (events ++ sequence_end ∷ [])) (items_flat items canonical in_flow no_nodes)
   node_flat (object members) canonical in_flow =
       ap (λ (events : List Event). mapping_start (collection_in in_flow) ∷ (events ++ mapping_end ∷ [])) (members_flat members canonical in_flow no_pairs)
+  node_flat _ canonical in_flow = refl
 
   items_flat : (items : Items) (canonical in_flow : Bool) (before : Nodes)
       → nodes_events (items_nodes items canonical in_flow before) ≡ nodes_events before ++ items_events canonical in_flow items

@@ -142,16 +142,11 @@ awaits_named depth taken levels key ahead stands =
 -- ---- one token more
 
 scalar_taken : (d : ℕ) (token : Token) (more : List Token) → IsScalar token → skip_value d (token ∷ more) ≡ Some more
-scalar_taken d Token.begin_object more is = absurd is
-scalar_taken d Token.end_object more is = absurd is
-scalar_taken d Token.begin_array more is = absurd is
-scalar_taken d Token.end_array more is = absurd is
-scalar_taken d (Token.key text) more is = absurd is
 scalar_taken d (Token.string text) more is = ap left (value_is d (Token.string text ∷ more))
 scalar_taken d (Token.number text) more is = ap left (value_is d (Token.number text ∷ more))
 scalar_taken d (Token.boolean flag) more is = ap left (value_is d (Token.boolean flag ∷ more))
 scalar_taken d Token.null more is = ap left (value_is d (Token.null ∷ more))
-scalar_taken d Token.bad more is = absurd is
+scalar_taken d _ more is = absurd is
 
 opener_taken : (kind : CollectionKind) (d : ℕ) (more : List Token) → 0 < d → skip_value d (opener kind ∷ more) ≡ skip_rest kind (d - 1) more
 opener_taken Sequence d more deep =
@@ -301,16 +296,8 @@ awaiting_whole depth ahead =
 
 -- an item
 unclosed : (token : Token) (more : List Token) → (token ≡ Token.end_array → ⊥) → after_end_array (token ∷ more) ≡ None
-unclosed Token.begin_object more isn't = refl
-unclosed Token.end_object more isn't = refl
-unclosed Token.begin_array more isn't = refl
 unclosed Token.end_array more isn't = absurd (isn't refl)
-unclosed (Token.key text) more isn't = refl
-unclosed (Token.string text) more isn't = refl
-unclosed (Token.number text) more isn't = refl
-unclosed (Token.boolean flag) more isn't = refl
-unclosed Token.null more isn't = refl
-unclosed Token.bad more isn't = refl
+unclosed _ more isn't = refl
 
 pub awaiting_item : (depth : ℕ) (taken : List Token) (levels outer : List CollectionKind) (token : Token) (after : List Token)
     → levels ≡ outer ++ Sequence ∷ [] → LeavesOpen depth taken levels → (token ≡ Token.end_array → ⊥) → Awaiting depth taken levels (token ∷ after)

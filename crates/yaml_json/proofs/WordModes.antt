@@ -5,7 +5,7 @@ use Rattle.std.proofs.lemmas.Bool.{true≢false, eqb-true, or_parts, and_parts}
 use Rattle.std.specs.Char.{is_ascii_digit}
 use Rattle.json.specs.Ascii as ascii
 use Rattle.std.specs.List.{prefix_len, starts_with}
-use Rattle.json.specs.Lex.{backslash, between, class, in_escape, in_string, in_word, operator, other, quote, space}
+use Rattle.json.specs.Lex.{backslash, between, class, in_word, operator, other, quote, space}
 use Rattle.json.specs.Word.{after_digits, after_exponent, after_fraction, after_minus, after_number, after_sign, after_whole, ends_word, head}
 use Rattle.json.specs.Word.{is_operator, is_space}
 use Rattle.yaml_json.specs.Lexemes.{IsInWord}
@@ -18,11 +18,9 @@ abbrev pub InWord : (text rest : List ℕ) → Type 0
 InWord text rest = GoesOver in_word text rest in_word
 
 inner_stays : (q b o s : Bool) → (o || s) ≡ false → mode_after in_word (cond q quote (cond b backslash (cond o operator (cond s space other)))) ≡ in_word
-inner_stays true b o s e = refl
-inner_stays false true o s e = refl
-inner_stays false false false false e = refl
 inner_stays false false false true e = absurd (true≢false e)
 inner_stays false false true s e = absurd (true≢false e)
+inner_stays _ _ _ _ e = refl
 
 pub byte_stays : (x : ℕ) → Inner x → mode_after in_word (class x) ≡ in_word
 byte_stays x e = inner_stays (x == ascii.quote) (x == ascii.backslash) (is_operator x) (is_space x) e
@@ -128,5 +126,4 @@ word_leads t rest is goes ends from (inl none) = absurd (some_left t is none)
 word_leads t rest is goes ends between (inr may) =
     (in_word, record { passed = goes.passed; parts = goes.parts; mode = either_way goes.passed t rest goes.parts is ends goes.mode }, inr ends)
 word_leads t rest is goes ends in_word (inr may) = absurd (not_ended t is may)
-word_leads t rest is goes ends in_string (inr may) = absurd may
-word_leads t rest is goes ends in_escape (inr may) = absurd may
+word_leads t rest is goes ends _ (inr may) = absurd may

@@ -27,11 +27,8 @@ pub letter_inner : (x : ℕ) → ((x == 101) || (x == 69)) ≡ true → Inner x
 letter_inner x letter = grind (arith, nat_tests)
 
 other_by : (q b o s : Bool) → cond q quote (cond b backslash (cond o operator (cond s space other))) ≡ other → (o || s) ≡ false
-other_by true b o s e = cc
-other_by false true o s e = cc
-other_by false false true s e = cc
-other_by false false false true e = cc
 other_by false false false false e = refl
+other_by _ _ _ _ e = cc
 
 pub other_inner : (x : ℕ) → class x ≡ other → Inner x
 other_inner x = other_by (x == ascii.quote) (x == ascii.backslash) (is_operator x) (is_space x)
