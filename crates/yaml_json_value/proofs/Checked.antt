@@ -9,7 +9,8 @@ use Rattle.yaml_base.specs.values.TypedValues.{TypedValue, most_nested, nesting}
 use Rattle.yaml_emitter.specs.Given.{seen_settings}
 use Rattle.yaml_value.specs.declared.keys.Keys.{Keys}
 use Rattle.yaml_value.specs.declared.keys.Keys.TheVariants as keys
-use Rattle.yaml_writer.specs.Places.{AreOf}
+use Rattle.yaml_base.specs.Positions.{IsPositionOf}
+use Rattle.yaml_base.specs.declared.places.Position.{Position}
 use Rattle.yaml_json.specs.Reached.{AreFrom}
 use Rattle.yaml_json.specs.WritingCalls.{HasNoYaml, HasYaml}
 use Rattle.yaml_json.specs.declared.error.JsonError.{JsonError}
@@ -28,7 +29,7 @@ names_allowed keys.MayRepeat json names = tt
 
 -- a text that has YAML under these settings
 pub is_json : (mode : Keys) (settings : JsonSettings) (text bytes : List ℕ) → IsForValues mode settings
-    → HasYaml (seen_settings settings.writer) settings.flow settings.depth settings.unique_names text bytes → IsJson mode text
+    → HasYaml (seen_settings settings.values.emitter) settings.values.flow settings.values.depth settings.unique_names text bytes → IsJson mode text
 is_json mode settings text bytes by yaml =
     let json = yaml.stream.json in
     let read : value most_nested (tokens text) ≡ Some (json, []) =
@@ -41,14 +42,14 @@ is_any_json mode text json = (json.0, json.1, tt)
 
 -- one that is refused under them
 pub json_error : (mode : Keys) (settings : JsonSettings) (text : List ℕ) (error : JsonError) → IsForValues mode settings
-    → HasNoYaml (seen_settings settings.writer) settings.flow settings.depth settings.unique_names text error → IsJsonErrorOf mode text error
+    → HasNoYaml (seen_settings settings.values.emitter) settings.values.flow settings.values.depth settings.unique_names text error → IsJsonErrorOf mode text error
 json_error mode settings text error by none =
-    let given = seen_settings settings.writer in
+    let given = seen_settings settings.values.emitter in
     let differ = names_differ mode in
-    subst (λ (x : Settings). HasNoYaml x true most_nested differ text error) by.writer
+    subst (λ (x : Settings). HasNoYaml x true most_nested differ text error) by.emitter
     (subst (λ (flow : Bool). HasNoYaml given flow most_nested differ text error) by.flow
-    (subst (λ (depth : ℕ). HasNoYaml given settings.flow depth differ text error) by.depth
-    (subst (λ (unique : Bool). HasNoYaml given settings.flow settings.depth unique text error) by.names none)))
+    (subst (λ (depth : ℕ). HasNoYaml given settings.values.flow depth differ text error) by.depth
+    (subst (λ (unique : Bool). HasNoYaml given settings.values.flow settings.values.depth unique text error) by.names none)))
 
 pub no_memory : (mode : Keys) (text : List ℕ) → IsJsonErrorOf mode text (errors.Emitter Memory)
 no_memory mode text = record { refused = λ denied. absurd denied; why = tt; failed = inl refl; place = (0, (tt, tt)) }
@@ -69,10 +70,10 @@ is_value mode text ahead found json is rooted integers =
       is = rooted (typed_value json.0) (root_of mode text ahead json is);
     }
 
-pub other_number : (mode : Keys) (text read_text : List ℕ) (ahead from : List Token) (at line column : ℕ) → IsJson mode text → ahead ≡ tokens text
-    → read_text ≡ text → IsFromOtherNumber ahead from → AreFrom read_text from at → AreOf text at line column
-    → HasOtherNumber mode text line column
-other_number mode text read_text ahead from at line column json is same number begins place =
+pub other_number : (mode : Keys) (text read_text : List ℕ) (ahead from : List Token) (at : ℕ) (position : Position) → IsJson mode text → ahead ≡ tokens text
+    → read_text ≡ text → IsFromOtherNumber ahead from → AreFrom read_text from at → IsPositionOf text at position
+    → HasOtherNumber mode text position
+other_number mode text read_text ahead from at position json is same number begins place =
     record {
       json = json;
       from = from;

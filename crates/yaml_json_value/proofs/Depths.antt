@@ -3,7 +3,7 @@ use Rattle.yaml_base.proofs.Common.{ℕ, zero, ◌≤◌, suc, List, [], ◌≡�
 use Rattle.std.proofs.Math.Nat.{le-max_left, le-max_right}
 use Rattle.std.specs.Prelude.{max}
 use Rattle.std.specs.Str.{chars}
-use Rattle.json.specs.Json.{Json, null, boolean, number, string, array, object, Items, no_items, item, Members, no_members, member, value}
+use Rattle.json.specs.Json.{Json, array, object, Items, no_items, item, Members, no_members, member, value}
 use Rattle.json.specs.Tree.{depth, items_depth, members_depth}
 use Rattle.json.specs.Token.{Token}
 use Rattle.json.proofs.Nesting.{value-depth}
@@ -25,16 +25,13 @@ one n d below = omega (arith, below)
 
 mutual
   value_below : (json : Json) (d : ℕ) → depth json ≤ d → nesting (typed_value json) ≤ d
-  value_below null d below = below
-  value_below (boolean flag) d below = below
-  value_below (number text) d below = below
-  value_below (string text) d below = below
   value_below (array items) zero below = absurd (omega (arith, below))
   value_below (array items) (suc d) below =
       one (values_nesting (typed_items items no_values)) d (items_below items no_values d (omega arith) (omega (arith, below)))
   value_below (object entries) zero below = absurd (omega (arith, below))
   value_below (object entries) (suc d) below =
       one (value_pairs_nesting (typed_members entries no_value_pairs)) d (members_below entries no_value_pairs d (omega arith) (omega (arith, below)))
+  value_below _ d below = below
 
   items_below : (items : Items) (before : TypedValues) (d : ℕ) → values_nesting before ≤ d → items_depth items ≤ d
       → values_nesting (typed_items items before) ≤ d

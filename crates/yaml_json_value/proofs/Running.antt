@@ -1,7 +1,7 @@
 -- A walk over the tokens of a value gives the value.
 use Rattle.yaml_base.proofs.Common.{List, [], ◌∷◌, ◌++◌, refl, ◌≡◌, ap, ◌∙◌, append_assoc, option_and_then, Some, ℕ}
 use Rattle.std.specs.Str.{chars}
-use Rattle.json.specs.Json.{Json, null, boolean, number, string, array, object, Items, no_items, item, Members, no_members, member, value}
+use Rattle.json.specs.Json.{Json, array, object, Items, no_items, item, Members, no_members, member, value}
 use Rattle.json.specs.Token.{Token}
 use Rattle.json.specs.Tree.{json_tokens, items_tokens, members_tokens}
 use Rattle.yaml_base.specs.values.TypedValues.{text_value, list_value, map_value, TypedValues, no_values, values_and, TypedPairs, no_value_pairs}
@@ -14,12 +14,9 @@ use Rattle.yaml_json_value.specs.Typed.{typed_value, typed_items, typed_members}
 mutual
   runs_value : (json : Json) (rest : List Token) (levels : List OpenLevel)
       → run (json_tokens json ++ rest) (within levels) ≡ option_and_then (run rest) (give levels (typed_value json))
-  runs_value null rest levels = refl
-  runs_value (boolean flag) rest levels = refl
-  runs_value (number text) rest levels = refl
-  runs_value (string text) rest levels = refl
   runs_value (array items) rest levels = runs_items items no_values rest levels
   runs_value (object members) rest levels = runs_members members no_value_pairs rest levels
+  runs_value _ rest levels = refl
 
   runs_items : (items : Items) (before : TypedValues) (rest : List Token) (levels : List OpenLevel)
       → run (items_tokens items ++ rest) (within (items_open before ∷ levels))

@@ -47,13 +47,11 @@ pub ends_short : (A : Type 0) (start ahead : List Token) (levels : List OpenLeve
     → ReadsNoToken ahead why → run start (within []) ≡ Some (whole root) → IsRoot {A = A} root (Err why)
 ends_short A start ahead levels root stop.Misplaced walked none runs =
     within_apart root levels (run start (within [])) (walked.runs ∙ ap (λ (ts : List Token). run ts (within levels)) none) runs
-ends_short A start ahead levels root stop.NotInteger walked none runs = tt
-ends_short A start ahead levels root stop.Memory walked none runs = tt
+ends_short A start ahead levels root _ walked none runs = tt
 
 pub no_other : (A : Type 0) (all ahead from : List Token) (why : Stop) → ReadsNoToken ahead why → StopsAtOther {A = A} all from (Err why)
-no_other A all ahead from stop.Misplaced none = tt
 no_other A all ahead from stop.NotInteger none = absurd none
-no_other A all ahead from stop.Memory none = tt
+no_other A all ahead from _ none = tt
 
 -- a token was refused
 pub refused : {A : Type 0} (start ahead left : List Token) (token : Token) (levels : List OpenLevel) (after : List (Level A)) (root : TypedValue)
@@ -62,12 +60,10 @@ pub refused : {A : Type 0} (start ahead left : List Token) (token : Token) (leve
     → IsRoot {A = A} root (Err why)
 refused start ahead left token levels after root stop.Misplaced walked first taken runs =
     none_apart root (run start (within [])) (runs_on start ahead left token levels None walked first taken) runs
-refused start ahead left token levels after root stop.NotInteger walked first taken runs = tt
-refused start ahead left token levels after root stop.Memory walked first taken runs = tt
+refused start ahead left token levels after root _ walked first taken runs = tt
 
 pub other_first : {A : Type 0} (start ahead left from : List Token) (token : Token) (levels : List OpenLevel) (after : List (Level A)) (why : Stop)
     → WalkedTo start ahead levels → from ≡ ahead → ahead ≡ token ∷ left → Taken token levels after (Err why) → StopsAtOther {A = A} start from (Err why)
-other_first start ahead left from token levels after stop.Misplaced walked at first taken = tt
 other_first start ahead left from token levels after stop.NotInteger walked at first (digits, is, none) =
     record {
       before = walked.before;
@@ -78,7 +74,7 @@ other_first start ahead left from token levels after stop.NotInteger walked at f
       first = at ∙ first ∙ ap (λ (t : Token). t ∷ left) is;
       none = none;
     }
-other_first start ahead left from token levels after stop.Memory walked at first taken = tt
+other_first start ahead left from token levels after _ walked at first taken = tt
 
 -- a value is whole
 pub ends_whole : {A : Type 0} (start ahead left : List Token) (token : Token) (levels : List OpenLevel) (found root : TypedValue)
@@ -97,8 +93,7 @@ ends_whole start ahead left token levels found root (Ok value) walked first take
 ends_whole start ahead left token levels found root (Err stop.Misplaced) walked first taken (one, more, is) runs =
     none_apart root (run start (within []))
     (runs_on start ahead left token levels (Some (whole found)) walked first taken ∙ ap (λ (ts : List Token). run ts (whole found)) is) runs
-ends_whole start ahead left token levels found root (Err stop.NotInteger) walked first taken ends runs = tt
-ends_whole start ahead left token levels found root (Err stop.Memory) walked first taken ends runs = tt
+ends_whole start ahead left token levels found root _ walked first taken ends runs = tt
 
 pub ends_integers : {A : Type 0} (start ahead left : List Token) (token : Token) (levels : List OpenLevel) (found : TypedValue)
     (answer : Result (Value A) Stop)
@@ -111,10 +106,8 @@ ends_integers start ahead left token levels found (Err why) walked first integer
 
 pub ends_other : {A : Type 0} (all from left : List Token) (found : TypedValue) (answer : Result (Value A) Stop) → EndsAt left found answer
     → StopsAtOther all from answer
-ends_other all from left found (Ok value) ends = tt
-ends_other all from left found (Err stop.Misplaced) ends = tt
 ends_other all from left found (Err stop.NotInteger) ends = absurd ends
-ends_other all from left found (Err stop.Memory) ends = tt
+ends_other all from left found _ ends = tt
 
 -- a token is left
 pub some_left : (ahead : List Token) → (ahead ≡ [] → ⊥) → (first : Token) × (more : List Token) × (ahead ≡ first ∷ more)

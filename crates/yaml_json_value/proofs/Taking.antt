@@ -32,15 +32,13 @@ on_innermost after old new later level answer is stands =
 -- no text, and no integer
 pub no_text : {A : Type 0} (text : List ℕ) (token : Token) (before : List OpenLevel) (levels : List (Level A)) (why : Stop)
     → IsText {A = A} text (Err why) → Taken token before levels (Err why)
-no_text text token before levels stop.Misplaced none = absurd none
-no_text text token before levels stop.NotInteger none = absurd none
 no_text text token before levels stop.Memory none = tt
+no_text text token before levels _ none = absurd none
 
 pub no_integer : {A : Type 0} (digits : List ℕ) (before : List OpenLevel) (levels : List (Level A)) (why : Stop)
     → IsIntegerIn digits (Err why) → Taken (Token.number digits) before levels (Err why)
-no_integer digits before levels stop.Misplaced none = absurd none
 no_integer digits before levels stop.NotInteger none = (digits, refl, none)
-no_integer digits before levels stop.Memory none = absurd none
+no_integer digits before levels _ none = absurd none
 
 -- a level was opened, or not
 pub entered : {A : Type 0} (level : Level A) (old new : List (Level A)) (answer : Result (Option (Value A)) Stop) → answer ≡ Ok None
@@ -58,25 +56,21 @@ not_entered due levels answer is = subst (λ (r : Result (Option (Value _)) Stop
 pub no_list : {A : Type 0} (level : Level A) (outer : List OpenLevel) → ((items : Vec (Value A) A) → level ≡ code.Items items → ⊥)
     → end_list (seen_level level ∷ outer) ≡ None
 no_list (code.Items items) outer other = absurd (other items refl)
-no_list (code.Pairs members) outer other = refl
-no_list (code.PairsAndKey members name) outer other = refl
+no_list _ outer other = refl
 
 pub no_map : {A : Type 0} (level : Level A) (outer : List OpenLevel) → ((members : Vec (Value A × Value A) A) → level ≡ code.Pairs members → ⊥)
     → end_map (seen_level level ∷ outer) ≡ None
-no_map (code.Items items) outer other = refl
 no_map (code.Pairs members) outer other = absurd (other members refl)
-no_map (code.PairsAndKey members name) outer other = refl
+no_map _ outer other = refl
 
 pub no_name : {A : Type 0} (level : Level A) (outer : List OpenLevel) (name : TypedValue)
     → ((members : Vec (Value A × Value A) A) → level ≡ code.Pairs members → ⊥) → name_member (seen_level level ∷ outer) name ≡ None
-no_name (code.Items items) outer name other = refl
 no_name (code.Pairs members) outer name other = absurd (other members refl)
-no_name (code.PairsAndKey members due) outer name other = refl
+no_name _ outer name other = refl
 
 -- a level that has a value more
 pub value_given : {A : Type 0} (level more : Level A) (outer : List OpenLevel) (value : TypedValue)
     → ((members : Vec (Value A × Value A) A) → level ≡ code.Pairs members → ⊥) → seen_level more ≡ with_value (seen_level level) value
     → give (seen_level level ∷ outer) value ≡ Some (within (seen_level more ∷ outer))
-value_given (code.Items items) more outer value other is = ap (λ (inner : OpenLevel). Some (within (inner ∷ outer))) (sym is)
 value_given (code.Pairs members) more outer value other is = absurd (other members refl)
-value_given (code.PairsAndKey members name) more outer value other is = ap (λ (inner : OpenLevel). Some (within (inner ∷ outer))) (sym is)
+value_given _ more outer value other is = ap (λ (inner : OpenLevel). Some (within (inner ∷ outer))) (sym is)

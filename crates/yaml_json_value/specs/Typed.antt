@@ -11,7 +11,8 @@ use Rattle.json.specs.Strict.{HasUniqueKeys}
 use Rattle.json.specs.Token.{Token}
 use Rattle.yaml_base.specs.values.TypedValues.{TypedValue, null_value, bool_value, int_value, text_value, list_value, map_value, TypedValues, no_values}
 use Rattle.yaml_base.specs.values.TypedValues.{values_and, TypedPairs, no_value_pairs, value_pairs_and, WritesValue, most_nested}
-use Rattle.yaml_writer.specs.Places.{AreOf}
+use Rattle.yaml_base.specs.Positions.{IsPositionOf}
+use Rattle.yaml_base.specs.declared.places.Position.{Position}
 use Rattle.yaml_json.specs.Reached.{AreFrom}
 use Rattle.yaml_json.specs.WritingCalls.{HasNoYaml}
 use Rattle.yaml_json.specs.declared.error.JsonError.{JsonError}
@@ -103,16 +104,16 @@ pub record IsFromOtherNumber (tokens from : List Token) : Type 0 where
   pub first : from ≡ Token.number digits ∷ after
   pub none : IsIntegerText digits → ⊥
 
--- the text is JSON, and the first number in it that isn't an integer of 64 bits begins at this line and column
-pub record HasOtherNumber (mode : Keys) (text : List ℕ) (line column : ℕ) : Type 0 where
+-- the text is JSON, and the first number in it that isn't an integer of 64 bits begins at this position
+pub record HasOtherNumber (mode : Keys) (text : List ℕ) (position : Position) : Type 0 where
   pub json : IsJson mode text
   pub from : List Token
   pub number : IsFromOtherNumber (tokens text) from
   pub at : ℕ
   pub begins : AreFrom text from at
-  pub place : AreOf text at line column
+  pub place : IsPositionOf text at position
 
 -- the fact about the text that an error tells
 abbrev pub ExplainsValueError : Keys → (text : List ℕ) → ValueError → Type 0
 ExplainsValueError mode text (errors.Json error) = IsJsonErrorOf mode text error
-ExplainsValueError mode text (errors.NotInteger line column) = HasOtherNumber mode text line column
+ExplainsValueError mode text (errors.NotInteger position) = HasOtherNumber mode text position

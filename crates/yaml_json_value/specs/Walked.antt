@@ -81,7 +81,7 @@ EndsAt ahead found (Err stop.Memory) = ⊥
 
 -- the settings for values, in flow, with a depth of 1,000 and each name once, unless keys may repeat
 pub record IsForValues (mode : Keys) (settings : JsonSettings) : Type 0 where
-  pub writer : seen_settings settings.writer ≡ given_for_values
-  pub flow : settings.flow ≡ true
-  pub depth : settings.depth ≡ most_nested
+  pub emitter : seen_settings settings.values.emitter ≡ given_for_values
+  pub flow : settings.values.flow ≡ true
+  pub depth : settings.values.depth ≡ most_nested
   pub names : settings.unique_names ≡ names_differ mode

@@ -1,17 +1,17 @@
 //! The reasons why a text isn't read as a value.
 use thiserror::Error;
-use yaml_json::JsonError;
+use yaml_json::{JsonError, Position};
 
 /// The reason why a text isn't read as a value.
 #[derive(Clone, Copy, Debug, Drop, Error, PartialEq, Eq)]
 pub enum ValueError {
     /// `yaml_from_json` refuses the text, or an allocation failed: `Emitter` with `Memory`.
-    #[error("{0}")]
+    #[error(transparent)]
     Json(JsonError),
     /// A number, which begins here, isn't an integer of 64 bits in decimal digits: it has a point or an exponent, is `-0`, or is
-    /// too large. Lines end with LF, and both numbers count from 1, columns in characters.
-    #[error("line {line}, column {column}: not an integer of 64 bits")]
-    NotInteger { line: usize, column: usize },
+    /// too large.
+    #[error("{position}: not an integer of 64 bits")]
+    NotInteger { position: Position },
 }
 
 /// The reason why the walk stops.

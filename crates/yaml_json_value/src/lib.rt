@@ -9,5 +9,5 @@ mod walk;
 
 pub use error::ValueError;
 pub use texts::{canonical_from_json, value_from_json};
-pub use yaml_json::{Expected, JsonError, yaml_error_t};
+pub use yaml_json::{Expected, JsonError, Position, yaml_error_t};
 pub use yaml_value::{Keys, Value};

@@ -9,7 +9,7 @@ use crate::walk::read_value;
 use bumpalo::Bump;
 use std::alloc::Allocator;
 use yaml_json::{
-    JsonError, JsonSettings, Tokens, place_of, value_settings, yaml_error_t, yaml_from_json,
+    JsonError, JsonSettings, Tokens, ValueSettings, position_of, yaml_error_t, yaml_from_json,
 };
 use yaml_value::{Keys, Value, write_canonical};
 
@@ -28,9 +28,10 @@ fn settings(keys: Keys) -> JsonSettings
     ensures { IsForValues keys result }
 {
     JsonSettings {
-        writer: value_settings(),
-        flow: true,
-        depth: 1_000,
+        values: ValueSettings {
+            flow: true,
+            ..ValueSettings::default()
+        },
         unique_names: are_unique(keys),
     }
 }
@@ -91,8 +92,8 @@ fn value_of<A: Allocator + Copy>(alloc: A, text: &str) -> Result<Value<A>, Value
     match read_value(alloc, &mut reader) {
         Ok(value) => Ok(value),
         Err(Stop::NotInteger) => {
-            let (line, column) = place_of(text.as_bytes(), reader.last_offset());
-            Err(ValueError::NotInteger { line, column })
+            let position = position_of(text.as_bytes(), reader.last_offset());
+            Err(ValueError::NotInteger { position })
         }
         Err(Stop::Memory) => Err(ValueError::Json(JsonError::Emitter(yaml_error_t::Memory))),
         Err(Stop::Misplaced) => unreachable!(),

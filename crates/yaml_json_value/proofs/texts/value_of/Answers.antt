@@ -1,7 +1,7 @@
 use Rattle.std.proofs.Common.{◌≡◌, Err, List, ℕ, rules, subst, ◌∙◌}
 use Rattle.yaml_value.specs.SeenValues.{seen_value}
 use Rattle.yaml_value.specs.declared.keys.Keys.TheVariants as keys
-use Rattle.yaml_writer.specs.Places.{AreOf}
+use Rattle.yaml_base.specs.Positions.{IsPositionOf}
 use Rattle.yaml_json_value.specs.Typed.{typed_value}
 use Rattle.yaml_json_value.specs.Walked.{IsRoot, StopsAtOther}
 use Rattle.yaml_json_value.specs.declared.error.Stop.{Stop}
@@ -22,13 +22,13 @@ returns-in-Err-NotInteger-clause-why g c =
     let ahead = c.new-reader.result.ahead in
     let from = c.read_value.new.reader.before in
     let at = c.last_offset.result in
-    let place = c.place_of-line in
+    let place = c.position_of-position in
     let is : c.in-Err-NotInteger.field-0 ≡ stop.NotInteger = search rules in
     let number = subst (λ (s : Stop). StopsAtOther {A = g.row.A.Denot} ahead from (Err s)) is c.in-Err-NotInteger.ensures.other in
     let same : c.as_bytes.result.now ≡ text = search rules in
-    other_number mode text c.read_value.new.reader.text ahead from at place.result.0 place.result.1 json c.new-reader.ensures.ahead
+    other_number mode text c.read_value.new.reader.text ahead from at place.result json c.new-reader.ensures.ahead
     (c.read_value.ensures.text ∙ c.new-reader.ensures.text) number c.last_offset.ensures
-    (subst (λ (t : List ℕ). AreOf t at place.result.0 place.result.1) same (place.ensures.line, place.ensures.column))
+    (subst (λ (t : List ℕ). IsPositionOf t at place.result) same place.ensures)
 
 pub returns-in-Err-Memory-clause-why : goal.returns-in-Err-Memory-clause-why
 returns-in-Err-Memory-clause-why g c = λ mode json. no_memory mode c.args.text.now
