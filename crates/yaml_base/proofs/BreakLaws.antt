@@ -1,4 +1,5 @@
 -- Reading line breaks undoes the writing of them; and lines stay indented as their breaks are written.
+use Rattle.yaml_base.proofs.Common.{or_from}
 use Rattle.yaml_base.proofs.Common.{nat_tests, arith, ℕ, if◌then◌else◌, ◌==◌, Bool, false, not, true, ◌||◌, [], ◌++◌, ◌∷◌, refl, ◌≡◌, eqb-true, or_cases}
 use Rattle.yaml_base.proofs.Common.{and_parts, and_from, or_parts, or_left, or_right, not-true, Text, line_feed, carriage_return, next_line, is_break}
 use Rattle.yaml_base.proofs.Common.{break_text, with_breaks_written, with_line_breaks_read, is_rendered_text, is_indented_text, LineBreak, false≢true}
@@ -36,9 +37,7 @@ breaks-round setting text h = grind (arith, nat_tests, break-read)
 -- joined texts are rendered texts if both are
 pub rendered-append : (a b : Text) → is_rendered_text a ≡ true → is_rendered_text b ≡ true → is_rendered_text (a ++ b) ≡ true
 rendered-append [] b h k = k
-rendered-append (c ∷ a) b h k =
-    let p : (not (c == carriage_return || c == next_line) ≡ true) × (is_rendered_text a ≡ true) = and_parts _ _ h in
-    and_from _ _ p.0 (rendered-append a b p.1 k)
+rendered-append (c ∷ a) b h k = grind (arith, and_parts, and_from, or_parts, or_from, rendered-append a b)
 
 -- a line that begins with a break is empty
 pub break-begins : (c : ℕ) (rest : Text) → is_break c ≡ true → begins_indented (c ∷ rest) ≡ true
@@ -71,6 +70,4 @@ character-written setting c rest x is h ih = grind (arith, nat_tests, eqb-true, 
 pub indented-written : (setting : LineBreak) (text : Text) → is_indented_text text ≡ true
     → is_indented_text (with_breaks_written setting text) ≡ true
 indented-written setting [] h = refl
-indented-written setting (c ∷ rest) h =
-    let p : ((not (is_break c) || begins_indented rest) ≡ true) × (is_indented_text rest ≡ true) = and_parts _ _ h in
-    character-written setting c rest (c == line_feed) refl p.0 (indented-written setting rest p.1)
+indented-written setting (c ∷ rest) h = grind (arith, and_parts, and_from, or_parts, or_from, character-written, indented-written setting rest)

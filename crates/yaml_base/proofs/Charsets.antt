@@ -1,9 +1,10 @@
 -- A style that a value allows if U+2028 and U+2029 are special, it allows also if they needn't be; and if a value allows block styles, it allows
 -- literal with literal blanks.
+use Rattle.yaml_base.proofs.Common.{arith}
 use Rattle.yaml_base.proofs.Common.{ℕ, ◌==◌, Bool, false, not, true, ◌&&◌, ◌||◌, [], ◌∷◌, refl, ◌≡◌, ap, and_parts, and_from, or_parts, or_from, not-true}
-use Rattle.yaml_base.proofs.Common.{sym, ◌∙◌, if◌then◌else◌, eqb-true, and_right, true≢false, false≢true, tab, space, is_space, is_blank, is_break}
+use Rattle.yaml_base.proofs.Common.{sym, ◌∙◌, if◌then◌else◌, eqb-true, true≢false, false≢true, tab, space, is_space, is_blank, is_break}
 use Rattle.yaml_base.proofs.Common.{Text, line_separator, paragraph_separator, is_ascii, is_printable, Charset, somewhere, is_empty, is_special, bars_block}
-use Rattle.yaml_base.proofs.Common.{is_special_but_tab, is_blank_to_line_end, begins_with_blanks_alone, bars_literal, allows_literal, is_literal}
+use Rattle.yaml_base.proofs.Common.{is_blank_to_line_end, begins_with_blanks_alone, bars_literal, allows_literal, is_literal}
 use Rattle.yaml_base.proofs.Common.{allows_block, Effective, Scalar, charset_of, allowed_under}
 use Rattle.yaml_base.specs.scalars.Analysis.{begins_unlike_plain, bars_plain, bars_single_quoted, allows_plain, allows_single_quoted}
 use Rattle.yaml_base.specs.scalars.Analysis.{begins_with, is_trailing_space}
@@ -21,9 +22,7 @@ and_fewer false b c implies h = refl
 somewhere_fewer : (test fewer : ℕ → Text → Bool) → ((c : ℕ) (rest : Text) → test c rest ≡ false → fewer c rest ≡ false)
     → (text : Text) → somewhere test text ≡ false → somewhere fewer text ≡ false
 somewhere_fewer test fewer implies [] h = refl
-somewhere_fewer test fewer implies (c ∷ rest) h =
-    let parts = or_parts (test c rest) (somewhere test rest) h in
-    or_from (fewer c rest) (somewhere fewer rest) (implies c rest parts.0) (somewhere_fewer test fewer implies rest parts.1)
+somewhere_fewer test fewer implies (c ∷ rest) h = grind (arith, and_parts, and_from, or_parts, or_from, somewhere_fewer test fewer implies rest)
 
 -- a character that is special for one reason is special for two
 module _ (unicode one other : Bool) where
@@ -127,16 +126,7 @@ module _ (charset : Charset) where
   -- a character that bars literal text bars block text
   literal_bars : (value : Text) → somewhere (bars_block charset) value ≡ false → somewhere (bars_literal charset) value ≡ false
   literal_bars [] h = refl
-  literal_bars (c ∷ rest) h =
-      let bars = or_parts (bars_block charset c rest) (somewhere (bars_block charset) rest) h in
-      let special =
-      (or_parts (is_special charset c) (is_trailing_space c rest)
-      (or_parts (is_special charset c || is_trailing_space c rest) (is_space c && is_empty rest) bars.0).0).0 in
-      or_from (bars_literal charset c rest) (somewhere (bars_literal charset) rest)
-      (or_from (is_special_but_tab charset c) (is_break c && begins_with_blanks_alone rest)
-      (and_right (not (c == tab)) (is_special charset c) special)
-      (and_right (is_break c) (begins_with_blanks_alone rest) (none_of_blanks rest bars.1)))
-      (literal_bars rest bars.1)
+  literal_bars (c ∷ rest) h = grind (arith, and_parts, and_from, or_parts, or_from, none_of_blanks, literal_bars rest)
 
   -- if a value allows block styles, it allows literal with literal blanks
   pub literal_of_block : (value : Text) → allows_block charset value ≡ true → allows_literal charset value ≡ true

@@ -1,4 +1,5 @@
 -- The bytes of a text decode to the text.
+use Rattle.yaml_base.proofs.Common.{and_from, or_from, or_parts}
 use Rattle.yaml_base.proofs.Common.{ℕ, ◌%◌, ◌*◌, ◌+◌, ◌-◌, ◌/◌, ◌<◌, Some, nat_le, nat_lt, encode_utf8, cond, false, true, ◌&&◌, List, [], ◌++◌, ◌∷◌}
 use Rattle.yaml_base.proofs.Common.{refl, ◌≡◌, le-leb, le-ltb, lt-ltb, inl, inr, ap, sym, ◌∙◌, arith, and_parts, chars-encodes, all_scalars, chars}
 use Rattle.yaml_base.proofs.Common.{encode_utf8_all, scalar_cases, Text, encode, Encoding, utf8, utf16_little, utf16_big}
@@ -58,9 +59,7 @@ text_of_units-utf16_units c units s = grind (arith, cases_lt, lt-ltb, lone, le-l
 
 text_of_units-units_of : (text : Text) → all_scalars text ≡ true → text_of_units (units_of text) ≡ text
 text_of_units-units_of [] s = refl
-text_of_units-units_of (c ∷ rest) s =
-    let parts = and_parts _ _ s in
-    text_of_units-utf16_units c (units_of rest) parts.0 ∙ ap (λ l. c ∷ l) (text_of_units-units_of rest parts.1)
+text_of_units-units_of (c ∷ rest) s = grind (arith, and_parts, and_from, or_parts, or_from, text_of_units-utf16_units, text_of_units-units_of rest)
 
 pub decode-encode : (encoding : Encoding) (text : Text) → all_scalars text ≡ true → decode (Some encoding) (encode (Some encoding) text) ≡ text
 unfolding decode

@@ -1,4 +1,5 @@
 -- A number's spelling, cut as the schemas cut it: after its sign, at its point, at its exponent.
+use Rattle.yaml_base.proofs.Common.{or_parts}
 use Rattle.yaml_base.proofs.Common.{suc, ℕ, if◌then◌else◌, ⊤, ◌==◌, Option, None, Some, codes, length, Bool, false, not, true, ◌||◌, List, [], ◌++◌, ◌∷◌, refl}
 use Rattle.yaml_base.proofs.Common.{◌≡◌, eqb-true, ne_eqb, append-nil, ap, ◌∙◌, arith, and_parts, and_from, and_left, or_from, or_left, not_from_false}
 use Rattle.yaml_base.proofs.Common.{false≢true, slice_split-cons_yes, take_while-cons, list_all, slice_split, take_while, Text, named, JsonExponent, minus}
@@ -37,10 +38,7 @@ digits_grouped digits h = all_pass is_decimal (λ c. is_digit c 10 || is_undersc
 
 pub digits_ungrouped : (digits : Text) → list_all is_decimal digits ≡ true → ungrouped digits ≡ digits
 digits_ungrouped [] h = refl
-digits_ungrouped (c ∷ digits) h =
-    let both : (is_decimal c ≡ true) × (list_all is_decimal digits ≡ true) = and_parts (is_decimal c) (list_all is_decimal digits) h in
-    ap (λ x. if not x then c ∷ ungrouped digits else ungrouped digits) (digit_unlike c 0x5F refl both.0)
-    ∙ ap (λ text. c ∷ text) (digits_ungrouped digits both.1)
+digits_ungrouped (c ∷ digits) h = grind (arith, and_parts, and_from, or_parts, or_from, digit_unlike, digits_ungrouped digits)
 
 -- Cuts
 

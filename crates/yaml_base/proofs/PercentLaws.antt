@@ -1,4 +1,5 @@
 -- Percent decoding undoes escaping; and the characters that a written text holds.
+use Rattle.yaml_base.proofs.Common.{or_parts}
 use Rattle.yaml_base.proofs.Common.{ℕ, ◌%◌, ◌/◌, ◌<◌, ◌==◌, Some, codes, nat_lt, length, Bool, cond, false, not, true, ◌&&◌, ◌||◌, List, [], ◌++◌, ◌∷◌, refl}
 use Rattle.yaml_base.proofs.Common.{◌≡◌, eqb-true, ltb-true, ap, ◌∙◌, arith, and_parts, and_from, or_from, agree_below_at, not-true, nat_tests}
 use Rattle.yaml_base.proofs.Common.{list_all-append, list_any-append, chars-encodes, length-encode, len_utf8_bounds, len_utf8, flat_map, list_all, list_any}
@@ -23,9 +24,7 @@ form_read b rest h = ap (λ x. x ∷ form_bytes between_forms rest) (digits_read
 forms_read : (bs : List ℕ) (rest : Text) → are_bytes bs ≡ true
     → form_bytes between_forms (flat_map byte_escaped bs ++ rest) ≡ bs ++ form_bytes between_forms rest
 forms_read [] rest h = refl
-forms_read (b ∷ bs) rest h =
-    let both = and_parts _ _ h in
-    form_read b (flat_map byte_escaped bs ++ rest) (ltb-true _ _ both.0) ∙ ap (λ x. b ∷ x) (forms_read bs rest both.1)
+forms_read (b ∷ bs) rest h = grind (arith, and_parts, and_from, or_parts, or_from, form_read, ltb-true, forms_read bs rest)
 
 -- UTF-8 is bytes
 pub encode_is_bytes : (c : ℕ) → c < 0x110000 → are_bytes (encode c) ≡ true
@@ -48,9 +47,7 @@ character_read false c rest k h = forms_read (encode c) rest (encode_is_bytes c 
 text_read_by : (stands : ℕ → Bool) → ((c : ℕ) → stands c ≡ true → (c == percent_sign) ≡ false) → (text : Text) → scalars text ≡ true
     → form_bytes between_forms (flat_map (λ c. character_written (stands c) c) text) ≡ encodes text
 text_read_by stands k [] h = refl
-text_read_by stands k (c ∷ text) h =
-    let both = and_parts _ _ h in
-    character_read _ c _ (k c) both.0 ∙ ap (λ x. encode c ++ x) (text_read_by stands k text both.1)
+text_read_by stands k (c ∷ text) h = grind (arith, and_parts, and_from, or_parts, or_from, character_read, text_read_by stands k text)
 
 -- a written text reads as its bytes
 pub text_read : (text : Text) → scalars text ≡ true → form_bytes between_forms (percent_escaped text) ≡ encodes text

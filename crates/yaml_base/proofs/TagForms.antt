@@ -1,4 +1,5 @@
 -- The forms of handles and tags: their characters, and how a tag is spelled by the directives in force.
+use Rattle.yaml_base.proofs.Common.{and_from, or_from}
 use Rattle.yaml_base.proofs.Common.{nat_tests, arith, ℕ, ◌==◌, option_map, bytes_eq, Option, None, Some, codes, Bool, cond, false, not, true, List, [], ◌++◌}
 use Rattle.yaml_base.proofs.Common.{◌∷◌, ◌⊎◌, refl, ◌≡◌, eqb-true, append_assoc, inr, ap, sym, ◌∙◌, and_parts, or_parts, not-false, bytes_eq-Decides, list_all}
 use Rattle.yaml_base.proofs.Common.{scalars, Text, is_alpha, TagDirective, exclamation_mark, handle_fault, gives_handle, next_directive_fault}
@@ -126,9 +127,7 @@ same_text text = (bytes_eq-Decides text text).1 refl
 passed_over : (before more : List TagDirective) (handle : Text) → gives_handle handle before ≡ false
     → prefix_among (before ++ more) handle ≡ prefix_among more handle
 passed_over [] more handle h = refl
-passed_over (d ∷ before) more handle h =
-    let both = or_parts (bytes_eq d.handle handle) (gives_handle handle before) h in
-    rw both.0 (passed_over before more handle both.1)
+passed_over (d ∷ before) more handle h = grind (arith, and_parts, and_from, or_parts, or_from, passed_over before more handle)
 
 found_after : (before : List TagDirective) (directive : TagDirective) (more : List TagDirective) → gives_handle directive.handle before ≡ false
     → prefix_among (before ++ (directive ∷ more)) directive.handle ≡ Some directive.prefix

@@ -1,4 +1,5 @@
 -- The written form of a tag, read with the document's own directives and the defaults, is the tag.
+use Rattle.yaml_base.proofs.Common.{and_from, arith, or_from, or_parts}
 use Rattle.yaml_base.proofs.Common.{ℕ, ◌==◌, option_map, None, Some, Bool, false, not, true, List, [], ◌++◌, ◌∷◌, refl, ◌≡◌, append_assoc, inl, inr, ap, subst}
 use Rattle.yaml_base.proofs.Common.{sym, ◌∙◌, and_parts, not-true, list_all, scalars, Text, is_alpha, TagDirective, percent_escaped, suffix_escaped}
 use Rattle.yaml_base.proofs.Common.{exclamation_mark, handle_fault, directives_fault, directives_in_force, Spelling, verbatim, spelling, spelled}
@@ -35,9 +36,7 @@ cut_further (d ∷ f ∷ prefix) c handle suffix text e = rw (cut_further (f ∷
 
 pub stands_no_exclamation : (text : Text) → list_all stands_written text ≡ true → no_exclamation text ≡ true
 stands_no_exclamation [] h = refl
-stands_no_exclamation (c ∷ rest) h =
-    let both = and_parts (stands_written c) (list_all stands_written rest) h in
-    rw (written_is_no_exclamation c both.0, stands_no_exclamation rest both.1) refl
+stands_no_exclamation (c ∷ rest) h = grind (arith, and_parts, and_from, or_parts, or_from, written_is_no_exclamation, stands_no_exclamation rest)
 
 -- Shorthands
 

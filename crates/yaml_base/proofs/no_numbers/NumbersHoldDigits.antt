@@ -1,4 +1,5 @@
 -- A text without a digit is no number and no timestamp, unless it is of points alone.
+use Rattle.yaml_base.proofs.Common.{and_from, and_parts}
 use Rattle.yaml_base.proofs.Common.{nat_tests, arith, ℕ, if◌then◌else◌, None, Bool, false, true, ◌||◌, List, [], ◌++◌, ◌∷◌, refl, ◌≡◌, eqb-true, true≢false}
 use Rattle.yaml_base.proofs.Common.{ap, ◌∙◌, and_left, and_right, or_parts, or_from, list_any-append, concat, list_all, list_any, onto_first, slice_split}
 use Rattle.yaml_base.proofs.Common.{Text, is_point, is_decimal, first_meets, past_sign, decimal_of_digits, core_mantissa, begins_grouped, mantissa_11}
@@ -43,9 +44,7 @@ first_part_without (part ∷ parts) h = (or_parts (holds_digit part) (list_any h
 -- and in all of them together
 concat_without : (parts : List Text) → list_any holds_digit parts ≡ false → holds_digit (concat parts) ≡ false
 concat_without [] h = refl
-concat_without (part ∷ parts) h =
-    let both = or_parts (holds_digit part) (list_any holds_digit parts) h in
-    list_any-append is_decimal part (concat parts) ∙ or_from _ _ both.0 (concat_without parts both.1)
+concat_without (part ∷ parts) h = grind (arith, and_parts, and_from, or_parts, or_from, list_any-append, concat_without parts)
 
 -- ---- numbers
 

@@ -1,4 +1,5 @@
 -- The law of whole streams, if each document is readable and the layout's text is printable and read from its bytes.
+use Rattle.yaml_base.proofs.Common.{or_from, or_parts}
 use Rattle.yaml_base.proofs.Common.{◌≤◌, is_some, unwrap_or, option_map, Option, Some, ℤ, Bool, false, not, true, List, [], ◌++◌, ◌∷◌, refl, ◌≡◌, leb-true}
 use Rattle.yaml_base.proofs.Common.{true≢false, ap, sym, ◌∙◌, arith, and_parts, and_from, false≢true, list_all, list_any, Scalar, Event, stream_start}
 use Rattle.yaml_base.proofs.Common.{stream_end, document_start, document_end, scalar, sequence_start, sequence_end, mapping_start, mapping_end, scalar_tag}
@@ -80,8 +81,7 @@ agree_more canonical [] [] document tree h k = and_from _ true k refl
 agree_more canonical [] (other ∷ others) document tree h k = absurd (false≢true h)
 agree_more canonical (one ∷ rest) [] document tree h k = absurd (false≢true h)
 agree_more canonical (one ∷ rest) (other ∷ others) document tree h k =
-    let parts = and_parts _ _ h in
-    and_from _ _ parts.0 (agree_more canonical rest others document tree parts.1 k)
+    grind (arith, and_parts, and_from, or_parts, or_from, agree_more canonical rest others document tree)
 
 -- the trees of documents agree with them
 trees_agree : (s : Effective) (documents : Documents) → AllDocuments (IsTaggedRoot s.canonical) (documents_in_order documents)

@@ -1,4 +1,5 @@
 -- A document's directives, as they are written, are lines that are read as these directives.
+use Rattle.yaml_base.proofs.Common.{or_from, or_parts}
 use Rattle.yaml_base.proofs.Common.{ℕ, if◌then◌else◌, ◌==◌, fold, option_and_then, Option, None, Some, codes, pos, Bool, false, not, true, ◌&&◌, ◌||◌, List}
 use Rattle.yaml_base.proofs.Common.{[], ◌++◌, ◌∷◌, ◌⊎◌, refl, ◌≡◌, int_eq, eqb-true, append-nil, append_assoc, inl, inr, ap, sym, ◌∙◌, arith, and_parts}
 use Rattle.yaml_base.proofs.Common.{and_from, not-true, false≢true, nat_tests, list_all-append, list_all, slice_split, all_scalars, Text, line_feed, space}
@@ -30,9 +31,7 @@ split_last word h = slice_split_none is_space word (uncut_by (λ c. not (c == sp
 closes_letters : (middle : Text) → list_all is_alpha middle ≡ true → closes_handle (middle ++ exclamation_mark ∷ []) ≡ true
 closes_letters [] h = refl
 closes_letters (c ∷ []) h = and_from (is_alpha c) true (and_parts (is_alpha c) true h).0 refl
-closes_letters (c ∷ d ∷ middle) h =
-    let parts = and_parts (is_alpha c) (list_all is_alpha (d ∷ middle)) h in
-    and_from (is_alpha c) (closes_handle (d ∷ (middle ++ exclamation_mark ∷ []))) parts.0 (closes_letters (d ∷ middle) parts.1)
+closes_letters (c ∷ d ∷ middle) h = grind (arith, and_parts, and_from, or_parts, or_from, closes_letters (d ∷ middle))
 
 -- a handle without a fault is a handle to the reader
 pub handle_reads : (handle : Text) → IsHandle handle → is_handle_text handle ≡ true

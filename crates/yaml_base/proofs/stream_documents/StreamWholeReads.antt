@@ -1,4 +1,5 @@
 -- A whole stream whose documents are readable is read as their trees.
+use Rattle.yaml_base.proofs.Common.{or_from, or_parts}
 use Rattle.yaml_base.proofs.Common.{suc, ℕ, ◌≤◌, if◌then◌else◌, ◌==◌, option_and_then, None, Some, codes, length, Bool, false, not, true, ◌&&◌, ◌||◌, List, []}
 use Rattle.yaml_base.proofs.Common.{◌++◌, ◌∷◌, refl, ◌≡◌, eqb-true, length-append, append-nil, ap, subst, sym, ◌∙◌, arith, and_parts, and_from, flat_map-append}
 use Rattle.yaml_base.proofs.Common.{Text, line_feed, Document, Documents, no_documents, documents_and, Stream, is_explicit, root_place}
@@ -155,9 +156,7 @@ blank_markerless t h = grind (arith, and_parts, eqb-true)
 
 blank_lines_markerless : (lines : List Line) → all_blank lines ≡ true → AllMarkerless lines
 blank_lines_markerless [] h = refl
-blank_lines_markerless (line ∷ rest) h =
-    let parts = and_parts _ _ h in
-    and_from _ _ (blank_markerless line.text parts.0) (blank_lines_markerless rest parts.1)
+blank_lines_markerless (line ∷ rest) h = grind (arith, and_parts, and_from, or_parts, or_from, blank_markerless, blank_lines_markerless rest)
 
 blank_no_text : (t : Text) → is_spaces t ≡ true → (begins_with_percent t ≡ false) × (ends_indicator t ≡ true)
 blank_no_text [] h = (refl, refl)

@@ -1,6 +1,7 @@
 -- The entries of a collection in flow, one after another, if each of its nodes is read in flow.
-use Rattle.yaml_base.proofs.Common.{ℕ, ◌==◌, Option, None, Bool, false, true, ◌||◌, List, [], ◌++◌, ◌∷◌, refl, ◌≡◌, append_assoc, ap, sym, ◌∙◌, and_parts}
-use Rattle.yaml_base.proofs.Common.{Text, line_feed, space, Cursor, Rendered, space_if, as_value, flow_break, key_indicator, render_flow_place, Effective}
+use Rattle.yaml_base.proofs.Common.{and_from, or_from, or_parts}
+use Rattle.yaml_base.proofs.Common.{ℕ, Option, None, Bool, false, true, List, [], ◌++◌, ◌∷◌, refl, ◌≡◌, append_assoc, ap, sym, ◌∙◌, and_parts}
+use Rattle.yaml_base.proofs.Common.{Text, space, Cursor, Rendered, space_if, as_value, flow_break, key_indicator, render_flow_place, Effective}
 use Rattle.yaml_base.proofs.Common.{Tree, Trees, TreePairs, trees_and, tree_pairs_and, no_key, key_due, key_held, OpenFlow, in_sequence, in_mapping}
 use Rattle.yaml_base.proofs.stream_flow.StreamPasses.{passes_both, passes_then, takes_text, passes_comma, passes_colon, passes_late_colon, passes_question}
 use Rattle.yaml_base.proofs.stream_flow.StreamPasses.{passes_node_space, is_white_text, passes_entry_white, passes_colon_white, flow_break_white, space_white}
@@ -44,8 +45,7 @@ white_indicator_ends : (breaks12 : Bool) (white : Text) (c : ℕ) (text : Text) 
     → EndsWord breaks12 (white ++ (c ∷ text))
 white_indicator_ends breaks12 [] c text h class rest k = indicator_ends breaks12 c text class rest k
 white_indicator_ends breaks12 (d ∷ white) c text h class rest k =
-    let parts = and_parts (d == space || d == line_feed) (is_white_text white) h in
-    grind (arith, and_parts, white_either, class_fixed, line_feed_class, white_indicator_ends breaks12 white c text parts.1 class rest k)
+    grind (arith, and_parts, and_from, or_parts, or_from, white_either, class_fixed, line_feed_class, white_indicator_ends breaks12 white c text)
 
 -- the level of a mapping after a pair
 abbrev after_pair : Option Text → Option Text → TreePairs → Tree → Tree → OpenFlow

@@ -1,4 +1,5 @@
 -- The text of a collection in flow, after its properties, is read as the collection's tree.
+use Rattle.yaml_base.proofs.Common.{and_from, or_from, or_parts}
 use Rattle.yaml_base.proofs.Common.{arith, ℕ, option_map, Option, None, Some, codes, Bool, false, true, List, [], ◌++◌, ◌∷◌, refl, ◌≡◌, append-nil}
 use Rattle.yaml_base.proofs.Common.{append_assoc, ap, sym, ◌∙◌, and_parts, false≢true, list_all, Text, Cursor, Rendered, new_line, space_if, indicator}
 use Rattle.yaml_base.proofs.Common.{TagDirective, Collection, collection_tag, Nodes, sequence_node, Pairs, mapping_node, no_nodes, nodes_and, no_pairs}
@@ -224,9 +225,7 @@ kept_before false d text c = refl
 -- of white space nothing is left
 white_trimmed : (breaks12 : Bool) (white : Text) → list_all (is_space_or_break breaks12) white ≡ true → trimmed breaks12 white ≡ []
 white_trimmed breaks12 [] h = refl
-white_trimmed breaks12 (c ∷ white) h =
-    let parts = and_parts (is_space_or_break breaks12 c) (list_all (is_space_or_break breaks12) white) h in
-    ap (prepend_to_trimmed (is_space_or_break breaks12 c) c) (white_trimmed breaks12 white parts.1) ∙ ap (λ x. prepend_to_trimmed x c []) parts.0
+white_trimmed breaks12 (c ∷ white) h = grind (arith, and_parts, and_from, or_parts, or_from, white_trimmed breaks12 white)
 
 -- white space after a text whose last character isn't white is cut off
 pub shown_trimmed : (breaks12 : Bool) (text : Text) (c : ℕ) (white : Text)

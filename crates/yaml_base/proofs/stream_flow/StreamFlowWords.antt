@@ -1,4 +1,5 @@
 -- A node's own word in flow, with its anchor and tag: it is one word among the tokens, and reads as the node's tree.
+use Rattle.yaml_base.proofs.Common.{and_from, or_from}
 use Rattle.yaml_base.proofs.Common.{ℕ, if◌then◌else◌, ◌==◌, option_map, Option, None, Some, codes, Bool, false, not, true, ◌&&◌, [], ◌++◌, ◌∷◌, refl, ◌≡◌}
 use Rattle.yaml_base.proofs.Common.{true≢false, ap, ◌∙◌, arith, and_parts, or_parts, false≢true, nat_tests, list_all, Text, is_among, is_alpha, ScalarStyle}
 use Rattle.yaml_base.proofs.Common.{plain, is_read_white, holds_no_plain, Properties, read_plain, ParsedTag, has_clean_edges, is_tidy, is_plain, Tree}
@@ -8,7 +9,7 @@ use Rattle.yaml_base.proofs.{Common.begun_token, Common.flow_tokens, stream_keys
 use Rattle.yaml_base.proofs.{stream_nodes.StreamAgrees.tagging_in, stream_nodes.StreamLeads.lead_then, stream_nodes.StreamStands.tag_meant}
 use Rattle.yaml_base.proofs.{stream_flow.StreamSays.Says, stream_flow.StreamSays.class_fixed}
 use Rattle.yaml_base.proofs.stream_lines.StreamCuts.{none_not_some, quote_of, quoted_in, read_quoted}
-use Rattle.yaml_base.proofs.stream_flow.StreamPlainWords.{stays_plain, is_white_class, all_stay, ends_shown, plain_text_word}
+use Rattle.yaml_base.proofs.stream_flow.StreamPlainWords.{is_white_class, all_stay, ends_shown, plain_text_word}
 use Rattle.yaml_base.proofs.stream_flow.StreamPropertyWords.{lead, lead_passes, Leads, says_quoted_after, says_plain_after, says_empty_after}
 use Rattle.yaml_base.proofs.stream_keys.StreamPlainKeys.{not_among, Begins, begins, plain_kind, plain_style, reads_plain, tidy_begins}
 use Rattle.yaml_base.proofs.stream_nodes.StreamProperties.{IsTagged, IsNamed, begins_content, name_letters, word_with_properties}
@@ -144,9 +145,7 @@ letter_class breaks12 c h = grind (arith, nat_tests)
 -- letters stay in plain text
 letters_stay : (breaks12 : Bool) (name : Text) → list_all is_alpha name ≡ true → all_stay breaks12 name ≡ true
 letters_stay breaks12 [] h = refl
-letters_stay breaks12 (c ∷ name) h =
-    let parts = and_parts (is_alpha c) (list_all is_alpha name) h in
-    ap (λ class. stays_plain class && all_stay breaks12 name) (letter_class breaks12 c parts.0) ∙ letters_stay breaks12 name parts.1
+letters_stay breaks12 (c ∷ name) h = grind (arith, and_parts, and_from, or_parts, or_from, letter_class, letters_stay breaks12 name)
 
 -- and the last of them isn't white
 letters_shown : (breaks12 : Bool) (c : ℕ) (name : Text) → list_all is_alpha (c ∷ name) ≡ true → ends_shown breaks12 (c ∷ name) ≡ true

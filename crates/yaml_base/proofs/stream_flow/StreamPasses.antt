@@ -1,4 +1,5 @@
 -- Indicators and white space in flow, which take the reader of flow collections on whatever follows them.
+use Rattle.yaml_base.proofs.Common.{or_from, or_parts}
 use Rattle.yaml_base.proofs.Common.{arith, suc, zero, ℕ, ◌==◌, Option, codes, replicate, Bool, false, true, ◌||◌, List, [], ◌++◌, ◌∷◌, refl, ◌≡◌, eqb-true}
 use Rattle.yaml_base.proofs.Common.{true≢false, append_assoc, ◌∙◌, and_parts, and_from, false≢true, list_all-append, list_all, Text, line_feed, space, Cursor}
 use Rattle.yaml_base.proofs.Common.{render_then, new_line, space_if, indicator, flow_break, Effective, OpenFlow, at_once, after_white, entry_awaited}
@@ -89,8 +90,7 @@ white_passes : (rules : Rules) (reading : FlowReading) (text : Text) → flow_st
     → is_white_text text ≡ true → Passes rules reading text reading
 white_passes rules reading [] one two h = passes_nothing rules reading
 white_passes rules reading (c ∷ text) one two h =
-    let parts = and_parts _ _ h in
-    passes_both (white_passes_one rules reading reading c one two parts.0) (white_passes rules reading text one two parts.1)
+    grind (arith, and_parts, and_from, or_parts, or_from, passes_both, white_passes_one, white_passes rules reading text one two)
 
 -- white space before an entry
 pub passes_entry_white : (rules : Rules) (levels : List OpenFlow) (text : Text) → is_white_text text ≡ true

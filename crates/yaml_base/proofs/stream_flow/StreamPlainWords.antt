@@ -1,5 +1,6 @@
 -- Plain text is one word among the tokens of flow, before white space and a flow indicator.
-use Rattle.yaml_base.proofs.Common.{nat_tests, arith, ℕ, Some, codes, Bool, false, not, true, ◌&&◌, List, [], map, ◌++◌, ◌∷◌, refl, ◌≡◌, true≢false}
+use Rattle.yaml_base.proofs.Common.{and_from, or_from}
+use Rattle.yaml_base.proofs.Common.{nat_tests, arith, ℕ, Some, codes, Bool, false, not, true, List, [], map, ◌++◌, ◌∷◌, refl, ◌≡◌, true≢false}
 use Rattle.yaml_base.proofs.Common.{append-nil, append_assoc, ap, ◌∙◌, and_parts, or_parts, false≢true, map-append, list_all, Text, is_among, is_read_white}
 use Rattle.yaml_base.proofs.Common.{holds_no_plain, read_plain, ends_white, has_clean_edges, FlowToken, word, free, FlowStep, FlowClass, is_white_blank}
 use Rattle.yaml_base.proofs.{stream_flow.StreamWords.GivesWord, stream_keys.StreamPlainKeys.reads_plain}
@@ -96,9 +97,7 @@ stays_at breaks12 c h = grind (arith, or_parts)
 -- a character of plain text in flow is no flow indicator
 pub plain_stays : (breaks12 : Bool) (t : Text) → holds_no_plain breaks12 true t ≡ false → all_stay breaks12 t ≡ true
 plain_stays breaks12 [] h = refl
-plain_stays breaks12 (c ∷ t) h =
-    let parts = or_parts _ _ h in
-    ap (λ x. x && all_stay breaks12 t) (stays_at breaks12 c (or_parts _ _ parts.0).1) ∙ plain_stays breaks12 t parts.1
+plain_stays breaks12 (c ∷ t) h = grind (arith, and_parts, and_from, or_parts, or_from, stays_at, plain_stays breaks12 t)
 
 -- a character that isn't white is of no white class
 pub shown_at : (breaks12 : Bool) (c : ℕ) → is_read_white breaks12 c ≡ false → is_white_class (class_of breaks12 c) ≡ false

@@ -1,4 +1,5 @@
 -- The tokens of a word in flow with its anchor and tag before it: it is one word with them, and so is a bracket that opens a collection.
+use Rattle.yaml_base.proofs.Common.{and_from, and_parts, or_from}
 use Rattle.yaml_base.proofs.Common.{ℕ, Option, None, Some, Bool, false, true, ◌||◌, List, [], ◌++◌, ◌∷◌, refl, ◌≡◌, true≢false, append-nil, append_assoc, ap}
 use Rattle.yaml_base.proofs.Common.{sym, ◌∙◌, arith, or_parts, false≢true, nat_tests, Text, space, is_blank, is_break, TagDirective, read_plain, ParsedTag}
 use Rattle.yaml_base.proofs.Common.{has_clean_edges, word, opens, FlowPlace, free, FlowStep, FlowClass, begins_property, begins_double, begins_single}
@@ -36,8 +37,7 @@ rest_passes : (breaks12 : Bool) (before text rest : Text) → holds_white text �
     → flow_tokens breaks12 (in_property before) (text ++ rest) ≡ flow_tokens breaks12 (in_property (before ++ text)) rest
 rest_passes breaks12 before [] rest h = ap (λ t. flow_tokens breaks12 (in_property t) rest) (sym (append-nil before))
 rest_passes breaks12 before (c ∷ text) rest h =
-    let parts = or_parts (is_blank c || is_break c) (holds_white text) h in
-    grind (arith, or_parts, property_passes, not_white, append_assoc, rest_passes breaks12 (before ++ (c ∷ [])) text rest parts.1)
+    grind (arith, and_parts, and_from, or_parts, or_from, property_passes, not_white, append_assoc, rest_passes breaks12 (before ++ (c ∷ [])) text rest)
 
 -- the place at which it begins: between tokens or after another
 begin_property : (breaks12 : Bool) (c : ℕ) (rest : Text) → class_of breaks12 c ≡ begins_property

@@ -1,6 +1,7 @@
 -- An alias and a space are a simple key, before the `:` that follows.
+use Rattle.yaml_base.proofs.Common.{and_from, or_from, or_parts}
 use Rattle.yaml_base.proofs.Common.{arith, ℕ, if◌then◌else◌, option_map, option_and_then, None, Some, nat_le, length, Bool, false, true, [], ◌++◌, ◌∷◌}
-use Rattle.yaml_base.proofs.Common.{refl, ◌≡◌, eqb-true, true≢false, ap, ◌∙◌, and_parts, false≢true, list_all, option_or, Text, space, is_alpha, alias_tree}
+use Rattle.yaml_base.proofs.Common.{refl, ◌≡◌, eqb-true, ap, ◌∙◌, and_parts, false≢true, list_all, option_or, Text, space, is_alpha, alias_tree}
 use Rattle.yaml_base.proofs.Common.{longest_key, ends_indicator, without_last_space, word_but_alias, word_of_alias, key_of_line, Rules, name_read, word_read}
 use Rattle.yaml_base.proofs.stream_keys.StreamKeys.{NoKey, found, key_found}
 
@@ -11,9 +12,7 @@ spaced name = name ++ (space ∷ [])
 -- a name and the space after it hold no `:`
 name_no_key : (rules : Rules) (before name after : Text) → list_all is_alpha name ≡ true → NoKey rules before (spaced name) after
 name_no_key rules before [] after h = ((λ e. absurd (false≢true e)), tt)
-name_no_key rules before (c ∷ name) after h =
-    let parts = and_parts (is_alpha c) (list_all is_alpha name) h in
-    grind (arith, and_parts, true≢false, eqb-true, name_no_key rules (before ++ (c ∷ [])) name after parts.1)
+name_no_key rules before (c ∷ name) after h = grind (arith, and_parts, and_from, or_parts, or_from, eqb-true, name_no_key rules (before ++ (c ∷ [])) name after)
 
 -- a space is in no name
 spaced_no_name : (name : Text) → list_all is_alpha (spaced name) ≡ false

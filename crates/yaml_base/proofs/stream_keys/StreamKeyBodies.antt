@@ -1,5 +1,6 @@
 -- The body of a simple key: its value has no break and it has no fold, so that its text is the value's characters, each as its style writes it, on
 -- one line.
+use Rattle.yaml_base.proofs.Common.{and_from, or_from}
 use Rattle.yaml_base.proofs.Common.{suc, zero, ℕ, ◌/◌, if◌then◌else◌, ◌==◌, Option, None, Some, nat_le, Bool, false, not, true, ◌&&◌, ◌||◌, List, [], ◌++◌}
 use Rattle.yaml_base.proofs.Common.{◌∷◌, refl, ◌≡◌, eqb-true, append-nil, append_assoc, ap, sym, ◌∙◌, arith, and_parts, or_parts, agree_below_at, false≢true}
 use Rattle.yaml_base.proofs.Common.{nat_tests, flat_map, list_any, Text, space, is_space, is_break, hex_digits, Cursor, and-false, ScalarStyle, any_style}
@@ -33,8 +34,7 @@ written_alone : (written : Text → Text) (one : ℕ → Text) (writes : Writes 
     → run_texts written indent (runs value) ≡ written value
 written_alone written one writes indent [] h = sym writes.nothing
 written_alone written one writes indent (c ∷ value) h =
-    let parts = or_parts (is_break c) (list_any is_break value) h in
-    grind (arith, or_parts, append-nil, append_assoc, written_alone written one writes indent value parts.1)
+    grind (arith, and_parts, and_from, or_parts, or_from, append-nil, append_assoc, written_alone written one writes indent value)
 
 runs_alone : (written : Text → Text) (one : ℕ → Text) (writes : Writes written one) (indent : ℕ) (value : Text) (cursor : Cursor)
     → list_any is_break value ≡ false → (render_runs written None indent true (runs value) cursor).text ≡ written value
@@ -90,9 +90,7 @@ unbroken_both (c ∷ a) b h k =
 unbroken_each : (one : ℕ → Text) → ((c : ℕ) → is_break c ≡ false → list_any is_break (one c) ≡ false) → (value : Text)
     → list_any is_break value ≡ false → list_any is_break (flat_map one value) ≡ false
 unbroken_each one each [] h = refl
-unbroken_each one each (c ∷ value) h =
-    let parts = or_parts (is_break c) (list_any is_break value) h in
-    unbroken_both (one c) (flat_map one value) (each c parts.0) (unbroken_each one each value parts.1)
+unbroken_each one each (c ∷ value) h = grind (arith, and_parts, and_from, or_parts, or_from, unbroken_both, unbroken_each one each value)
 
 -- the letters of escapes are no breaks
 abbrev unbroken_letters : List ShortEscape → Bool
@@ -102,9 +100,7 @@ unbroken_letters (entry ∷ more) = not (is_break entry.letter) && unbroken_lett
 unbroken_letter : (table : List ShortEscape) (c : ℕ) → unbroken_letters table ≡ true → (letter : ℕ) → letter_among table c ≡ Some letter
     → list_any is_break (letter ∷ []) ≡ false
 unbroken_letter [] c h letter e = cc
-unbroken_letter (entry ∷ more) c h letter e =
-    let parts = and_parts (not (is_break entry.letter)) (unbroken_letters more) h in
-    grind (arith, and_parts, false≢true, unbroken_letter more c parts.1 letter)
+unbroken_letter (entry ∷ more) c h letter e = grind (arith, and_parts, and_from, or_parts, or_from, unbroken_letter more c)
 
 -- nor are digits
 unbroken_digits : (count n : ℕ) → list_any is_break (hex_digits count n) ≡ false

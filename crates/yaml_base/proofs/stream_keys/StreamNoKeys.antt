@@ -1,6 +1,7 @@
 -- No `:` in an anchor or a tag ends a key: the text before it is no word, and no alias.
+use Rattle.yaml_base.proofs.Common.{or_from, or_parts}
 use Rattle.yaml_base.proofs.Common.{nat_tests, arith, ℕ, ◌+◌, if◌then◌else◌, ◌==◌, is_some, option_map, option_and_then, Option, None, Some, length, Bool}
-use Rattle.yaml_base.proofs.Common.{false, not, true, ◌||◌, [], ◌++◌, ◌∷◌, refl, ◌≡◌, eqb-true, true≢false, append-nil, append_assoc, ap, subst, sym, ◌∙◌}
+use Rattle.yaml_base.proofs.Common.{false, not, true, ◌||◌, [], ◌++◌, ◌∷◌, refl, ◌≡◌, eqb-true, append-nil, append_assoc, ap, subst, sym, ◌∙◌}
 use Rattle.yaml_base.proofs.Common.{and_parts, and_from, false≢true, list_all, Text, space, is_alpha, ParsedTag, parse_tag, Stood, Tree, is_alias}
 use Rattle.yaml_base.proofs.Common.{ends_indicator, Indented, past_indentation, spaces, word_of_alias, key_of_text, key_from, Rules, Properties}
 use Rattle.yaml_base.proofs.stream_nodes.StreamProperties.{WrittenTag, IsTagged, IsNamed, properties_text, has_no_space, word_whole, name_letters}
@@ -153,9 +154,7 @@ tag_rest_nowhere rules anchor b (c ∷ t) named h k =
   where
     longer : (b : Text) → has_no_space b ≡ true → not (c == space) ≡ true → has_no_space (b ++ (c ∷ [])) ≡ true
     longer [] h k = and_from (not (c == space)) true k refl
-    longer (d ∷ b) h k =
-        let parts = and_parts (not (d == space)) (has_no_space b) h in
-        and_from (not (d == space)) (has_no_space (b ++ (c ∷ []))) parts.0 (longer b parts.1 k)
+    longer (d ∷ b) h k = grind (arith, and_parts, and_from, or_parts, or_from, longer b)
 
 -- nor in the tag
 tag_nowhere : (rules : Rules) (anchor : Option Text) (tag : Text) (parsed : ParsedTag) → IsNamed anchor → WrittenTag rules.directives tag parsed
@@ -165,9 +164,7 @@ tag_nowhere rules anchor tag parsed named written = grind (arith, false≢true, 
 -- nor in an anchor's name
 name_nowhere : (rules : Rules) (before name : Text) → list_all is_alpha name ≡ true → KeyNowhere rules before name
 name_nowhere rules before [] h = tt
-name_nowhere rules before (c ∷ name) h =
-    let parts = and_parts (is_alpha c) (list_all is_alpha name) h in
-    ((λ e. absurd (true≢false (sym parts.0 ∙ ap is_alpha (eqb-true c 0x3A e)))), name_nowhere rules (before ++ (c ∷ [])) name parts.1)
+name_nowhere rules before (c ∷ name) h = grind (arith, and_parts, and_from, or_parts, or_from, eqb-true, name_nowhere rules (before ++ (c ∷ [])) name)
 
 -- nor in an anchor and the space after it
 anchored_nowhere : (rules : Rules) (anchor : Option Text) → IsNamed anchor → KeyNowhere rules [] (anchored anchor)

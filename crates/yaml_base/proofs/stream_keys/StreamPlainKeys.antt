@@ -1,4 +1,5 @@
 -- A plain simple key is found at its text's end, before the `:` that follows it.
+use Rattle.yaml_base.proofs.Common.{and_from, or_from}
 use Rattle.yaml_base.proofs.Common.{arith, nat_tests, ℕ, if◌then◌else◌, ◌==◌, None, Some, codes, Bool, false, true, ◌||◌, [], map, ◌++◌, ◌∷◌, refl, ◌≡◌}
 use Rattle.yaml_base.proofs.Common.{eqb-true, true≢false, and_parts, or_parts, false≢true, Text, is_among, space, plain, unit_of, folding_read, is_read_white}
 use Rattle.yaml_base.proofs.{stream_keys.StreamKeys.NoKey, stream_lines.StreamCuts.none_not_some}
@@ -36,9 +37,7 @@ plain_style c t b = rw (b.single, b.double, b.literal, b.folded) refl
 -- no `:` of plain text ends a key before its end
 pub plain_no_key : (rules : Rules) (before t after : Text) → holds_no_plain rules.breaks12 false t ≡ false → NoKey rules before t after
 plain_no_key rules before [] after h = tt
-plain_no_key rules before (c ∷ t) after h =
-    let parts = or_parts _ _ h in
-    grind (arith, or_parts, and_parts, false≢true, true≢false, eqb-true, plain_no_key rules (before ++ (c ∷ [])) t after parts.1)
+plain_no_key rules before (c ∷ t) after h = grind (arith, and_parts, and_from, or_parts, or_from, eqb-true, plain_no_key rules (before ++ (c ∷ [])) t after)
 
 -- a text that reads as plain begins so and holds no such indicator
 pub reads_plain : (breaks12 flow : Bool) (c : ℕ) (t v : Text) → read_plain breaks12 flow (c ∷ t) ≡ Some v

@@ -1,6 +1,7 @@
 -- A text of printable characters and tabs, however its line breaks are written, is read as its documents.
+use Rattle.yaml_base.proofs.Common.{or_from, or_parts}
 use Rattle.yaml_base.proofs.Common.{nat_tests, arith, ℕ, if◌then◌else◌, option_and_then, None, Some, Bool, true, List, [], ◌∷◌, refl, ◌≡◌, eqb-true, ap}
-use Rattle.yaml_base.proofs.Common.{◌∙◌, and_parts, and_from, false≢true, list_all-append, list_all, Text, is_tidy_character, with_breaks_written}
+use Rattle.yaml_base.proofs.Common.{◌∙◌, and_parts, and_from, list_all-append, list_all, Text, is_tidy_character, with_breaks_written}
 use Rattle.yaml_base.{proofs.AllPass.all_pass, proofs.BreakLaws.breaks-round, specs.streams.StreamReader.may_stand_raw, specs.streams.StreamReader.text_trees}
 use Rattle.yaml_base.proofs.Common.{with_line_breaks_read, is_rendered_text, LineBreak, characters_read, documents_of, stream_trees, or_left, ScalarStyle}
 use Rattle.yaml_base.proofs.Common.{literal, DocumentTree}
@@ -13,9 +14,7 @@ is_shown c = is_tidy_character literal c
 -- such a text has no CR and no U+0085
 printable_rendered : (text : Text) → list_all is_shown text ≡ true → is_rendered_text text ≡ true
 printable_rendered [] h = refl
-printable_rendered (c ∷ rest) h =
-    let parts = and_parts (is_shown c) (list_all is_shown rest) h in
-    grind (arith, and_parts, false≢true, eqb-true, printable_rendered rest parts.1)
+printable_rendered (c ∷ rest) h = grind (arith, and_parts, and_from, or_parts, or_from, eqb-true, printable_rendered rest)
 
 -- the characters of a tidy text of any style are such
 style_shown : (style : ScalarStyle) (c : ℕ) → is_tidy_character style c ≡ true → is_shown c ≡ true
@@ -28,9 +27,7 @@ tidy_rendered style text h = printable_rendered text (all_pass (is_tidy_characte
 -- in whatever form its breaks are written, such a text may be raw
 pub printable_raw : (setting : LineBreak) (text : Text) → list_all is_shown text ≡ true → list_all may_stand_raw (with_breaks_written setting text) ≡ true
 printable_raw setting [] h = refl
-printable_raw setting (c ∷ rest) h =
-    let parts = and_parts (is_shown c) (list_all is_shown rest) h in
-    grind (arith, nat_tests, and_parts, list_all-append, and_from, false≢true, printable_raw setting rest parts.1)
+printable_raw setting (c ∷ rest) h = grind (arith, and_parts, and_from, or_parts, or_from, list_all-append, printable_raw setting rest)
 
 -- such a text with its breaks written reads as the documents of the text, if it has some
 pub trees_of_text : (breaks12 : Bool) (setting : LineBreak) (text : Text) (documents : List DocumentTree) → list_all is_shown text ≡ true

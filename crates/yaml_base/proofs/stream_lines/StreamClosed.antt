@@ -1,6 +1,7 @@
 -- How a node's text leaves off: at a line's start, or before the break that the next new line begins with.
+use Rattle.yaml_base.proofs.Common.{or_from}
 use Rattle.yaml_base.proofs.Common.{suc, zero, ℕ, ◌+◌, ◌≤◌, if◌then◌else◌, Bool, false, true, ◌||◌, List, [], ◌++◌, ◌∷◌, refl, ◌≡◌, le-ltb, append-nil, ap}
-use Rattle.yaml_base.proofs.Common.{sym, ◌∙◌, arith, and_parts, and_from, or_parts, list_all, list_any, Text, line_feed, space, Cursor, Rendered, new_line}
+use Rattle.yaml_base.proofs.Common.{sym, ◌∙◌, arith, and_parts, and_from, or_parts, list_any, Text, line_feed, space, Cursor, Rendered, new_line}
 use Rattle.yaml_base.proofs.stream_lines.{StreamTidyLaws.lines_after_first, StreamInside.inside_deeper, StreamInside.AllInside}
 use Rattle.yaml_base.proofs.Common.{is_read_break, Line, prepend_to_first_line, prepend_character, lines_of, ends_indicator, belongs_to_entry, spaces}
 use Rattle.yaml_base.proofs.stream_lines.StreamLineLaws.{is_closed, OneLine, break_line}
@@ -74,9 +75,7 @@ pub lines_behind : (breaks12 : Bool) (a t head ending : Text) (rest : List Line)
     → lines_of breaks12 t ≡ record { text = head; ending = ending } ∷ rest
     → lines_of breaks12 (a ++ t) ≡ record { text = a ++ head; ending = ending } ∷ rest
 lines_behind breaks12 [] t head ending rest one is = is
-lines_behind breaks12 (c ∷ a) t head ending rest one is =
-    let parts : (is_read_break breaks12 c ≡ false) × OneLine breaks12 a = or_parts _ _ one in
-    ap (λ x. prepend_character x c (lines_of breaks12 (a ++ t))) parts.0 ∙ ap (prepend_to_first_line c) (lines_behind breaks12 a t head ending rest parts.1 is)
+lines_behind breaks12 (c ∷ a) t head ending rest one is = grind (arith, and_parts, and_from, or_parts, or_from, lines_behind breaks12 a t head ending rest)
 
 -- it moves no line but the first
 pub after_line : (breaks12 : Bool) (a t : Text) → OneLine breaks12 a
@@ -137,6 +136,4 @@ dash_inside false (suc d) (suc e) t h k = dash_inside false d e t (omega arith) 
 -- lines, and then others
 pub inside_both : (s : Bool) (d : ℕ) (a b : List Line) → AllInside s d a → AllInside s d b → AllInside s d (a ++ b)
 inside_both s d [] b h k = k
-inside_both s d (line ∷ a) b h k =
-    let parts = and_parts (belongs_to_entry s d line.text) (list_all (λ line. belongs_to_entry s d line.text) a) h in
-    and_from (belongs_to_entry s d line.text) (list_all (λ line. belongs_to_entry s d line.text) (a ++ b)) parts.0 (inside_both s d a b parts.1 k)
+inside_both s d (line ∷ a) b h k = grind (arith, and_parts, and_from, or_parts, or_from, inside_both s d a b)

@@ -1,7 +1,8 @@
 -- Texts in which another break, or spaces that reach past a column, follow each break.
-use Rattle.yaml_base.proofs.Common.{nat_tests, suc, zero, ℕ, ◌≤◌, ◌==◌, Bool, false, not, true, ◌&&◌, ◌||◌, [], ◌++◌, ◌∷◌, refl, ◌≡◌, ap, ◌∙◌, arith}
-use Rattle.yaml_base.proofs.Common.{and_parts, and_from, or_parts, false≢true, list_all, list_any, Text, line_feed, space, is_blank, Cursor, new_line}
-use Rattle.yaml_base.proofs.Common.{space_if, is_read_break, is_read_white, begins_with_spaces, begins_with_deep_line, has_deep_lines, ends_white, lines_of}
+use Rattle.yaml_base.proofs.Common.{or_from}
+use Rattle.yaml_base.proofs.Common.{nat_tests, suc, zero, ℕ, ◌≤◌, Bool, false, not, true, ◌&&◌, ◌||◌, [], ◌++◌, ◌∷◌, refl, ◌≡◌, ap, arith}
+use Rattle.yaml_base.proofs.Common.{and_parts, and_from, or_parts, false≢true, list_all, Text, line_feed, is_blank, Cursor, new_line}
+use Rattle.yaml_base.proofs.Common.{space_if, is_read_break, is_read_white, begins_with_spaces, has_deep_lines, ends_white, lines_of}
 use Rattle.yaml_base.{proofs.Common.belongs_to_entry, proofs.Common.spaces, proofs.stream_lines.StreamInside.AllInside}
 use Rattle.yaml_base.{proofs.stream_lines.StreamLineLaws.OneLine, specs.reading.TidyText.begins_with_break, proofs.stream_lines.StreamClosed.spaces_line}
 use Rattle.yaml_base.proofs.stream_lines.StreamTidyLaws.{first_text, lines_after_first, spaces_inside}
@@ -33,33 +34,25 @@ Implies test other = (t : Text) → test t ≡ true → other t ≡ true
 pub after_both : (breaks12 : Bool) (test : Text → Bool) → Keeps test → (a b : Text) → after_breaks breaks12 test a ≡ true → after_breaks breaks12 test b ≡ true
     → after_breaks breaks12 test (a ++ b) ≡ true
 after_both breaks12 test keeps [] b h k = k
-after_both breaks12 test keeps (c ∷ a) b h k =
-    let parts = and_parts (not (is_read_break breaks12 c) || test a) (after_breaks breaks12 test a) h in
-    grind (arith, and_parts, and_from, after_both breaks12 test keeps a b parts.1 k)
+after_both breaks12 test keeps (c ∷ a) b h k = grind (arith, and_parts, and_from, or_parts, or_from, after_both breaks12 test keeps a b)
 
 -- a text that passes a test after each break passes a weaker one there
 pub after_weaker : (breaks12 : Bool) (test other : Text → Bool) → Implies test other → (t : Text) → after_breaks breaks12 test t ≡ true
     → after_breaks breaks12 other t ≡ true
 after_weaker breaks12 test other weaker [] h = refl
-after_weaker breaks12 test other weaker (c ∷ t) h =
-    let parts = and_parts (not (is_read_break breaks12 c) || test t) (after_breaks breaks12 test t) h in
-    grind (arith, and_parts, and_from, after_weaker breaks12 test other weaker t parts.1)
+after_weaker breaks12 test other weaker (c ∷ t) h = grind (arith, and_parts, and_from, or_parts, or_from, after_weaker breaks12 test other weaker t)
 
 -- a text without a break
 pub after_line_of : (breaks12 : Bool) (test : Text → Bool) (t : Text) → OneLine breaks12 t → after_breaks breaks12 test t ≡ true
 after_line_of breaks12 test [] one = refl
-after_line_of breaks12 test (c ∷ t) one =
-    let parts = or_parts (is_read_break breaks12 c) (list_any (is_read_break breaks12) t) one in
-    ap (λ x. (not x || test t) && after_breaks breaks12 test t) parts.0 ∙ after_line_of breaks12 test t parts.1
+after_line_of breaks12 test (c ∷ t) one = grind (arith, and_parts, and_from, or_parts, or_from, after_line_of breaks12 test t)
 
 -- Deep texts
 
 spaces_keep : (count : ℕ) (a b : Text) → begins_with_spaces count a ≡ true → begins_with_spaces count (a ++ b) ≡ true
 spaces_keep zero a b h = refl
 spaces_keep (suc count) [] b h = absurd (false≢true h)
-spaces_keep (suc count) (c ∷ a) b h =
-    let parts = and_parts (c == space) (begins_with_spaces count a) h in
-    and_from (c == space) (begins_with_spaces count (a ++ b)) parts.0 (spaces_keep count a b parts.1)
+spaces_keep (suc count) (c ∷ a) b h = grind (arith, and_parts, and_from, or_parts, or_from, spaces_keep count a b)
 
 -- more text doesn't change how a text begins
 pub deep_keeps : (breaks12 : Bool) (count : ℕ) → Keeps (begins_deep breaks12 count)
@@ -95,9 +88,7 @@ pub deep_tidy : (breaks12 : Bool) (count : ℕ) (t : Text) → has_deep_lines br
 deep_tidy breaks12 count [] h e = refl
 deep_tidy breaks12 count (c ∷ []) h e =
     ap (λ x. (not x || begins_deep breaks12 count []) && true) (or_parts (is_blank c) (is_read_break breaks12 c) e).1
-deep_tidy breaks12 count (c ∷ d ∷ t) h e =
-    let parts = and_parts (not (is_read_break breaks12 c) || begins_with_deep_line breaks12 count (d ∷ t)) (has_deep_lines breaks12 count (d ∷ t)) h in
-    grind (arith, and_parts, and_from, deep_tidy breaks12 count (d ∷ t) parts.1 e)
+deep_tidy breaks12 count (c ∷ d ∷ t) h e = grind (arith, and_parts, and_from, or_parts, or_from, deep_tidy breaks12 count (d ∷ t))
 
 -- a text ends as its last character
 pub ends_as_last : (breaks12 : Bool) (t : Text) (c : ℕ) → ends_white breaks12 (t ++ (c ∷ [])) ≡ is_read_white breaks12 c
@@ -108,9 +99,7 @@ ends_as_last breaks12 (d ∷ e ∷ t) c = ends_as_last breaks12 (e ∷ t) c
 -- the prefix of a text on one line
 pub line_prefix : (breaks12 : Bool) (a b : Text) → OneLine breaks12 (a ++ b) → OneLine breaks12 a
 line_prefix breaks12 [] b one = refl
-line_prefix breaks12 (c ∷ a) b one =
-    let parts = or_parts (is_read_break breaks12 c) (list_any (is_read_break breaks12) (a ++ b)) one in
-    ap (λ x. x || list_any (is_read_break breaks12) a) parts.0 ∙ line_prefix breaks12 a b parts.1
+line_prefix breaks12 (c ∷ a) b one = grind (arith, and_parts, and_from, or_parts, or_from, line_prefix breaks12 a b)
 
 -- the space before a word
 pub space_line : (breaks12 need : Bool) (cursor : Cursor) → OneLine breaks12 (space_if need cursor)
@@ -124,9 +113,7 @@ pub lines_pass : (breaks12 : Bool) (test line_test : Text → Bool)
     → (t : Text) → after_breaks breaks12 test t ≡ true
     → list_all (λ line. line_test line.text) (lines_after_first (lines_of breaks12 (t ++ (line_feed ∷ [])))) ≡ true
 lines_pass breaks12 test line_test first [] h = refl
-lines_pass breaks12 test line_test first (c ∷ t) h =
-    let parts = and_parts (not (is_read_break breaks12 c) || test t) (after_breaks breaks12 test t) h in
-    grind (arith, and_parts, and_from, lines_pass breaks12 test line_test first t parts.1)
+lines_pass breaks12 test line_test first (c ∷ t) h = grind (arith, and_parts, and_from, or_parts, or_from, lines_pass breaks12 test line_test first t)
 
 -- so many spaces after a break begin a line inside the column before them
 pub deep_first : (breaks12 : Bool) (column : ℕ) (u : Text) → begins_deep breaks12 (suc column) u ≡ true

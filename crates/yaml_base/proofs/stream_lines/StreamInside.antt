@@ -1,8 +1,9 @@
 -- Which lines lie inside a column, and lines that are the entries of a collection whatever entries follow them.
+use Rattle.yaml_base.proofs.Common.{or_from, or_parts}
 use Rattle.yaml_base.proofs.Common.{suc, zero, ℕ, ◌<◌, ◌==◌, Some, Bool, false, not, true, ◌&&◌, ◌||◌, List, [], ◌++◌, ◌∷◌, refl, ◌≡◌, append-nil}
 use Rattle.yaml_base.proofs.Common.{append_assoc, ap, sym, ◌∙◌, arith, and_parts, and_from, false≢true, list_all, Text, space, Line, is_spaces}
 use Rattle.yaml_base.proofs.Common.{begins_with_indicator, belongs_to_entry, all_deeper, indented_step, past_indentation, spaces}
-use Rattle.yaml_base.specs.streams.StreamLines.{prepend_line, entries_at, past_column}
+use Rattle.yaml_base.specs.streams.StreamLines.{entries_at, past_column}
 
 -- a line deeper than a column is inside it
 pub inside_deeper : (s : Bool) (d e : ℕ) (t : Text) → d < e → belongs_to_entry s d (spaces e ++ t) ≡ true
@@ -54,16 +55,12 @@ AllInside s column lines = list_all (λ line. belongs_to_entry s column line.tex
 pub inside_mapping : (s : Bool) (d : ℕ) (t : Text) → belongs_to_entry true d t ≡ true → belongs_to_entry s d t ≡ true
 inside_mapping s d [] h = refl
 inside_mapping s zero (c ∷ t) h = grind (arith, false≢true)
-inside_mapping s (suc d) (c ∷ t) h =
-    let parts = and_parts (c == space) (belongs_to_entry true d t) h in
-    and_from (c == space) (belongs_to_entry s d t) parts.0 (inside_mapping s d t parts.1)
+inside_mapping s (suc d) (c ∷ t) h = grind (arith, and_parts, and_from, or_parts, or_from, inside_mapping s d t)
 
 -- lines inside a sequence's column are deeper than it
 pub deeper_inside : (column : ℕ) (lines : List Line) → AllInside true column lines → all_deeper (Some column) lines ≡ true
 deeper_inside column [] h = refl
-deeper_inside column (line ∷ rest) h =
-    let parts = and_parts (belongs_to_entry true column line.text) (list_all (λ line. belongs_to_entry true column line.text) rest) h in
-    and_from (belongs_to_entry true column line.text) (all_deeper (Some column) rest) parts.0 (deeper_inside column rest parts.1)
+deeper_inside column (line ∷ rest) h = grind (arith, and_parts, and_from, or_parts, or_from, deeper_inside column rest)
 
 -- lines that are these entries, whatever entries follow them
 pub record Splits (s : Bool) (e : ℕ) (lines : List Line) (entries : List (List Line)) : Type 0 where
@@ -82,9 +79,7 @@ splits_both s e a b x y one two = grind (arith, append_assoc)
 pub passes : (s : Bool) (e : ℕ) (rest lines : List Line) → AllInside s e rest
     → entries_at s e (rest ++ lines) ≡ record { before = rest ++ (entries_at s e lines).before; entries = (entries_at s e lines).entries }
 passes s e [] lines h = refl
-passes s e (line ∷ rest) lines h =
-    let parts = and_parts (belongs_to_entry s e line.text) (list_all (λ line. belongs_to_entry s e line.text) rest) h in
-    ap (λ x. prepend_line x line (entries_at s e (rest ++ lines))) parts.0 ∙ ap (prepend_line true line) (passes s e rest lines parts.1)
+passes s e (line ∷ rest) lines h = grind (arith, and_parts, and_from, or_parts, or_from, passes s e rest lines)
 
 -- one entry: a first line at the column, and lines inside it
 pub splits_one : (s : Bool) (e : ℕ) (line : Line) (rest : List Line) → belongs_to_entry s e line.text ≡ false → AllInside s e rest

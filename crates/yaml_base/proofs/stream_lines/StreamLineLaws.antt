@@ -1,5 +1,6 @@
 -- The lines of texts one after another.
-use Rattle.yaml_base.proofs.Common.{nat_tests, arith, ℕ, Bool, false, true, ◌||◌, List, [], ◌++◌, ◌∷◌, refl, ◌≡◌, ap, sym, ◌∙◌, or_parts, or_from, list_any}
+use Rattle.yaml_base.proofs.Common.{and_from, and_parts}
+use Rattle.yaml_base.proofs.Common.{nat_tests, arith, ℕ, Bool, false, true, List, [], ◌++◌, ◌∷◌, refl, ◌≡◌, ap, sym, ◌∙◌, or_parts, or_from, list_any}
 use Rattle.yaml_base.proofs.Common.{Text, is_read_break, is_read_white, is_space_or_break, Line, prepend_character, lines_of, text_of_lines, is_break}
 use Rattle.yaml_base.proofs.AllPass.{fewer_pass}
 
@@ -43,9 +44,7 @@ lines_after_break breaks12 (c ∷ d ∷ text) rest h = grind (arith, before_both
 -- two texts without a break
 pub one_line_both : (breaks12 : Bool) (a b : Text) → OneLine breaks12 a → OneLine breaks12 b → OneLine breaks12 (a ++ b)
 one_line_both breaks12 [] b h k = k
-one_line_both breaks12 (c ∷ a) b h k =
-    let parts : (is_read_break breaks12 c ≡ false) × OneLine breaks12 a = or_parts (is_read_break breaks12 c) (list_any (is_read_break breaks12) a) h in
-    ap (λ x. x || list_any (is_read_break breaks12) (a ++ b)) parts.0 ∙ one_line_both breaks12 a b parts.1 k
+one_line_both breaks12 (c ∷ a) b h k = grind (arith, and_parts, and_from, or_parts, or_from, one_line_both breaks12 a b)
 
 -- a character that breaks no line in a value breaks none that is read
 pub break_line : (breaks12 : Bool) (c : ℕ) → is_break c ≡ false → is_read_break breaks12 c ≡ false

@@ -1,5 +1,6 @@
 -- Lines that are no document's marker: those inside column 0, and those that begin with an indicator of an entry.
-use Rattle.yaml_base.proofs.Common.{Bool, true, List, [], ◌++◌, ◌∷◌, ◌≡◌, eqb-true, arith, and_parts, and_from, false≢true, list_all}
+use Rattle.yaml_base.proofs.Common.{or_from, or_parts}
+use Rattle.yaml_base.proofs.Common.{Bool, true, List, [], ◌++◌, ◌∷◌, ◌≡◌, eqb-true, arith, and_parts, and_from, false≢true}
 use Rattle.yaml_base.proofs.Common.{Text, space, marker_of, Line, ends_indicator, belongs_to_entry, nat_tests}
 use Rattle.yaml_base.proofs.{stream_lines.StreamInside.AllInside, stream_lines.StreamSections.is_markerless, stream_lines.StreamSections.AllMarkerless}
 use Rattle.yaml_base.proofs.AllPass.{all_pass}
@@ -32,6 +33,4 @@ all_markerless s lines h =
 -- lines, and then others
 pub markerless_both : (a b : List Line) → AllMarkerless a → AllMarkerless b → AllMarkerless (a ++ b)
 markerless_both [] b h k = k
-markerless_both (line ∷ a) b h k =
-    let parts = and_parts (is_markerless (marker_of line.text)) (list_all (λ line. is_markerless (marker_of line.text)) a) h in
-    and_from (is_markerless (marker_of line.text)) (list_all (λ line. is_markerless (marker_of line.text)) (a ++ b)) parts.0 (markerless_both a b parts.1 k)
+markerless_both (line ∷ a) b h k = grind (arith, and_parts, and_from, or_parts, or_from, markerless_both a b)

@@ -1,5 +1,6 @@
 -- Lines that are these sections of a stream, whatever sections follow them.
-use Rattle.yaml_base.proofs.Common.{arith, Bool, false, true, List, [], ◌++◌, ◌∷◌, refl, ◌≡◌, true≢false, append-nil, and_parts, false≢true, list_all}
+use Rattle.yaml_base.proofs.Common.{and_from, or_from, or_parts}
+use Rattle.yaml_base.proofs.Common.{arith, Bool, false, true, List, [], ◌++◌, ◌∷◌, refl, ◌≡◌, true≢false, append-nil, and_parts, list_all}
 use Rattle.yaml_base.proofs.Common.{end_marker, no_exclamation, marker_of, Section, sections_of, Line}
 use Rattle.yaml_base.specs.streams.StreamDocuments.{MarkerKind}
 
@@ -16,9 +17,7 @@ AllMarkerless lines = list_all (λ line. is_markerless (marker_of line.text)) li
 pub markerless_before : (body lines : List Line) → AllMarkerless body
     → sections_of (body ++ lines) ≡ record { before = body ++ (sections_of lines).before; sections = (sections_of lines).sections }
 markerless_before [] lines h = refl
-markerless_before (line ∷ body) lines h =
-    let parts = and_parts (is_markerless (marker_of line.text)) (list_all (λ line. is_markerless (marker_of line.text)) body) h in
-    grind (arith, and_parts, false≢true, end_marker, markerless_before body lines parts.1)
+markerless_before (line ∷ body) lines h = grind (arith, and_parts, and_from, or_parts, or_from, end_marker, markerless_before body lines)
 
 -- lines that are these sections
 pub record Marks (lines : List Line) (sections : List Section) : Type 0 where

@@ -1,4 +1,5 @@
 -- The lines of a tidy text after its first lie inside the column of the block around, and of any block farther out.
+use Rattle.yaml_base.proofs.Common.{or_from, or_parts}
 use Rattle.yaml_base.proofs.Common.{nat_tests, suc, zero, ℕ, ◌≤◌, ◌==◌, Option, None, Some, Bool, false, not, true, ◌||◌, List, [], ◌∷◌, refl, ◌≡◌, eqb-true}
 use Rattle.yaml_base.proofs.Common.{ap, ◌∙◌, arith, and_parts, and_from, false≢true, list_all, Text, space, ScalarStyle, is_read_break, begins_with_spaces}
 use Rattle.yaml_base.proofs.Common.{begins_with_deep_line, has_deep_lines, is_tidy, Line, prepend_to_first_line, prepend_character, lines_of, belongs_to_entry}
@@ -11,9 +12,7 @@ pub spaces_fewer : (m n : ℕ) (t : Text) → m ≤ n → begins_with_spaces n t
 spaces_fewer zero n t le h = refl
 spaces_fewer (suc m) zero t le h = absurd (omega arith)
 spaces_fewer (suc m) (suc n) [] le h = absurd (false≢true h)
-spaces_fewer (suc m) (suc n) (c ∷ t) le h =
-    let parts = and_parts (c == space) (begins_with_spaces n t) h in
-    and_from (c == space) (begins_with_spaces m t) parts.0 (spaces_fewer m n t (omega arith) parts.1)
+spaces_fewer (suc m) (suc n) (c ∷ t) le h = grind (arith, and_parts, and_from, or_parts, or_from, spaces_fewer m n t (omega arith))
 
 deep_line_fewer : (breaks12 : Bool) (m n : ℕ) (t : Text) → m ≤ n → begins_with_deep_line breaks12 n t ≡ true → begins_with_deep_line breaks12 m t ≡ true
 deep_line_fewer breaks12 m n t le h = grind (arith, and_parts, and_from, spaces_fewer)
@@ -70,9 +69,7 @@ pub spaces_inside : (breaks12 : Bool) (column : ℕ) (t : Text) → begins_with_
     → belongs_to_entry true column (first_text (lines_of breaks12 t)) ≡ true
 spaces_inside breaks12 column [] h = absurd (false≢true h)
 spaces_inside breaks12 zero (c ∷ t) h = grind (arith, and_parts, first_after_space)
-spaces_inside breaks12 (suc column) (c ∷ t) h =
-    let parts = and_parts _ _ h in
-    ap (belongs_to_entry true (suc column)) (first_after_space _ c t parts.0) ∙ and_from _ _ parts.0 (spaces_inside breaks12 column t parts.1)
+spaces_inside breaks12 (suc column) (c ∷ t) h = grind (arith, and_parts, and_from, or_parts, or_from, first_after_space, spaces_inside breaks12 column t)
 
 -- a deep line lies inside the column
 first_inside : (breaks12 : Bool) (column : ℕ) (t : Text) → begins_with_deep_line breaks12 (suc column) t ≡ true

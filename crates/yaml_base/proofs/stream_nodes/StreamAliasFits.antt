@@ -1,8 +1,9 @@
 -- An alias that is no simple key fits at its place in a block.
+use Rattle.yaml_base.proofs.Common.{and_from, or_from, or_parts}
 use Rattle.yaml_base.proofs.Common.{ℕ, ◌<◌, if◌then◌else◌, ◌==◌, is_some, Option, None, Some, Bool, false, not, true, ◌&&◌, List, [], ◌++◌, ◌∷◌, refl, ◌≡◌}
-use Rattle.yaml_base.proofs.Common.{eqb-true, true≢false, append-nil, append_assoc, ap, subst, sym, ◌∙◌, arith, and_parts, false≢true, list_all, option_or}
+use Rattle.yaml_base.proofs.Common.{eqb-true, true≢false, append-nil, append_assoc, ap, subst, sym, ◌∙◌, arith, and_parts, false≢true, list_all}
 use Rattle.yaml_base.proofs.Common.{Text, line_feed, space, is_alpha, Cursor, TagDirective, alias_node, render_alias, Place, is_simple_at, is_read_break}
-use Rattle.yaml_base.proofs.Common.{Effective, is_read_white, alias_tree, ends_indicator, all_deeper, spaces, key_ends, key_from, prepend_to_trimmed, trimmed}
+use Rattle.yaml_base.proofs.Common.{Effective, is_read_white, alias_tree, all_deeper, spaces, key_from, trimmed}
 use Rattle.yaml_base.proofs.{stream_nodes.StreamBlocks.below_ends, stream_nodes.StreamFits.Fits, stream_nodes.StreamNodesFit.LeafFits, AllPass.none_pass}
 use Rattle.yaml_base.proofs.Common.{begins_mapping, begins_text, kind_of_node, Rules, no_properties, word_after}
 use Rattle.yaml_base.proofs.stream_lines.StreamClosed.{closed, lines_broken, character_line}
@@ -30,18 +31,12 @@ name_line breaks12 name h = none_pass is_alpha (is_read_break breaks12) (letter_
 name_trimmed : (breaks12 : Bool) (name : Text) → list_all is_alpha name ≡ true → trimmed breaks12 (name ++ (line_feed ∷ [])) ≡ name
 name_trimmed true [] h = refl
 name_trimmed false [] h = refl
-name_trimmed breaks12 (c ∷ name) h =
-    let parts = and_parts (is_alpha c) (list_all is_alpha name) h in
-    ap (λ x. prepend_to_trimmed x c (trimmed breaks12 (name ++ (line_feed ∷ [])))) (not_white breaks12 c (letter_shows breaks12 c parts.0))
-    ∙ ap (λ t. c ∷ t) (name_trimmed breaks12 name parts.1)
+name_trimmed breaks12 (c ∷ name) h = grind (arith, and_parts, and_from, or_parts, or_from, not_white, letter_shows, name_trimmed breaks12 name)
 
 -- no key ends in it
 name_no_key : (rules : Rules) (before name : Text) → list_all is_alpha name ≡ true → key_from rules before name ≡ None
 name_no_key rules before [] h = refl
-name_no_key rules before (c ∷ name) h =
-    let parts = and_parts (is_alpha c) (list_all is_alpha name) h in
-    ap (λ x. option_or (key_ends rules (x && ends_indicator name) before name) (key_from rules (before ++ c ∷ []) name)) (other_letter c 0x3A refl parts.0)
-    ∙ name_no_key rules (before ++ (c ∷ [])) name parts.1
+name_no_key rules before (c ∷ name) h = grind (arith, and_parts, and_from, or_parts, or_from, other_letter, name_no_key rules (before ++ (c ∷ [])) name)
 
 -- an alias is a text of its own
 alias_kind : (rules : Rules) (name : Text) → list_all is_alpha name ≡ true → kind_of_node rules (0x2A ∷ name) ≡ begins_text

@@ -1,4 +1,5 @@
 -- A node's own text that reads on its lines fits at its place in a block.
+use Rattle.yaml_base.proofs.Common.{or_from, or_parts}
 use Rattle.yaml_base.proofs.Common.{suc, zero, ℕ, ◌+◌, ◌<◌, ◌≤◌, if◌then◌else◌, ◌==◌, Option, None, Some, Bool, false, not, true, ◌&&◌, ◌||◌, List, [], ◌++◌}
 use Rattle.yaml_base.proofs.Common.{◌∷◌, refl, ◌≡◌, ap, ◌∙◌, arith, and_parts, and_from, list_all, Text, space, Cursor, Rendered, Place, is_in_mapping, Tree}
 use Rattle.yaml_base.proofs.Common.{Line, lines_of, without_blank_lines, ends_indicator, belongs_to_entry, Indented, spaces, LinesReader, begins_text}
@@ -16,9 +17,7 @@ inside_farther d c [] le h = refl
 inside_farther zero zero (x ∷ t) le h = h
 inside_farther zero (suc c) (x ∷ t) le h = ap (λ y. y || false) (and_parts (x == space) (belongs_to_entry true c t) h).0
 inside_farther (suc d) zero (x ∷ t) le h = absurd (omega arith)
-inside_farther (suc d) (suc c) (x ∷ t) le h =
-    let parts = and_parts (x == space) (belongs_to_entry true c t) h in
-    and_from (x == space) (belongs_to_entry true d t) parts.0 (inside_farther d c t (omega arith) parts.1)
+inside_farther (suc d) (suc c) (x ∷ t) le h = grind (arith, and_parts, and_from, or_parts, or_from, inside_farther d c t (omega arith))
 
 -- lines deeper than a column are inside each that is farther out
 pub all_farther : (q : Bool) (d c : ℕ) (lines : List Line) → d ≤ c → AllInside true c lines → AllInside q d lines

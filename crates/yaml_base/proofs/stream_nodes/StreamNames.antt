@@ -1,4 +1,5 @@
 -- The names and tags of an accepted list read as they were given, in each of its documents.
+use Rattle.yaml_base.proofs.Common.{or_from, or_parts}
 use Rattle.yaml_base.proofs.Common.{arith, if◌then◌else◌, option_and_then, Option, None, Some, Bool, false, not, true, ◌&&◌, ◌||◌, List, [], ◌++◌, ◌∷◌, refl}
 use Rattle.yaml_base.proofs.Common.{◌≡◌, ap, sym, ◌∙◌, and_parts, and_from, false≢true, list_all, list_any, all_scalars, Text, TagDirective, Event}
 use Rattle.yaml_base.proofs.Common.{stream_start, stream_end, alias, scalar, sequence_start, sequence_end, mapping_start, mapping_end, scalar_tag}
@@ -25,10 +26,7 @@ is_good canonical event = is_sound canonical event && has_scalar_texts event
 pub all_good : (canonical : Bool) (events : List Event) → list_all (is_sound canonical) events ≡ true → list_all has_scalar_texts events ≡ true
     → list_all (is_good canonical) events ≡ true
 all_good canonical [] h k = refl
-all_good canonical (event ∷ rest) h k =
-    let sound = and_parts _ _ h in
-    let texts = and_parts _ _ k in
-    and_from _ _ (and_from _ _ sound.0 texts.0) (all_good canonical rest sound.1 texts.1)
+all_good canonical (event ∷ rest) h k = grind (arith, and_parts, and_from, or_parts, or_from, all_good canonical rest)
 
 -- no fault of such an event is returned
 pub no_faults : (canonical : Bool) (event : Event) → is_good canonical event ≡ true

@@ -1,6 +1,7 @@
 -- Quoted and plain scalars as their own text on the lines of a block.
+use Rattle.yaml_base.proofs.Common.{or_from, or_parts}
 use Rattle.yaml_base.proofs.Common.{nat_tests, text_by_kind, kind_of_text, word_text, arith, suc, zero, ℕ, ◌==◌, Option, None, Some, Bool, false, not, true}
-use Rattle.yaml_base.proofs.Common.{◌&&◌, ◌||◌, List, [], ◌++◌, ◌∷◌, refl, ◌≡◌, ap, ◌∙◌, and_parts, and_from, false≢true, option_or, Text, line_feed, space}
+use Rattle.yaml_base.proofs.Common.{◌&&◌, ◌||◌, List, [], ◌++◌, ◌∷◌, refl, ◌≡◌, ap, ◌∙◌, and_parts, and_from, false≢true, option_or, Text, line_feed}
 use Rattle.yaml_base.proofs.Common.{is_blank, ScalarStyle, is_read_break, is_read_white, begins_with_spaces, begins_with_blank_line, begins_with_deep_line}
 use Rattle.yaml_base.proofs.Common.{has_deep_lines, ends_white, is_tidy, Line, prepend_to_first_line, prepend_character, lines_of, ends_indicator, key_ends}
 use Rattle.yaml_base.proofs.{Common.key_from, Common.prepend_to_trimmed, Common.trimmed, Common.Rules, Common.word_after, stream_flow.StreamPropertyWords.lead}
@@ -25,9 +26,7 @@ blank_more breaks12 (c ∷ t) = ap (λ x. is_read_break breaks12 c || (is_blank 
 spaces_more : (n : ℕ) (t : Text) → begins_with_spaces n t ≡ true → begins_with_spaces n (t ++ feed) ≡ true
 spaces_more zero t h = refl
 spaces_more (suc n) [] h = absurd (false≢true h)
-spaces_more (suc n) (c ∷ t) h =
-    let parts = and_parts (c == space) (begins_with_spaces n t) h in
-    and_from (c == space) (begins_with_spaces n (t ++ feed)) parts.0 (spaces_more n t parts.1)
+spaces_more (suc n) (c ∷ t) h = grind (arith, and_parts, and_from, or_parts, or_from, spaces_more n t)
 
 -- a deep line stays deep
 deep_line_more : (breaks12 : Bool) (n : ℕ) (t : Text) → begins_with_deep_line breaks12 n t ≡ true → begins_with_deep_line breaks12 n (t ++ feed) ≡ true

@@ -1,4 +1,5 @@
 -- The anchor and the tag before a node, as they are written, are read as they were given, and spaces of their length stay.
+use Rattle.yaml_base.proofs.Common.{and_from, or_from}
 use Rattle.yaml_base.proofs.Common.{nat_tests, suc, zero, ℕ, ◌+◌, ◌==◌, option_and_then, Option, None, Some, length, Bool, false, not, true, ◌&&◌, ◌||◌, List}
 use Rattle.yaml_base.proofs.Common.{[], ◌++◌, ◌∷◌, refl, ◌≡◌, eqb-true, length-append, append-nil, append_assoc, ap, sym, ◌∙◌, arith, and_parts, or_parts}
 use Rattle.yaml_base.proofs.Common.{false≢true, list_all, list_any, Text, space, is_alpha, is_blank, is_break, TagDirective, ParsedTag, CutText, parse_tag}
@@ -76,9 +77,7 @@ name_letters name h = grind (arith, nat_tests, none_not_some)
 -- if nothing is white no character is a space
 pub no_white_no_space : (text : Text) → holds_white text ≡ false → has_no_space text ≡ true
 no_white_no_space [] h = refl
-no_white_no_space (c ∷ text) h =
-    let parts = or_parts _ _ h in
-    ap (λ x. not x && has_no_space text) (or_parts _ _ (or_parts _ _ parts.0).0).0 ∙ no_white_no_space text parts.1
+no_white_no_space (c ∷ text) h = grind (arith, and_parts, and_from, or_parts, or_from, no_white_no_space text)
 
 -- Spaces
 

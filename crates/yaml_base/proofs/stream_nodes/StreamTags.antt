@@ -1,7 +1,7 @@
 -- A tag as it is written in a stream is read as the tag.
 use Rattle.yaml_base.proofs.Common.{ℕ, ◌==◌, None, codes, Bool, false, not, true, ◌||◌, List, [], ◌++◌, ◌∷◌, refl, ◌≡◌, inl, inr, ap, sym, ◌∙◌, arith}
 use Rattle.yaml_base.proofs.Common.{and_parts, and_from, or_parts, or_from, not-true, nat_tests, list_any-append, list_all, list_any, all_scalars, Text}
-use Rattle.yaml_base.proofs.Common.{is_among, is_alpha, TagDirective, is_tag_character, character_written, percent_escaped, suffix_escaped, exclamation_mark}
+use Rattle.yaml_base.proofs.Common.{is_among, is_alpha, TagDirective, percent_escaped, suffix_escaped, exclamation_mark}
 use Rattle.yaml_base.proofs.Common.{directives_fault, directives_in_force, Spelling, verbatim, spelling, spelled, read_tag, is_uri_character, name_parsed}
 use Rattle.yaml_base.proofs.PercentLaws.{stands_written, escaped_stands, suffix_stands, character_is_no_flow_indicator, portable_suffix_has_no_flow_indicator}
 use Rattle.yaml_base.{proofs.Common.cut_after_exclamation, proofs.Common.parse_tag, proofs.TagWords.written_tag_ends_no_word}
@@ -31,19 +31,12 @@ suffix_has_no_flow_indicator false text h = by text (not-true (list_any is_flow_
   where
     by : (text : Text) → list_any is_flow_indicator text ≡ false → list_any is_flow_indicator (suffix_escaped false text) ≡ false
     by [] h = refl
-    by (c ∷ text) h =
-        let parts = or_parts (is_flow_indicator c) (list_any is_flow_indicator text) h in
-        list_any-append is_flow_indicator (character_written (is_tag_character c) c) (suffix_escaped false text)
-        ∙ or_from (list_any is_flow_indicator (character_written (is_tag_character c) c)) (list_any is_flow_indicator (suffix_escaped false text))
-        (character_is_no_flow_indicator (is_tag_character c) c (λ k. parts.0)) (by text parts.1)
+    by (c ∷ text) h = grind (arith, and_parts, and_from, or_parts, or_from, list_any-append, character_is_no_flow_indicator, by text)
 
 -- a text in a URI without such an indicator may come after a handle
 suffix_text : (text : Text) → list_all is_uri_character text ≡ true → list_any is_flow_indicator text ≡ false → list_all may_follow_handle text ≡ true
 suffix_text [] h k = refl
-suffix_text (c ∷ text) h k =
-    let parts = and_parts _ _ h in
-    let none = or_parts _ _ k in
-    and_from _ _ (and_from _ _ parts.0 (ap not none.0)) (suffix_text text parts.1 none.1)
+suffix_text (c ∷ text) h k = grind (arith, and_parts, and_from, or_parts, or_from, suffix_text text)
 
 -- a character that is written after a handle may come there
 pub suffix_reads : (portable : Bool) (text : Text) → (portable || not (list_any is_flow_indicator text)) ≡ true
