@@ -35,9 +35,7 @@ empty_writes brackets column from = grind (arith, and-false, append_assoc, appen
 closing_writes : (brackets : Brackets) (column : Option ℕ) (at open_ended : ℕ)
     → Writes (codes "," ++ (line_at (line_column column) ++ brackets.closing)) open_ended
     (one_piece (end_piece s brackets true false column (standing_at at open_ended)))
-closing_writes brackets column at open_ended =
-    let lead = (end_piece s brackets true false column (standing_at at open_ended)).piece.lead in
-    record { is = append-nil (lead ++ []) ∙ append-nil lead; column = _; stands = refl }
+closing_writes brackets column at open_ended = grind (arith, nat_tests, append-nil)
 
 -- properties, and then the pieces of a collection's entries and its end
 collection_writes : (brackets : Brackets) (start : Collection) (place : Place) (undented empty : Bool)
@@ -78,9 +76,7 @@ item_first bracket column cursor text =
 key_first : (column : ℕ) (cursor : Cursor) (text : Text)
     → led (render_then (render_then (opening_or_comma (codes "{") true cursor) (flow_break s (Some column))) (key_indicator false false)) text
     ≡ space_if true cursor ++ (codes "{" ++ (line_at column ++ (codes "? " ++ text)))
-key_first column cursor text =
-    ap (λ r. led (render_then (render_then r (flow_break s (Some column))) (key_indicator false false)) text) (opening_is (codes "{") cursor)
-    ∙ simp append_assoc
+key_first column cursor text = grind (arith, nat_tests, opening_is, append_assoc)
 
 -- after a node
 item_next : (column at open_ended : ℕ) (text : Text)

@@ -1,6 +1,6 @@
 -- Of the events of a graph none is refused but for an empty tag or too great a depth.
-use Rattle.yaml_base.proofs.Common.{suc, zero, ℕ, ◌%◌, ◌+◌, ◌-◌, ◌/◌, ◌<◌, if◌then◌else◌, ◌==◌, is_none, unwrap_or, option_map, option_and_then, Option, None}
-use Rattle.yaml_base.proofs.Common.{Some, length, replicate, Bool, cond, false, true, ◌&&◌, ◌||◌, List, [], ◌++◌, ◌∷◌, ◌⊎◌, refl, ◌≡◌, eq-eqb, append_assoc}
+use Rattle.yaml_base.proofs.Common.{suc, zero, ℕ, ◌+◌, ◌/◌, ◌<◌, if◌then◌else◌, ◌==◌, is_none, unwrap_or, option_map, option_and_then, Option, None}
+use Rattle.yaml_base.proofs.Common.{Some, length, replicate, Bool, false, true, ◌||◌, List, [], ◌++◌, ◌∷◌, ◌⊎◌, refl, ◌≡◌, eq-eqb, append_assoc}
 use Rattle.yaml_base.proofs.Common.{inl, inr, ap, subst, sym, ◌∙◌, arith, or-true, nat_tests, list_all-append, digit_glyph, digits_onto, filter_map, list_all}
 use Rattle.yaml_base.proofs.Common.{position, option_or, Text, is_alpha, DocumentStart, Event, stream_start, stream_end, document_start, document_end, alias}
 use Rattle.yaml_base.proofs.Common.{sequence_end, mapping_end, Stream, stream_events, Partial, after_stream, partial_of, some_if, name_or_tag_fault}
@@ -58,14 +58,7 @@ digit_alpha digit small = grind (arith, nat_tests, small)
 
 digits_alpha : (room number : ℕ) (rest : List ℕ) → list_all is_alpha rest ≡ true → list_all is_alpha (digits_onto room 10 false number rest) ≡ true
 digits_alpha zero number rest all = all
-digits_alpha (suc room) number rest all =
-    let glyph = digit_glyph false (number % 10) in
-    let now : list_all is_alpha (glyph ∷ rest) ≡ true =
-    ap (λ (b : Bool). b && list_all is_alpha rest) (digit_alpha (number % 10) (omega arith)) ∙ all in
-    (elim (number / 10 == 0) as (λ one. list_all is_alpha (cond one (glyph ∷ rest) (digits_onto room 10 false (number / 10) (glyph ∷ rest))) ≡ true) [
-      | true ↦ now
-      | false ↦ digits_alpha room (number / 10) (glyph ∷ rest) now
-    ])
+digits_alpha (suc room) number rest all = grind (arith, nat_tests, digit_alpha, digits_alpha room (number / 10))
 
 zeros_alpha : (count : ℕ) → list_all is_alpha (replicate count 0x30) ≡ true
 zeros_alpha zero = refl
@@ -73,10 +66,7 @@ zeros_alpha (suc count) = zeros_alpha count
 
 name_alpha : (number : ℕ) → list_all is_alpha (numbered_name number) ≡ true
 unfolding decimal_digits
-name_alpha number =
-    list_all-append is_alpha (replicate (3 - length (decimal_digits number)) 0x30) (decimal_digits number)
-    ∙ ap (λ (b : Bool). b && list_all is_alpha (decimal_digits number)) (zeros_alpha (3 - length (decimal_digits number)))
-    ∙ digits_alpha (suc number) number [] refl
+name_alpha number = grind (arith, nat_tests, list_all-append, zeros_alpha, digits_alpha)
 
 no_name_fault : (if_empty if_other : yaml_error_t) (number : ℕ) → name_fault if_empty if_other (numbered_name number) ≡ None
 no_name_fault if_empty if_other number =

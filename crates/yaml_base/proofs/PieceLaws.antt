@@ -1,8 +1,8 @@
 -- One piece for each event; and written pieces are final: every continuation begins with them.
-use Rattle.yaml_base.proofs.Common.{arith, suc, unwrap_or, option_map, option_and_then, Option, Some, length, take, Bool, false, true, ◌&&◌, List, [], ◌++◌}
+use Rattle.yaml_base.proofs.Common.{arith, unwrap_or, option_map, option_and_then, Option, Some, length, take, Bool, false, true, ◌&&◌, List, [], ◌++◌}
 use Rattle.yaml_base.proofs.Common.{◌∷◌, refl, ◌≡◌, ap, sym, ◌∙◌, Event, Stream, stream_events, Partial, after_stream, push, pushed, partial_of, finish_stream}
 use Rattle.yaml_base.proofs.Common.{first_standing, layout, Standing, missing, completion, list_layout, first_ends_collection, last_closes_at_once}
-use Rattle.yaml_base.proofs.Common.{begins_collection, ends_collection, Effective, Stage, at_stream, step, ends_next, Steps, then_steps, steps, nat_tests}
+use Rattle.yaml_base.proofs.Common.{begins_collection, Effective, Stage, at_stream, step, ends_next, Steps, then_steps, steps, nat_tests}
 use Rattle.std.proofs.lemmas.List.{length-take-le, take_at}
 use Rattle.yaml_base.{proofs.Pushes.partial_of_events, proofs.StepLaws.stream_steps, proofs.Trees.stream_pushed, specs.Layout.OnePieceEach}
 use Rattle.yaml_base.{specs.Pieces.last_begins_collection, specs.Pieces.PiecesStand, specs.Steps.joined_steps}
@@ -12,9 +12,7 @@ use Rattle.yaml_base.proofs.Completions.{completion_pushed, prefix_is_partial}
 pub steps_count : (events : List Event) (s : Effective) (follows : Bool) (stage : Stage) (standing : Standing)
     → length (steps s follows events stage standing).pieces ≡ length events
 steps_count [] s follows stage standing = refl
-steps_count (event ∷ rest) s follows stage standing =
-    let stepped = step s stage event (ends_next rest follows) standing in
-    ap suc (steps_count rest s follows stepped.stage stepped.rendered.standing)
+steps_count (event ∷ rest) s follows stage standing = grind (arith, nat_tests, steps_count rest s follows)
 
 pub one_piece_each : OnePieceEach
 one_piece_each s t =
@@ -24,9 +22,7 @@ one_piece_each s t =
 pub steps-append : (a b : List Event) (s : Effective) (follows : Bool) (stage : Stage) (standing : Standing)
     → steps s follows (a ++ b) stage standing ≡ joined_steps (steps s (ends_next b follows) a stage standing) (steps s follows b)
 steps-append [] b s follows stage standing = refl
-steps-append (event ∷ a) b s follows stage standing =
-    let stepped = step s stage event (ends_next a (ends_next b follows)) standing in
-    grind (arith, nat_tests, steps-append a b s follows stepped.stage stepped.rendered.standing)
+steps-append (event ∷ a) b s follows stage standing = grind (arith, nat_tests, steps-append a b s follows)
 
 -- The next event matters to a collection's start alone.
 pub step_same : (event : Event) (stage : Stage) (s : Effective) (f g : Bool) (standing : Standing) → begins_collection event ≡ false
@@ -38,10 +34,7 @@ pub steps_same : (events : List Event) (s : Effective) (f g : Bool) (stage : Sta
 steps_same [] s f g stage standing other = refl
 steps_same (event ∷ []) s f g stage standing other =
     ap (λ stepped. then_steps stepped (steps s f [])) (step_same event stage s f g standing other)
-steps_same (event ∷ next ∷ rest) s f g stage standing other =
-    let stepped = step s stage event (ends_collection next) standing in
-    ap (λ (after : Steps). let made : Steps = record { pieces = stepped.rendered.piece ∷ after.pieces; standing = after.standing; stage = after.stage } in made)
-    (steps_same (next ∷ rest) s f g stepped.stage stepped.rendered.standing other)
+steps_same (event ∷ next ∷ rest) s f g stage standing other = grind (arith, nat_tests, steps_same (next ∷ rest) s f g)
 
 ends_next-first : (rest : List Event) → ends_next rest false ≡ first_ends_collection rest
 ends_next-first rest = grind (arith, nat_tests)

@@ -22,5 +22,4 @@ pub still_plain : (double_quotes : Bool) (allowed : Allowances) (asked : ScalarS
     → is_plain (chosen allowed asked empty tag_written plain_implicit quoted_implicit flow simple_key canonical).style ≡ true
     → is_plain (chosen (allowed_by_quotes double_quotes allowed) asked empty tag_written plain_implicit quoted_implicit flow simple_key canonical).style ≡ true
 still_plain double_quotes allowed asked empty tag_written plain_implicit quoted_implicit flow simple_key canonical is =
-    ap is_plain
-    (plain_under double_quotes allowed asked empty tag_written plain_implicit quoted_implicit flow simple_key canonical (is_plain_style _ is))
+    grind (arith, nat_tests, plain_under, is_plain_style)

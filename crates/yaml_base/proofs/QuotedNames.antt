@@ -1,19 +1,17 @@
 -- A name in a message: both ends of a long one, and all of another.
-use Rattle.std.proofs.Common.{◌≡◌, ◌≤◌, ◌+◌, ℕ, Bool, true, false, IfSome, List, Option, None, Some, length, sym, subst, ap, ◌∙◌, codes, refl, if◌then◌else◌}
-use Rattle.std.proofs.lemmas.Bool.{lt-ltb, le-ltb}
+use Rattle.yaml_base.proofs.Common.{arith, nat_tests}
+use Rattle.std.proofs.Common.{◌≡◌, ◌≤◌, ◌+◌, ℕ, Bool, true, false, IfSome, List, Option, None, Some, length, subst, codes, refl, if◌then◌else◌}
 use Rattle.std.specs.Char.{is_ascii}
 use Rattle.std.specs.Fmt.{◌++?◌, debug_str}
 use Rattle.std.specs.List.{list_all}
-use Rattle.yaml_base.specs.Quoting.{AreHalvesOf, first_half, half, last_half, quoted_ascii, quoted_text}
+use Rattle.yaml_base.specs.Quoting.{AreHalvesOf, half, quoted_ascii, quoted_text}
 
 -- the text of two ends
 abbrev pub both : (first last : List ℕ) → Option (List ℕ)
 both first last = debug_str first ++? Some (codes "..") ++? debug_str last
 
 long_ascii : (name first last : List ℕ) → AreHalvesOf name first last → both first last ≡ quoted_ascii name
-long_ascii name first last halves =
-    ap (λ text. both text last) halves.begins ∙ ap (λ text. both (first_half name) text) halves.ends
-    ∙ sym (ap (λ long. if long then both (first_half name) (last_half name) else debug_str name) (lt-ltb (half + half) (length name) halves.long))
+long_ascii name first last halves = grind (arith, nat_tests)
 
 -- what is shown is the text of the name
 shown : (P : List ℕ → Type 0) (name : List ℕ) (ascii : Bool) (text : Option (List ℕ)) → list_all is_ascii name ≡ ascii
@@ -28,6 +26,4 @@ shows_halves P name first last halves shows =
 
 pub shows_name : (P : List ℕ → Type 0) (name : List ℕ) → (list_all is_ascii name ≡ true → length name ≤ half + half)
     → IfSome (debug_str name) P → IfSome (quoted_text name) P
-shows_name P name short shows =
-    shown P name (list_all is_ascii name) (debug_str name) refl
-    (λ ascii. sym (ap (λ long. if long then both (first_half name) (last_half name) else debug_str name) (le-ltb (half + half) (length name) (short ascii)))) shows
+shows_name P name short shows = grind (arith, nat_tests, shown)

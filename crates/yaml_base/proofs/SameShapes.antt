@@ -1,4 +1,5 @@
 -- Graphs that one shape unfolds are isomorphic.
+use Rattle.yaml_base.proofs.Common.{nat_tests}
 use Rattle.yaml_base.proofs.Common.{ℕ, ◌==◌, count_by, Option, Some, Bool, cond, false, true, List, [], map, ◌++◌, ◌∷◌, refl, ◌≡◌, eq-eqb, eqb-true}
 use Rattle.yaml_base.proofs.Common.{append_assoc, inl, inr, ap, subst, sym, ◌∙◌, arith, map-append, bytes_eq-Decides, Text, label_at, Isomorphic, Graph}
 use Rattle.yaml_base.proofs.Common.{children, Shape, number_at, numbers_at, Occurrence, alias_occurrence, node_occurrence, occurrences, has_anchor}
@@ -60,8 +61,7 @@ named_at : (all before rest : List Occurrence) (name : Text) (number : ℕ) → 
 named_at all before [] name number named within = absurd within
 named_at all before (first ∷ rest) name number named (inl is) = grind (arith, in_left, contained_in)
 named_at all before (first ∷ rest) name number named (inr later) =
-    let found = named_at all (before ++ first ∷ []) rest name number named.1 later in
-    (found.0, subst (λ xs. IsIn (node_occurrence (Some name) number) xs) (append_assoc before (first ∷ []) rest) found.1)
+    grind (arith, nat_tests, append_assoc, named_at all (before ++ first ∷ []) rest name number named.1 later)
 
 of_first : (all : List Pair) (anchor : Option Text) (number : ℕ) → IsIn (node_occurrence anchor number) (map first_of all)
     → (other : ℕ) × IsIn (node_pair anchor number other) all

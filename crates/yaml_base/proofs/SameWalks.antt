@@ -117,9 +117,7 @@ last_parts : (xs ys : List ℕ) (x y : ℕ) → xs ++ x ∷ [] ≡ ys ++ y ∷ [
 last_parts [] [] x y same = (refl, let both : x ≡ y = cc in both)
 last_parts [] (b ∷ ys) x y same = absurd (omega (arith, ap length same, length-append ys (y ∷ [])))
 last_parts (a ∷ xs) [] x y same = absurd (omega (arith, ap length same, length-append xs (x ∷ [])))
-last_parts (a ∷ xs) (b ∷ ys) x y same =
-    let rest : xs ++ x ∷ [] ≡ ys ++ y ∷ [] = cc in
-    grind (arith, last_parts xs ys x y rest)
+last_parts (a ∷ xs) (b ∷ ys) x y same = grind (arith, nat_tests, last_parts xs ys x y)
 
 mutual
   mirrored : (first second : Graph) (iso : Isomorphic first second) (named also : ℕ → Option Text) (one two : Placed) (before after later : List Step)
@@ -274,9 +272,7 @@ place_alike : (first second : Graph) (iso : Isomorphic first second) (number : �
     → position_or_len (λ other. other == iso.partner number) (map iso.partner xs) ≡ position_or_len (λ other. other == number) xs
 place_alike first second iso number [] reached all = refl
 place_alike first second iso number (x ∷ xs) reached all =
-    ap (λ (b : Bool). cond (not b) (1 + position_or_len (λ other. other == iso.partner number) (map iso.partner xs)) 0)
-    (same_test first _ iso x _ (all x (inl refl)) reached)
-    ∙ ap (λ (n : ℕ). cond (not (x == number)) (1 + n) 0) (place_alike first second iso number xs reached (λ other within. all other (inr within)))
+    grind (arith, nat_tests, same_test, place_alike first second iso number xs reached (λ other within. all other (inr within)))
 
 position_alike : (first second : Graph) (iso : Isomorphic first second) (number : ℕ) (xs : List ℕ) → IsReached first number → NumbersReached first xs
     → position (λ other. other == iso.partner number) (map iso.partner xs) ≡ position (λ other. other == number) xs

@@ -1,5 +1,5 @@
 -- The numbers of a list, each at its first place; the names of shared nodes, and that they differ.
-use Rattle.yaml_base.proofs.Common.{suc, zero, ℕ, ◌%◌, ◌*◌, ◌+◌, ◌-◌, ◌/◌, ◌<◌, ◌==◌, option_map, Option, None, Some, nat_lt, length, replicate}
+use Rattle.yaml_base.proofs.Common.{suc, zero, ℕ, ◌+◌, ◌/◌, ◌<◌, ◌==◌, option_map, Option, None, Some, nat_lt, length, replicate}
 use Rattle.yaml_base.proofs.Common.{slice_index_or as get_or, Bool, cond, false, not, true, ◌||◌, List, [], ◌++◌, ◌∷◌, refl, ◌≡◌, eqb-true, ap, sym, ◌∙◌}
 use Rattle.yaml_base.proofs.Common.{arith, nat_tests, digit_value, digit_glyph, digits_onto, filter, filter_map, list_any, position, position_or_len, Text}
 use Rattle.yaml_base.proofs.Common.{Step, node_met_again, first_of_each, shared_nodes, numbered_name, anchor_of}
@@ -48,20 +48,7 @@ value_of_digit digit small = grind (arith, digit_value_digit)
 digits_value : (room number : ℕ) (rest : List ℕ) → number < room
     → digits_value_after 10 0 (digits_onto room 10 false number rest) ≡ digits_value_after 10 number rest
 digits_value zero number rest small = absurd (omega (arith, small))
-digits_value (suc room) number rest small =
-    let last = value_of_digit (number % 10) (omega arith) in
-    let glyph = digit_glyph false (number % 10) in
-    (elim (number / 10 == 0) as (λ one. (number / 10 == 0) ≡ one
-    → digits_value_after 10 0 (cond one (glyph ∷ rest) (digits_onto room 10 false (number / 10) (glyph ∷ rest))) ≡ digits_value_after 10 number rest) [
-      | true ↦ λ is.
-          let none = eqb-true (number / 10) 0 is in
-          let same : 0 * 10 + digit_value glyph ≡ number = omega (arith, last, none) in
-          ap (λ (n : ℕ). digits_value_after 10 n rest) same
-      | false ↦ λ is.
-          let less : number / 10 < room = grind (arith, nat_tests, small, is) in
-          let same : (number / 10) * 10 + digit_value glyph ≡ number = omega (arith, last) in
-          digits_value room (number / 10) (glyph ∷ rest) less ∙ ap (λ (n : ℕ). digits_value_after 10 n rest) same
-    ]) refl
+digits_value (suc room) number rest small = grind (arith, nat_tests, value_of_digit, eqb-true, digits_value room (number / 10))
 
 -- leading zeros don't count
 zeros_value : (count : ℕ) (digits : List ℕ) → digits_value_after 10 0 (replicate count 0x30 ++ digits) ≡ digits_value_after 10 0 digits
@@ -76,9 +63,7 @@ behind_two (a ∷ b ∷ rest) = rest
 
 name_value : (number : ℕ) → digits_value_after 10 0 (behind_two (numbered_name number)) ≡ number
 unfolding behind_two decimal_digits
-name_value number =
-    zeros_value (3 - length (digits_onto (suc number) 10 false number [])) (digits_onto (suc number) 10 false number [])
-    ∙ digits_value (suc number) number [] (omega arith)
+name_value number = grind (arith, nat_tests, zeros_value, digits_value)
 
 -- different numbers have different names
 pub names_differ : (number other : ℕ) → numbered_name number ≡ numbered_name other → number ≡ other

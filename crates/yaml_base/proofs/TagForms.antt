@@ -2,11 +2,11 @@
 use Rattle.yaml_base.proofs.Common.{and_from, or_from}
 use Rattle.yaml_base.proofs.Common.{nat_tests, arith, ℕ, ◌==◌, option_map, bytes_eq, Option, None, Some, codes, Bool, cond, false, not, true, List, [], ◌++◌}
 use Rattle.yaml_base.proofs.Common.{◌∷◌, ◌⊎◌, refl, ◌≡◌, eqb-true, append_assoc, inr, ap, sym, ◌∙◌, and_parts, or_parts, not-false, bytes_eq-Decides, list_all}
-use Rattle.yaml_base.proofs.Common.{scalars, Text, is_alpha, TagDirective, exclamation_mark, handle_fault, gives_handle, next_directive_fault}
+use Rattle.yaml_base.proofs.Common.{scalars, Text, is_alpha, TagDirective, exclamation_mark, handle_fault, gives_handle}
 use Rattle.yaml_base.proofs.Common.{directives_fault_after, directives_fault, directives_in_force, Spelling, shorthand, verbatim, spelling, prefix_among}
 use Rattle.yaml_base.proofs.Common.{directives_assumed, without_closing_angle}
 use lib.Utf8.{scalar}
-use Rattle.yaml_base.{proofs.NoFaults.neither, proofs.NoFaults.not_given, specs.declared.errors.yaml_error_t.yaml_error_t}
+use Rattle.yaml_base.{proofs.NoFaults.neither, specs.declared.errors.yaml_error_t.yaml_error_t}
 use Rattle.yaml_base.specs.Tags.{last_from, without_last, behind, spelling_by}
 use Rattle.yaml_base.specs.declared.errors.yaml_error_t.TheVariants.{TagHandleAlphabet, TagHandleEnd, TagHandleStart}
 
@@ -68,9 +68,7 @@ pub behind-whole : (prefix text suffix : Text) → behind prefix text ≡ Some s
 behind-whole [] [] suffix e = cc
 behind-whole [] (c ∷ text) suffix e = cc
 behind-whole (p ∷ prefix) [] suffix e = cc
-behind-whole (p ∷ prefix) (c ∷ text) suffix e =
-    let step = behind_step (p == c) p c prefix text suffix refl e in
-    ap (λ x. p ∷ x) (behind-whole prefix text suffix step.1) ∙ ap (λ x. x ∷ text) step.0
+behind-whole (p ∷ prefix) (c ∷ text) suffix e = grind (arith, nat_tests, behind_step, behind-whole prefix text suffix)
 
 -- and it is at least one character
 pub behind_begins : (prefix text : Text) → behind prefix text ≡ Some [] → ⊥
@@ -137,9 +135,7 @@ found_after before directive more h =
 all_found : (own before rest : List TagDirective) → own ≡ before ++ rest → directives_fault_after before rest ≡ None → AreFound own rest
 all_found own before [] e h = tt
 all_found own before (directive ∷ rest) e h =
-    let both = neither (next_directive_fault before directive) (directives_fault_after (before ++ directive ∷ []) rest) h in
-    let each = all_found own (before ++ directive ∷ []) rest (e ∙ sym (append_assoc before (directive ∷ []) rest)) both.1 in
-    grind (arith, neither, append_assoc, found_after, not_given, each)
+    grind (arith, nat_tests, neither, append_assoc, found_after, all_found own (before ++ directive ∷ []) rest (e ∙ sym (append_assoc before (directive ∷ []) rest)))
 
 abbrev primary : TagDirective
 primary = record { handle = codes "!"; prefix = codes "!" }

@@ -87,10 +87,7 @@ no_more before after now h = grind (arith, nat_tests)
 unentered_grown : (count : ℕ) (walk more : List Step) → unentered count (walk ++ more) ≤ unentered count walk
 unfolding unentered
 unentered_grown zero walk more = omega arith
-unentered_grown (suc count) walk more =
-    let one = no_more (list_any (is_entry_of (suc count)) walk) (list_any (is_entry_of (suc count)) more) (list_any (is_entry_of (suc count)) (walk ++ more))
-    (list_any-append (is_entry_of (suc count)) walk more) in
-    omega (arith, unentered_grown count walk more, one)
+unentered_grown (suc count) walk more = grind (arith, nat_tests, no_more, list_any-append, unentered_grown count walk more)
 
 now_entered : (walk : List Step) (number : ℕ) → list_any (is_entry_of number) walk ≡ false
     → suc (cond (list_any (is_entry_of number) (walk ++ enters number ∷ [])) 0 1) ≤ cond (list_any (is_entry_of number) walk) 0 1

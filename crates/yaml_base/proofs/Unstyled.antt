@@ -80,9 +80,7 @@ next_ends (event ∷ events) follows = still_ends event
 steps_unstyled : (events : List Event) (s : Effective) → s.canonical ≡ true → (follows : Bool) (stage : Stage) (standing : Standing)
     → steps s follows (map unstyled events) stage standing ≡ steps s follows events stage standing
 steps_unstyled [] s on follows stage standing = refl
-steps_unstyled (event ∷ rest) s on follows stage standing =
-    let stepped = step s stage event (ends_next rest follows) standing in
-    grind (arith, next_ends, step_unstyled, steps_unstyled rest s on follows stepped.stage stepped.rendered.standing)
+steps_unstyled (event ∷ rest) s on follows stage standing = grind (arith, nat_tests, next_ends, step_unstyled, steps_unstyled rest s on follows)
 
 -- streams that differ in styles alone
 pub layouts_same : (s : Effective) → s.canonical ≡ true → (one two : Stream) → map unstyled (stream_events one) ≡ map unstyled (stream_events two)

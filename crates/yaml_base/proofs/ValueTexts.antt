@@ -1,4 +1,5 @@
 -- The canonical text of a value is that of its tree, and its bytes are the encoding of that text.
+use Rattle.yaml_base.proofs.Common.{arith, nat_tests}
 use Rattle.yaml_base.specs.values.TypedValues.{TypedValue, null_value, bool_value, int_value, text_value, list_value, map_value, TypedValues, no_values}
 use Rattle.yaml_base.{proofs.DumpedOutputs.tree_output, specs.Characters.line_feed, specs.Settings.largest_usize}
 use Rattle.yaml_base.proofs.Common.{ℕ, ◌+◌, true, None, Some, ◌∷◌, [], ◌++◌, refl, ◌≡◌, ap, sym, ◌∙◌, append_assoc, codes, Text, encode, cut, utf8}
@@ -25,16 +26,12 @@ PairsAre column (value_pairs_and pairs key value) =
 list_is : (items : TypedValues) (column : ℕ) → ItemsAre (column + 2) items
     → value_text column (list_value items) ≡ node_text column (value_node (list_value items))
 list_is no_values column are = refl
-list_is (values_and items item) column are =
-    ap (λ t. codes "!!seq" ++ (t ++ (codes "," ++ (line_at column ++ codes "]")))) are
-    ∙ simp append_assoc
+list_is (values_and items item) column are = grind (arith, nat_tests, append_assoc)
 
 map_is : (pairs : TypedPairs) (column : ℕ) → PairsAre (column + 2) pairs
     → value_text column (map_value pairs) ≡ node_text column (value_node (map_value pairs))
 map_is no_value_pairs column are = refl
-map_is (value_pairs_and pairs key value) column are =
-    ap (λ t. codes "!!map" ++ (t ++ (codes "," ++ (line_at column ++ codes "}")))) are
-    ∙ simp append_assoc
+map_is (value_pairs_and pairs key value) column are = grind (arith, nat_tests, append_assoc)
 
 mutual
   value_is : (value : TypedValue) (column : ℕ) → value_text column value ≡ node_text column (value_node value)

@@ -1,4 +1,5 @@
 -- Facts about each document of a stream, in order.
+use Rattle.yaml_base.proofs.Common.{arith, nat_tests}
 use Rattle.yaml_base.proofs.Common.{Bool, true, List, [], ◌++◌, ◌∷◌, ◌≡◌, sym, ◌∙◌, and_parts, list_all-append, list_all, Event, Document, Documents}
 use Rattle.yaml_base.proofs.Common.{no_documents, documents_and, document_events, documents_events, documents_in_order}
 
@@ -21,9 +22,7 @@ all_of_both test some others h = and_parts (list_all test some) (list_all test o
 pub each_document : (P : Document → Type 0) (test : Event → Bool) → ((document : Document) → list_all test (document_events document) ≡ true → P document)
     → (documents : Documents) → list_all test (documents_events documents) ≡ true → AllDocuments P (documents_in_order documents)
 each_document P test tells no_documents h = tt
-each_document P test tells (documents_and before document) h =
-    let parts = all_of_both test (documents_events before) (document_events document) h in
-    documents_both P (documents_in_order before) (document ∷ []) (each_document P test tells before parts.0) (tells document parts.1, tt)
+each_document P test tells (documents_and before document) h = grind (arith, nat_tests, all_of_both, documents_both, each_document P test tells before)
 
 -- a fact about each that follows from another one
 pub documents_given : (P Q : Document → Type 0) (documents : List Document) → AllDocuments (λ document. P document → Q document) documents

@@ -1,7 +1,8 @@
 -- A text that begins with `#` has no documents. So nothing is dropped of a text that has some.
-use Rattle.yaml_base.proofs.Common.{ℕ, suc, ◌==◌, ◌&&◌, if◌then◌else◌, nat_le, length, fold, is_some, option_and_then, option_map, option_or, Option, None}
+use Rattle.yaml_base.proofs.Common.{arith, nat_tests}
+use Rattle.yaml_base.proofs.Common.{ℕ, suc, ◌==◌, if◌then◌else◌, nat_le, length, fold, is_some, option_and_then, option_map, option_or, Option, None}
 use Rattle.yaml_base.proofs.Common.{Some, Bool, false, true, List, [], ◌++◌, ◌∷◌, refl, ◌≡◌, ap, eqb-true, sym, ◌∙◌, Text, documents_of}
-use Rattle.yaml_base.proofs.Common.{documents_at_end, Line, lines_of, Section, sections_of, sections_read, DocumentTree, Rules, Tree, ends_indicator, marker_of}
+use Rattle.yaml_base.proofs.Common.{documents_at_end, Line, lines_of, Section, sections_of, sections_read, DocumentTree, Rules, Tree, marker_of}
 use Rattle.std.proofs.lemmas.Option.{none-some}
 use Rattle.yaml_base.specs.Event.{plain}
 use Rattle.yaml_base.specs.reading.{ReadPlain.read_plain, TidyText.is_tidy}
@@ -64,9 +65,7 @@ no_key_ends false rules rest after = refl
 -- nor any simple key
 no_key : (rules : Rules) (before text : Text) → key_from rules (0x23 ∷ before) text ≡ None
 no_key rules before [] = refl
-no_key rules before (c ∷ rest) =
-    ap (λ found. option_or found (key_from rules (0x23 ∷ (before ++ c ∷ [])) rest)) (no_key_ends (c == 0x3A && ends_indicator rest) rules before rest)
-    ∙ no_key rules (before ++ c ∷ []) rest
+no_key rules before (c ∷ rest) = grind (arith, nat_tests, no_key_ends, no_key rules (before ++ c ∷ []) rest)
 
 -- Documents
 

@@ -1,7 +1,8 @@
 -- The lines of a document's directives: each begins with `%`, and they are read as its version and its directives.
+use Rattle.yaml_base.proofs.Common.{nat_tests}
 use Rattle.yaml_base.proofs.Common.{option_and_then, Option, None, Bool, true, List, [], ◌++◌, ◌∷◌, refl, ◌≡◌, int_eq, append-nil, append_assoc, ap, sym}
 use Rattle.yaml_base.proofs.Common.{◌∙◌, arith, list_all, Text, line_feed, Rendered, first_cursor, render_then, Version, TagDirective, DocumentStart}
-use Rattle.yaml_base.proofs.Common.{render_version, render_tag_directives, directive_scalars, Effective, version_fault, next_directive_fault}
+use Rattle.yaml_base.proofs.Common.{render_version, render_tag_directives, directive_scalars, Effective, version_fault}
 use Rattle.yaml_base.proofs.{NoFaults.neither, PercentLaws.prefix_stands, TagForms.handle_form, TagWords.handle_ends_no_word}
 use Rattle.yaml_base.proofs.{stream_documents.StreamSoFar.Percents, stream_nodes.StreamBegun.shown_line}
 use Rattle.yaml_base.proofs.Common.{directives_fault_after, directives_fault, prologue_read, begins_with_percent, Line, lines_of, text_of_lines}
@@ -39,19 +40,7 @@ tags_whole : (breaks12 portable : Bool) (before directives : List TagDirective) 
     → WholeLines breaks12 (tag_lines portable directives)
 tags_whole breaks12 portable before [] sound = tt
 tags_whole breaks12 portable before (directive ∷ rest) sound =
-    let both = neither (next_directive_fault before directive) (directives_fault_after (before ++ directive ∷ []) rest) sound in
-    grind (
-      arith,
-      neither,
-      one_line_both,
-      shown_line,
-      handle_ends_no_word,
-      handle_form,
-      character_line,
-      prefix_no_white,
-      prefix_stands,
-      tags_whole breaks12 portable (before ++ directive ∷ []) rest both.1,
-    )
+    grind (arith, nat_tests, neither, one_line_both, shown_line, handle_ends_no_word, handle_form, character_line, prefix_no_white, prefix_stands, tags_whole breaks12 portable (before ++ directive ∷ []) rest)
 
 version_whole : (breaks12 : Bool) (version : Option Version) → WholeLines breaks12 (version_lines version)
 version_whole breaks12 version = grind (arith, int_eq)

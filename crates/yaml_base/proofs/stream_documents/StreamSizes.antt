@@ -36,9 +36,7 @@ place_puts s in_flow role simple column cursor h = grind (arith, length-append, 
 placed_length : (s : Effective) (place : Place) (simple : Bool) (before : Rendered) (own : Cursor → Rendered) (m n : ℕ) → m ≤ length before.text
     → (let symbols = render_place s place simple before.cursor in n ≤ length symbols.text + length (own symbols.cursor).text)
     → m + n ≤ length (placed_own s place simple before own).text
-placed_length s place simple before own m n h k =
-    let symbols = render_place s place simple before.cursor in
-    omega (arith, length-append before.text (symbols.text ++ (own symbols.cursor).text), length-append symbols.text (own symbols.cursor).text)
+placed_length s place simple before own m n h k = grind (arith, nat_tests, length-append)
 
 -- nor after an indicator
 placed_more : (s : Effective) (in_flow : Bool) (role : Role) (column : ℕ) (simple : Bool) (before : Rendered) (own : Cursor → Rendered) (m n : ℕ)

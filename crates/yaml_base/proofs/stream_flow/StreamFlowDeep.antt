@@ -150,10 +150,7 @@ placed_deep : (s : Effective) (count column : ℕ) (role : Role) (simple : Bool)
     → Deep s.breaks12 count before.text
     → Deep s.breaks12 count (own (render_place s (entry_place true role column) simple before.cursor).cursor).text
     → Deep s.breaks12 count (placed_own s (entry_place true role column) simple before own).text
-placed_deep s count column role simple before own le deep node =
-    let symbols = render_place s (entry_place true role column) simple before.cursor in
-    deep_both s.breaks12 count before.text (symbols.text ++ (own symbols.cursor).text) deep
-    (deep_both s.breaks12 count symbols.text (own symbols.cursor).text (place_deep s count column role simple before.cursor le) node)
+placed_deep s count column role simple before own le deep node = grind (arith, nat_tests, deep_both, place_deep)
 
 module _ (s : Effective) (own directives : List TagDirective) (count : ℕ) where
   -- each node in flow at a column, the items of each sequence and the pairs of each mapping have lines as deep as that column

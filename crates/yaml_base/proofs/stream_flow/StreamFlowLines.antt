@@ -1,11 +1,11 @@
 -- A line that begins with the bracket of a collection in flow, after its properties, holds no simple key, so it begins no mapping
 -- in a block.
-use Rattle.yaml_base.proofs.Common.{nat_tests, arith, ℕ, if◌then◌else◌, ◌==◌, Option, None, Bool, false, true, [], ◌++◌, ◌∷◌, refl, ◌≡◌, append_assoc, ap, ◌∙◌}
+use Rattle.yaml_base.proofs.Common.{nat_tests, arith, ℕ, ◌==◌, Option, None, Bool, false, true, [], ◌++◌, ◌∷◌, refl, ◌≡◌, append_assoc, ap, ◌∙◌}
 use Rattle.yaml_base.proofs.Common.{and_parts, false≢true, Text, plain, read_plain, ParsedTag, begins_with_indicator, begins_text, kind_of_node, Rules}
 use Rattle.yaml_base.proofs.{stream_flow.StreamPropertyWords.lead, stream_nodes.StreamOwnTexts.own_kind}
 use Rattle.yaml_base.proofs.{stream_flow.StreamFlowWords.opens_inside, stream_flow.StreamFlowWords.Given, stream_keys.StreamKeys.none_parsed}
 use Rattle.yaml_base.proofs.{stream_keys.StreamKeyReads.lead_no_text, stream_keys.StreamNoKeys.KeyNowhere, stream_keys.StreamNoKeys.nowhere_alone}
-use Rattle.yaml_base.proofs.Common.{Properties, scalar_of_style, empty_sequence, empty_mapping, a_scalar, word_by_kind, word_after}
+use Rattle.yaml_base.proofs.Common.{Properties, scalar_of_style, word_after}
 
 -- the bracket that begins a sequence, and the one that begins a mapping
 abbrev pub opening : (is_sequence : Bool) → ℕ
@@ -39,14 +39,10 @@ not_closing c h = grind (arith, and_parts, false≢true)
 -- a bracket and a text that keeps it open are no word, whatever properties it has
 no_word : (rules : Rules) (q : Bool) (properties : Properties) (t : Text) → keeps_open t ≡ true → word_after rules false None properties (opening q ∷ t) ≡ None
 no_word rules true properties [] h = no_scalar rules true properties []
-no_word rules true properties (c ∷ []) h =
-    ap (λ x. word_by_kind (if x then empty_sequence else a_scalar) rules false None properties (0x5B ∷ c ∷ [])) (not_closing c h).0
-    ∙ no_scalar rules true properties (c ∷ [])
+no_word rules true properties (c ∷ []) h = grind (arith, nat_tests, not_closing, no_scalar)
 no_word rules true properties (c ∷ d ∷ t) h = no_scalar rules true properties (c ∷ d ∷ t)
 no_word rules false properties [] h = no_scalar rules false properties []
-no_word rules false properties (c ∷ []) h =
-    ap (λ x. word_by_kind (if x then empty_mapping else a_scalar) rules false None properties (0x7B ∷ c ∷ [])) (not_closing c h).1
-    ∙ no_scalar rules false properties (c ∷ [])
+no_word rules false properties (c ∷ []) h = grind (arith, nat_tests, not_closing, no_scalar)
 no_word rules false properties (c ∷ d ∷ t) h = no_scalar rules false properties (c ∷ d ∷ t)
 
 -- No keys
@@ -57,8 +53,7 @@ bracket_nowhere : (rules : Rules) (anchor tag : Option Text) (parsed : Option Pa
     → KeyNowhere rules (lead anchor tag ++ (opening q ∷ b)) t
 bracket_nowhere rules anchor tag parsed q b [] given h = tt
 bracket_nowhere rules anchor tag parsed q b (x ∷ t) given h =
-    let each = bracket_nowhere rules anchor tag parsed q (b ++ (x ∷ [])) t given (ap keeps_open (append_assoc b (x ∷ []) t) ∙ h) in
-    grind (arith, nat_tests, lead_no_text, no_word, keeps_prefix, append_assoc, each)
+    grind (arith, nat_tests, append_assoc, lead_no_text, no_word, keeps_prefix, bracket_nowhere rules anchor tag parsed q (b ++ (x ∷ [])) t given (ap keeps_open (append_assoc b (x ∷ []) t) ∙ h))
 
 -- Kinds
 

@@ -1,4 +1,5 @@
 -- Indicators and white space in flow, which take the reader of flow collections on whatever follows them.
+use Rattle.yaml_base.proofs.Common.{nat_tests}
 use Rattle.yaml_base.proofs.Common.{or_from, or_parts}
 use Rattle.yaml_base.proofs.Common.{arith, suc, zero, ℕ, ◌==◌, Option, codes, replicate, Bool, false, true, ◌||◌, List, [], ◌++◌, ◌∷◌, refl, ◌≡◌, eqb-true}
 use Rattle.yaml_base.proofs.Common.{true≢false, append_assoc, ◌∙◌, and_parts, and_from, false≢true, list_all-append, list_all, Text, line_feed, space, Cursor}
@@ -54,9 +55,7 @@ passes_colon rules levels = passes_indicator rules (within levels (colon_awaited
 -- a `:` after something white
 pub passes_late_colon : (rules : Rules) (levels : List OpenFlow)
     → Passes rules (within levels (colon_awaited (after_white true))) (0x3A ∷ []) (within levels (node_awaited false))
-passes_late_colon rules levels =
-    passes_indicator rules (within levels (colon_awaited (after_white true))) (within levels (node_awaited false))
-    0x3A (class_fixed rules.breaks12 0x3A refl) refl
+passes_late_colon rules levels = grind (arith, nat_tests, passes_indicator, class_fixed)
 
 -- a `?` if a key may come
 pub passes_question : (rules : Rules) (levels : List OpenFlow) (to : FlowReading) → flow_step rules (within levels entry_awaited) (symbol 0x3F) ≡ to

@@ -59,9 +59,7 @@ rest_not_white directives tag parsed tagged =
 -- the space after it ends it
 property_ends : (breaks12 : Bool) (before rest : Text)
     → flow_tokens breaks12 (in_property before) (space ∷ rest) ≡ flow_tokens breaks12 (after_property (before ++ (space ∷ []))) rest
-property_ends breaks12 before rest =
-    ap (λ class. (let here : FlowStep = property_step class before space in here.tokens ++ flow_tokens breaks12 here.place rest))
-    (class_fixed breaks12 space refl)
+property_ends breaks12 before rest = grind (arith, nat_tests, class_fixed)
 
 -- tokens after an anchor and a tag, and the space after them
 pub lead_passes : (breaks12 : Bool) (directives : List TagDirective) (anchor tag : Option Text) (parsed : Option ParsedTag) (rest : Text)

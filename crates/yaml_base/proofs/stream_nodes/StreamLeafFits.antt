@@ -1,4 +1,5 @@
 -- A node's own text that reads on its lines fits at its place in a block.
+use Rattle.yaml_base.proofs.Common.{nat_tests}
 use Rattle.yaml_base.proofs.Common.{or_from, or_parts}
 use Rattle.yaml_base.proofs.Common.{suc, zero, ℕ, ◌+◌, ◌<◌, ◌≤◌, if◌then◌else◌, ◌==◌, Option, None, Some, Bool, false, not, true, ◌&&◌, ◌||◌, List, [], ◌++◌}
 use Rattle.yaml_base.proofs.Common.{◌∷◌, refl, ◌≡◌, ap, ◌∙◌, arith, and_parts, and_from, list_all, Text, space, Cursor, Rendered, Place, is_in_mapping, Tree}
@@ -21,9 +22,7 @@ inside_farther (suc d) (suc c) (x ∷ t) le h = grind (arith, and_parts, and_fro
 
 -- lines deeper than a column are inside each that is farther out
 pub all_farther : (q : Bool) (d c : ℕ) (lines : List Line) → d ≤ c → AllInside true c lines → AllInside q d lines
-all_farther q d c lines le h =
-    all_pass (λ line. belongs_to_entry true c line.text) (λ line. belongs_to_entry q d line.text)
-    (λ line e. inside_mapping q d line.text (inside_farther d c line.text le e)) lines h
+all_farther q d c lines le h = grind (arith, nat_tests, all_pass, inside_mapping, inside_farther)
 
 -- Texts
 

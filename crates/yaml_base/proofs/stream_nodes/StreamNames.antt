@@ -140,9 +140,7 @@ document_is_sound portable canonical document good allowed = grind (arith, and_p
 all_allowed : (portable canonical : Bool) (documents : List Document) → (portable || not (list_any (document_has_flow_indicator canonical) documents)) ≡ true
     → AllDocuments (λ document. (portable || not (document_has_flow_indicator canonical document)) ≡ true) documents
 all_allowed portable canonical [] h = tt
-all_allowed portable canonical (document ∷ rest) h =
-    let parts = open_parts portable (document_has_flow_indicator canonical document) (list_any (document_has_flow_indicator canonical) rest) h in
-    (parts.0, all_allowed portable canonical rest parts.1)
+all_allowed portable canonical (document ∷ rest) h = grind (arith, nat_tests, open_parts, all_allowed portable canonical rest)
 
 -- the facts about a list's documents in portable mode, and if no tag has a flow indicator
 pub accepted_allowed : (portable canonical : Bool) (events : List Event) (stream : Stream) → tree_of events ≡ Some stream

@@ -2,7 +2,7 @@
 use Rattle.yaml_base.proofs.Common.{and_from, or_from}
 use Rattle.yaml_base.proofs.Common.{nat_tests, suc, zero, ℕ, ◌+◌, ◌==◌, option_and_then, Option, None, Some, length, Bool, false, not, true, ◌&&◌, ◌||◌, List}
 use Rattle.yaml_base.proofs.Common.{[], ◌++◌, ◌∷◌, refl, ◌≡◌, eqb-true, length-append, append-nil, append_assoc, ap, sym, ◌∙◌, arith, and_parts, or_parts}
-use Rattle.yaml_base.proofs.Common.{false≢true, list_all, list_any, Text, space, is_alpha, is_blank, is_break, TagDirective, ParsedTag, CutText, parse_tag}
+use Rattle.yaml_base.proofs.Common.{false≢true, list_all, list_any, Text, space, is_alpha, is_blank, is_break, TagDirective, ParsedTag, parse_tag}
 use Rattle.yaml_base.proofs.Common.{ends_indicator, Indented, indented_step, past_indentation, spaces, Rules, no_properties, PropertiesRead, cut_before_space}
 use Rattle.yaml_base.proofs.Common.{name_read, anchor_of_word, leading_tag, properties_read, word_after, word_read, not-true}
 use Rattle.yaml_base.{proofs.stream_lines.StreamCuts.none_not_some, specs.streams.StreamScalars.cut_word_step, specs.streams.StreamScalars.anchor_first}
@@ -58,10 +58,7 @@ pub word_whole : (word rest : Text) → has_no_space word ≡ true → ends_indi
     → cut_before_space (word ++ rest) ≡ record { prefix = word; rest = rest }
 word_whole [] [] h ends = refl
 word_whole [] (c ∷ rest) h ends = ap (λ x. cut_word_step x c rest (cut_before_space rest)) ends
-word_whole (c ∷ word) rest h ends =
-    let parts = and_parts (not (c == space)) (has_no_space word) h in
-    ap (λ x. cut_word_step x c (word ++ rest) (cut_before_space (word ++ rest))) (not-true (c == space) parts.0)
-    ∙ ap (λ (cut : CutText). let made : CutText = record { prefix = c ∷ cut.prefix; rest = cut.rest } in made) (word_whole word rest parts.1 ends)
+word_whole (c ∷ word) rest h ends = grind (arith, nat_tests, not-true, word_whole word rest)
 
 -- a letter is no space
 letter_no_space : (c : ℕ) → is_alpha c ≡ true → not (c == space) ≡ true
