@@ -37,8 +37,8 @@ pub extern "C" fn yaml_c_emitter_emit_json(
     report: &mut CallResult,
 ) -> i32
     requires is_open { IsOpenEmitter emitter.old.state }
-    ensures { Changes (UnlessClosed result report.new (GivesJson (depth_given options.now.values.depth) (is_off options.now.allow_duplicates) (is_on options.now.values.flow)
-        text.now result report.new)) emitter.old.state emitter.new.state }
+    ensures { Changes (UnlessClosed result report.new (GivesJson (depth_given options.now.values.depth) (is_off options.now.allow_duplicates)
+        (is_on options.now.values.flow) text.now result report.new)) emitter.old.state emitter.new.state }
 {
     let mut boxed = emitter.take(alloc);
     let status = give_and_tell(alloc, &mut *boxed, text, options, report);
@@ -56,8 +56,8 @@ fn give_and_tell<A: Allocator + Copy>(
     report: &mut CallResult,
 ) -> i32
     requires output { emitter.old.has_output ≡ true }
-    ensures gave { UnlessClosed result report.new (GivesJson (depth_given options.now.values.depth) (is_off options.now.allow_duplicates) (is_on options.now.values.flow)
-        text.now result report.new) emitter.old emitter.new }
+    ensures gave { UnlessClosed result report.new (GivesJson (depth_given options.now.values.depth) (is_off options.now.allow_duplicates)
+        (is_on options.now.values.flow) text.now result report.new) emitter.old emitter.new }
     ensures output { emitter.new.has_output ≡ true }
 {
     if emitter.is_closed() {

@@ -45,7 +45,7 @@ pub enum OpenError {
     #[error("the digest isn't the SHA-256 of the bytes")]
     DigestDiffers,
     /// The bytes aren't read as a value.
-    #[error("{0}")]
+    #[error(transparent)]
     NotRead(ReadError),
 }
 

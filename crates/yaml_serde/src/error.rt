@@ -25,7 +25,7 @@ pub struct Error {
 pub enum Cause {
     /// The emitter's error: `WriteError`, that of a `Serialize` by hand that writes no value, several, or a variant's name without its
     /// data, or an error that the writer had before. `TooDeep` is the emitter's own limit of 1,000,000 levels.
-    #[error("{0}")]
+    #[error(transparent)]
     Emitter(yaml_error_t),
     /// The message of the value's own `serialize`.
     #[error("{0}")]
