@@ -1,19 +1,19 @@
 -- Laws of the definitions that serve callers.
-use Rattle.yaml_base.proofs.Common.{arith, ℕ, if◌then◌else◌, is_some, unwrap_or, option_map, Option, None, Some, Bool, false, not, true, ◌&&◌, ◌||◌, List, []}
+use Rattle.yaml_base.proofs.Common.{and_from, and_parts, or_from}
+use Rattle.yaml_base.proofs.Common.{arith, ℕ, if◌then◌else◌, unwrap_or, option_map, Option, None, Some, Bool, false, not, true, ◌&&◌, ◌||◌, List, []}
 use Rattle.yaml_base.proofs.Common.{◌++◌, ◌∷◌, refl, ◌≡◌, ap, sym, ◌∙◌, or_parts, Text, Cursor, Rendered, render_then, encode, cut, ScalarStyle, any_style}
 use Rattle.yaml_base.proofs.Common.{plain, single_quoted, double_quoted, literal, folded, TagDirective, Scalar, Collection, Event, stream_start, stream_end}
 use Rattle.yaml_base.proofs.Common.{document_start, document_end, alias, scalar, sequence_start, sequence_end, mapping_start, mapping_end, scalar_tag}
-use Rattle.yaml_base.proofs.Common.{collection_tag, Stream, stream_events, tree_of, first_standing, layout, Piece, Standing, RenderedPiece, piece_without_body}
-use Rattle.yaml_base.proofs.Common.{render_properties, render_alias, render_separation, render_body, open_ended_after, style_asked_at, choice_of, body_at}
-use Rattle.yaml_base.proofs.Common.{is_written_in_flow, Brackets, square, curly, render_end, Role, as_root, as_item, as_key, as_value, Place, is_key}
+use Rattle.yaml_base.proofs.Common.{Stream, stream_events, tree_of, first_standing, layout, Piece, Standing, RenderedPiece, piece_without_body}
+use Rattle.yaml_base.proofs.Common.{render_properties, render_alias, render_separation, render_body, open_ended_after, choice_of, body_at}
+use Rattle.yaml_base.proofs.Common.{Brackets, square, curly, render_end, Role, as_root, as_item, as_key, as_value, Place, is_key}
 use Rattle.yaml_base.proofs.Common.{is_undented, deeper, is_simple_scalar, is_simple_collection, render_flow_place, render_place, settings_for, text_written}
 use Rattle.yaml_base.proofs.Common.{bytes_written, list_layout, Encoding, Effective, effective, Frame, Stage, at_stream, at_document, at_node, at_document_end}
-use Rattle.yaml_base.proofs.Common.{next_place, stage_after, Stepped, leaf_step, frame_opened, start_step, step, ends_next, Steps, then_steps, steps}
-use Rattle.yaml_base.proofs.Common.{begins_no_plain, holds_no_plain, read_plain, is_empty, allowed_by_quotes, allowed_by_blanks, ChosenStyle, is_literal}
-use Rattle.yaml_base.proofs.Common.{chosen}
+use Rattle.yaml_base.proofs.Common.{next_place, Stepped, leaf_step, start_step, step, ends_next, Steps, then_steps, steps}
+use Rattle.yaml_base.proofs.Common.{begins_no_plain, holds_no_plain, read_plain, ChosenStyle}
 use Rattle.yaml_base.{proofs.Common.nat_tests, proofs.Decoding.decode-encode, proofs.StepLaws.stream_steps, proofs.Trees.tree_of-stream_events}
-use Rattle.yaml_base.{specs.Decode.decode, specs.Settings.escapes_separators, specs.Steps.is_first, specs.Steps.end_step, specs.Steps.node_step}
-use Rattle.yaml_base.specs.Layout.{is_simple_alias, render_block_place, scalar_piece}
+use Rattle.yaml_base.{specs.Decode.decode, specs.Settings.escapes_separators, specs.Steps.end_step, specs.Steps.node_step}
+use Rattle.yaml_base.specs.Layout.{is_simple_alias, scalar_piece}
 use Rattle.yaml_base.specs.Laws.{TreeIsFound, IsPlainInside, PlainHoldsNoIndicator, LimitCuts, EncodingsAgree, BreaksAgree}
 use Rattle.std.proofs.lemmas.List.{take-take}
 
@@ -71,9 +71,7 @@ module _ (s : Effective) (e : Encoding) (limit : ℕ) (breaks12 : Bool) (same : 
 
   place_other : (place : Place) (simple : Bool) (cursor : Cursor)
       → render_place other place simple cursor ≡ render_place s place simple cursor
-  place_other place simple cursor =
-      ap (λ (rendered : Rendered). if place.in_flow then rendered else render_block_place place.role simple place.column cursor)
-      (flow_place_other place.role simple place.column cursor)
+  place_other place simple cursor = grind (arith, nat_tests, and_parts, and_from, or_parts, or_from)
 
   body_other : (style : ScalarStyle) (width : Option ℕ) (indent : ℕ) (value : Text) (cursor : Cursor)
       → render_body style other width indent value cursor ≡ render_body style s width indent value cursor
@@ -85,13 +83,7 @@ module _ (s : Effective) (e : Encoding) (limit : ℕ) (breaks12 : Bool) (same : 
   body_other folded width indent value cursor = refl
 
   choice_other : (place : Place) (simple : Bool) (content : Scalar) → choice_of other place simple content ≡ choice_of s place simple content
-  choice_other place simple content =
-      ap (λ (special : Bool). chosen
-      (allowed_by_quotes s.double_quotes
-      (allowed_by_blanks (is_literal content.style && s.literal_blanks) (record { unicode = s.unicode; breaks12 = special }) content.value))
-      (style_asked_at s place content) (is_empty content.value) (is_some (scalar_tag s.canonical content))
-      content.plain_implicit content.quoted_implicit place.in_flow simple s.canonical)
-      same
+  choice_other place simple content = grind (arith, nat_tests, and_parts, and_from, or_parts, or_from)
 
   scalar_other : (directives : List TagDirective) (place : Place) (simple : Bool) (content : Scalar) (standing : Standing)
       → scalar_piece other directives place simple content standing ≡ scalar_piece s directives place simple content standing
@@ -121,26 +113,12 @@ module _ (s : Effective) (e : Encoding) (limit : ℕ) (breaks12 : Bool) (same : 
       (start : Collection) (standing : Standing)
       → start_step other directives frames undented simple empty role start standing
       ≡ start_step s directives frames undented simple empty role start standing
-  start_other directives frames undented simple empty role start standing =
-      let place = next_place frames in
-      ap (λ (placed : Rendered).
-      let rendered : RenderedPiece = piece_without_body standing.open_ended
-      (render_then placed (render_properties s.portable directives start.anchor (collection_tag s.canonical start) false)) in
-      let made : Stepped = record {
-        rendered = rendered;
-        stage = at_node directives (frame_opened s place (is_written_in_flow s place start empty) undented simple role rendered ∷ frames);
-      } in
-      made)
-      (place_other place simple standing.cursor)
+  start_other directives frames undented simple empty role start standing = grind (arith, nat_tests, and_parts, and_from, or_parts, or_from)
 
   end_step_other : (brackets : Brackets) (directives : List TagDirective) (frames : List Frame) (standing : Standing)
       → end_step other brackets directives frames standing ≡ end_step s brackets directives frames standing
   end_step_other brackets directives [] standing = refl
-  end_step_other brackets directives (frame ∷ outer) standing =
-      ap (λ (rendered : Rendered).
-      let made : Stepped = record { rendered = piece_without_body standing.open_ended rendered; stage = stage_after directives outer frame.simple } in
-      made)
-      (end_other brackets frame.place.in_flow (is_first frame.place.role) (next_place outer).column standing.cursor)
+  end_step_other brackets directives (frame ∷ outer) standing = grind (arith, nat_tests, and_parts, and_from, or_parts, or_from)
 
   node_other : (directives : List TagDirective) (frames : List Frame) (event : Event) (empty : Bool)
       (standing : Standing)

@@ -1,12 +1,13 @@
 -- A style that a value allows if U+2028 and U+2029 are special, it allows also if they needn't be; and if a value allows block styles, it allows
 -- literal with literal blanks.
+use Rattle.yaml_base.proofs.Common.{nat_tests}
 use Rattle.yaml_base.proofs.Common.{arith}
 use Rattle.yaml_base.proofs.Common.{ℕ, ◌==◌, Bool, false, not, true, ◌&&◌, ◌||◌, [], ◌∷◌, refl, ◌≡◌, ap, and_parts, and_from, or_parts, or_from, not-true}
 use Rattle.yaml_base.proofs.Common.{sym, ◌∙◌, if◌then◌else◌, eqb-true, true≢false, false≢true, tab, space, is_space, is_blank, is_break}
 use Rattle.yaml_base.proofs.Common.{Text, line_separator, paragraph_separator, is_ascii, is_printable, Charset, somewhere, is_empty, is_special, bars_block}
 use Rattle.yaml_base.proofs.Common.{is_blank_to_line_end, begins_with_blanks_alone, bars_literal, allows_literal, is_literal}
 use Rattle.yaml_base.proofs.Common.{allows_block, Effective, Scalar, charset_of, allowed_under}
-use Rattle.yaml_base.specs.scalars.Analysis.{begins_unlike_plain, bars_plain, bars_single_quoted, allows_plain, allows_single_quoted}
+use Rattle.yaml_base.specs.scalars.Analysis.{begins_unlike_plain, bars_plain, allows_plain, allows_single_quoted}
 use Rattle.yaml_base.specs.scalars.Analysis.{begins_with, is_trailing_space}
 
 -- an alternative that holds if another one does
@@ -56,10 +57,7 @@ module _ (unicode one other : Bool) where
 
   -- single quotes
   pub single_still : (value : Text) → allows_single_quoted more value ≡ true → allows_single_quoted fewer value ≡ true
-  single_still value h =
-      ap not
-      (somewhere_fewer (bars_single_quoted more) (bars_single_quoted fewer) (λ c rest. or_fewer _ _ _ (or_fewer _ _ _ (special_fewer c))) value
-      (not-true _ h))
+  single_still value h = grind (arith, nat_tests, and_parts, and_from, or_parts, or_from, somewhere_fewer, or_fewer, not-true)
 
   -- literal and folded
   pub block_still : (value : Text) → allows_block more value ≡ true → allows_block fewer value ≡ true

@@ -1,5 +1,4 @@
 -- The pieces of a list, event by event, are those of its tree's layout.
-use Rattle.yaml_base.proofs.Common.{nat_tests}
 use Rattle.yaml_base.proofs.Common.{arith, ℕ, Bool, false, true, List, ◌++◌, ◌∷◌, refl, ◌≡◌, append-nil, append_assoc, ap, TagDirective, Event}
 use Rattle.yaml_base.proofs.Common.{sequence_end, mapping_end, Node, alias_node, scalar_node, Nodes, sequence_node, Pairs, mapping_node, no_nodes, nodes_and}
 use Rattle.yaml_base.proofs.Common.{no_pairs, pairs_and, Documents, no_documents, documents_and, Stream, node_events, nodes_events, pairs_events}
@@ -29,12 +28,13 @@ node_begins (mapping_node c pairs) rest follows = refl
 nodes_begin : (items : Nodes) (rest : List Event) (follows : Bool) → ends_next rest follows ≡ false → ends_next (nodes_events items ++ rest) follows ≡ false
 nodes_begin no_nodes rest follows opens = opens
 nodes_begin (nodes_and items last) rest follows opens =
-    grind (arith, nat_tests, append_assoc, nodes_events, node_events, node_begins, nodes_begin items (node_events last ++ rest) follows (node_begins last rest follows))
+    grind (arith, append_assoc, node_begins, nodes_begin items (node_events last ++ rest) follows (node_begins last rest follows))
 
 pairs_begin : (pairs : Pairs) (rest : List Event) (follows : Bool) → ends_next rest follows ≡ false → ends_next (pairs_events pairs ++ rest) follows ≡ false
 pairs_begin no_pairs rest follows opens = opens
 pairs_begin (pairs_and pairs key value) rest follows opens =
-    grind (arith, nat_tests, node_events, node_begins, append_assoc, pairs_begin pairs (node_events key ++ (node_events value ++ rest)) follows (node_begins key (node_events value ++ rest) follows))
+    let each = pairs_begin pairs (node_events key ++ (node_events value ++ rest)) follows (node_begins key (node_events value ++ rest) follows) in
+    grind (arith, append_assoc, node_begins, each)
 
 abbrev frame_at : (in_flow : Bool) → Role → ℕ → (simple : Bool) → Frame
 frame_at in_flow role column simple = record { place = entry_place in_flow role column; simple = simple }

@@ -135,7 +135,7 @@ found_after before directive more h =
 all_found : (own before rest : List TagDirective) → own ≡ before ++ rest → directives_fault_after before rest ≡ None → AreFound own rest
 all_found own before [] e h = tt
 all_found own before (directive ∷ rest) e h =
-    grind (arith, nat_tests, neither, append_assoc, found_after, all_found own (before ++ directive ∷ []) rest (e ∙ sym (append_assoc before (directive ∷ []) rest)))
+    grind (arith, neither, append_assoc, found_after, all_found own (before ++ directive ∷ []) rest (e ∙ sym (append_assoc before (directive ∷ []) rest)))
 
 abbrev primary : TagDirective
 primary = record { handle = codes "!"; prefix = codes "!" }

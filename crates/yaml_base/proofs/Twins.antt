@@ -1,5 +1,4 @@
 -- Two trees of one shape, each with the numbers of its own graph: the numbers at each place of both, and that they belong together.
-use Rattle.yaml_base.proofs.Common.{nat_tests}
 use Rattle.yaml_base.proofs.Common.{suc, zero, ℕ, ◌+◌, ◌≤◌, ⊤, Contains, count_by, Option, Bool, cond, false, true, List, [], map, ◌++◌, ◌∷◌, ◌⊎◌, refl, ◌≡◌}
 use Rattle.yaml_base.proofs.Common.{inl, inr, ap, subst, sym, ◌∙◌, arith, map-append, Contains-append_left, Contains-append_right, Text, label_at, Graph}
 use Rattle.yaml_base.proofs.Common.{children, Shape, no_shapes, Placed, alias_placed, PlacedNodes, node_placed, none_placed, placed_and, number_at, numbers_at}
@@ -235,7 +234,8 @@ only_one test x y (z ∷ xs) (inl is) (inr later) meets meets_too once =
 only_one test x y (z ∷ xs) (inr later) (inl same) meets meets_too once =
     absurd (omega (arith, once, count_cons test z xs, some_counted test x xs later meets, ap {B = ℕ} (λ (b : Bool). cond b 1 0) (ap test same ∙ meets_too)))
 only_one test x y (z ∷ xs) (inr later) (inr after) meets meets_too once =
-    grind (arith, nat_tests, count_cons, some_counted, only_one test x y xs later after meets meets_too (omega (arith, once, count_cons test z xs, some_counted test x xs later meets)))
+    only_one test x y xs later after meets meets_too
+    (omega (arith, once, count_cons test z xs, some_counted test x xs later meets))
 
 pub count_map : {X Y : Type 0} (f : X → Y) (test : Y → Bool) (xs : List X) → count_by test (map f xs) ≡ count_by (λ x. test (f x)) xs
 count_map f test [] = refl

@@ -23,7 +23,8 @@ fold_keeps : (Q : ℕ → Type 0) (P : List Step → Type 0) (step : List Step �
     → (numbers : List ℕ) → ((number : ℕ) → Contains numbers number → Q number) → (before : List Step) → P before → P (fold step before numbers)
 fold_keeps Q P step keeps [] all before p = p
 fold_keeps Q P step keeps (number ∷ numbers) all before p =
-    grind (arith, nat_tests, fold_keeps Q P step keeps numbers (λ other within. all other (Contains-append_right (number ∷ []) numbers other within)) (step before number) (keeps before number (all number (Contains-append_left (number ∷ []) numbers number (0, omega arith, refl))) p))
+    fold_keeps Q P step keeps numbers (λ other within. all other (Contains-append_right (number ∷ []) numbers other within)) (step before number)
+    (keeps before number (all number (Contains-append_left (number ∷ []) numbers number (0, omega arith, refl))) p)
 
 -- a walk from a node that is reached
 pub steps_keep : (graph : Graph) (P : List Step → Type 0) → Keeps graph P → (depth : ℕ) (before : List Step) (number : ℕ) → IsReached graph number → P before

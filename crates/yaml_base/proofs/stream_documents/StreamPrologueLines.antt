@@ -40,7 +40,19 @@ tags_whole : (breaks12 portable : Bool) (before directives : List TagDirective) 
     → WholeLines breaks12 (tag_lines portable directives)
 tags_whole breaks12 portable before [] sound = tt
 tags_whole breaks12 portable before (directive ∷ rest) sound =
-    grind (arith, nat_tests, neither, one_line_both, shown_line, handle_ends_no_word, handle_form, character_line, prefix_no_white, prefix_stands, tags_whole breaks12 portable (before ++ directive ∷ []) rest)
+    grind (
+      arith,
+      nat_tests,
+      neither,
+      one_line_both,
+      shown_line,
+      handle_ends_no_word,
+      handle_form,
+      character_line,
+      prefix_no_white,
+      prefix_stands,
+      tags_whole breaks12 portable (before ++ directive ∷ []) rest,
+    )
 
 version_whole : (breaks12 : Bool) (version : Option Version) → WholeLines breaks12 (version_lines version)
 version_whole breaks12 version = grind (arith, int_eq)

@@ -1,10 +1,12 @@
 -- The lines of a root: no line after its first is a marker, and its first may begin a root.
-use Rattle.yaml_base.proofs.Common.{render_nothing, arith, suc, zero, ℕ, ◌==◌, Option, Bool, false, not, true, ◌||◌, List, [], ◌++◌, ◌∷◌, refl, ◌≡◌, true≢false, append_assoc}
+use Rattle.yaml_base.proofs.Common.{render_nothing, arith, suc, zero, ℕ, ◌==◌, Option, Bool, false, not, true, ◌||◌, List, [], ◌++◌, ◌∷◌, refl, ◌≡◌}
+use Rattle.yaml_base.proofs.Common.{true≢false, append_assoc}
 use Rattle.yaml_base.proofs.Common.{ap, subst, sym, ◌∙◌, and_parts, list_all, list_any, Text, line_feed, space, Rendered, is_read_break, is_empty, marker_of}
 use Rattle.yaml_base.proofs.Common.{stands_at_margin, Line, prepend_to_first_line, prepend_character, lines_of, is_spaces, without_blank_lines, ends_indicator}
 use Rattle.yaml_base.proofs.Common.{spaces, NodeKind, Rules}
 use Rattle.yaml_base.proofs.{stream_lines.StreamInside.not_blank, stream_lines.StreamLineLaws.one_line_both, stream_lines.StreamSections.is_markerless}
-use Rattle.yaml_base.proofs.{stream_lines.StreamSections.AllMarkerless, stream_lines.StreamTidyLaws.lines_after_first, stream_nodes.StreamLaid.Lays, stream_nodes.StreamLaid.Opened}
+use Rattle.yaml_base.proofs.{stream_lines.StreamSections.AllMarkerless, stream_lines.StreamTidyLaws.lines_after_first, stream_nodes.StreamLaid.Lays}
+use Rattle.yaml_base.proofs.{stream_nodes.StreamLaid.Opened}
 use Rattle.yaml_base.proofs.stream_documents.StreamRootsStand.{root_cursor, Begins}
 use Rattle.yaml_base.proofs.stream_lines.StreamClosed.{closing, closed, spaces_line, lines_behind, lines_broken}
 use Rattle.yaml_base.proofs.stream_nodes.StreamBlocks.{opened_shows, BegunKind, unsaid, is_parsed, block_own, own_closed, below}
@@ -94,7 +96,8 @@ opened_below rules lines kind o = ap stands_at_margin ((opened_shows rules 0 lin
 
 -- entries at column 0, after properties or without them
 pub block_stands : (rules : Rules) (on_marker : Bool) (anchor tag : Option Text) (begun entries : Rendered) (text : Text) (kind : NodeKind)
-    → BegunKind rules anchor tag (root_cursor on_marker) begun → Lays 0 (render_nothing begun.cursor) entries text → Opened rules 0 (lines_of rules.breaks12 text) kind
+    → BegunKind rules anchor tag (root_cursor on_marker) begun → Lays 0 (render_nothing begun.cursor) entries text
+    → Opened rules 0 (lines_of rules.breaks12 text) kind
     → AllMarkerless (lines_of rules.breaks12 text) → ((begun.text ≡ [] → ⊥) → Begins rules.breaks12 (root_cursor on_marker) begun)
     → Stood on_marker (lines_of rules.breaks12 (closed (block_own begun entries)))
 block_stands rules on_marker anchor tag begun entries text kind (is_parsed parsed) lays opened markerless properties =

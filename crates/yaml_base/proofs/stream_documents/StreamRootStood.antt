@@ -1,4 +1,5 @@
 -- A readable root, with a document's directives as given, fits at its place, and its lines are those of a root.
+use Rattle.yaml_base.proofs.Common.{and_from, and_parts, nat_tests, or_from}
 use Rattle.yaml_base.proofs.Common.{suc, ℕ, ◌≤◌, if◌then◌else◌, option_map, Option, None, Some, Bool, false, not, true, ◌||◌, List, [], ◌∷◌, refl, ◌≡◌}
 use Rattle.yaml_base.proofs.Common.{true≢false, ap, subst, sym, ◌∙◌, arith, or_parts, false≢true, Text, Rendered, TagDirective, Collection, collection_tag}
 use Rattle.yaml_base.proofs.Common.{Node, alias_node, scalar_node, sequence_node, mapping_node, Document, root_place, asks_flow, is_written_in_flow}
@@ -137,11 +138,7 @@ root_stood s document on_marker deep root some = by (is_leaf s document.root) re
         written : (x : Bool) → is_written_as_nothing s.canonical document.root ≡ x
             → FirstStands on_marker (lines_of s.breaks12 (closed (render_root on_marker s document)))
         written false h = begins_stands s.breaks12 on_marker (render_root on_marker s document) ((root.leaf leaf).begins h)
-        written true h =
-            subst (λ x. FirstStands x (lines_of s.breaks12 (closed (render_root x s document)))) (sym e)
-            (nothing_stands document.root document.start.directives s (directives_in_force document.start.directives) h
-            (subst (λ x. Leaves document.root (rules_of s document) s (directives_in_force document.start.directives) root_place (root_cursor x)) e
-            root.leaves))
+        written true h = grind (arith, nat_tests, and_parts, and_from, or_parts, or_from, nothing_stands, Leaves)
 
     by : (x : Bool) → is_leaf s document.root ≡ x → Stood on_marker (lines_of s.breaks12 (closed (render_root on_marker s document)))
     by true h = ((root.leaf h).after, first on_marker refl h)

@@ -1,4 +1,5 @@
 -- A whole stream whose documents are readable is read as their trees.
+use Rattle.yaml_base.proofs.Common.{nat_tests}
 use Rattle.yaml_base.proofs.Common.{or_from, or_parts}
 use Rattle.yaml_base.proofs.Common.{suc, ℕ, ◌≤◌, if◌then◌else◌, ◌==◌, option_and_then, None, Some, codes, length, Bool, false, not, true, ◌&&◌, ◌||◌, List, []}
 use Rattle.yaml_base.proofs.Common.{◌++◌, ◌∷◌, refl, ◌≡◌, eqb-true, length-append, append-nil, ap, subst, sym, ◌∙◌, arith, and_parts, and_from, flat_map-append}
@@ -106,10 +107,7 @@ document_so_rendered s first documents rendered document deep stands at awaits =
     text = document_text s first (rendered.standing.open_ended == 0) document
 
     small : (depth : ℕ) → suc (length (text_of rendered.pieces ++ text)) ≤ depth → size document.root ≤ depth
-    small depth long =
-        let sum = length-append (text_of rendered.pieces) text in
-        let own = document_size s first (rendered.standing.open_ended == 0) document stands in
-        omega arith
+    small depth long = grind (arith, nat_tests, and_parts, and_from, or_parts, or_from, length-append, document_size)
 
 -- all documents
 documents_so_rendered : (s : Effective) (documents : Documents) → 2 ≤ s.indent → DocumentsStand s documents → FirstWritten s (documents_in_order documents)

@@ -53,7 +53,8 @@ bracket_nowhere : (rules : Rules) (anchor tag : Option Text) (parsed : Option Pa
     → KeyNowhere rules (lead anchor tag ++ (opening q ∷ b)) t
 bracket_nowhere rules anchor tag parsed q b [] given h = tt
 bracket_nowhere rules anchor tag parsed q b (x ∷ t) given h =
-    grind (arith, nat_tests, append_assoc, lead_no_text, no_word, keeps_prefix, bracket_nowhere rules anchor tag parsed q (b ++ (x ∷ [])) t given (ap keeps_open (append_assoc b (x ∷ []) t) ∙ h))
+    let each = bracket_nowhere rules anchor tag parsed q (b ++ (x ∷ [])) t given (ap keeps_open (append_assoc b (x ∷ []) t) ∙ h) in
+    grind (arith, nat_tests, lead_no_text, no_word, keeps_prefix, append_assoc, each)
 
 -- Kinds
 

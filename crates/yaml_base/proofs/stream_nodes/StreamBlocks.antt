@@ -6,7 +6,8 @@ use Rattle.yaml_base.proofs.Common.{first_line_is_blank, ends_indicator, belongs
 use Rattle.yaml_base.proofs.Common.{begins_text, kind_of_node, ReadsText, node_by_kind, node_at, node_lines, begins_properties, after_properties}
 use Rattle.yaml_base.proofs.stream_lines.StreamClosed.{closing, closed, Settled, spaces_line, begins_cons, lines_behind, after_line, lines_broken}
 use Rattle.yaml_base.proofs.{stream_lines.StreamTidyLaws.lines_after_first, stream_lines.StreamClosed.closed_alike, stream_lines.StreamClosed.closed_both}
-use Rattle.yaml_base.proofs.{stream_nodes.StreamFits.WithinColumn, stream_nodes.StreamFits.Opens, stream_nodes.StreamFits.Fits, stream_nodes.StreamLaid.Opened, stream_nodes.StreamLaid.Lays}
+use Rattle.yaml_base.proofs.{stream_nodes.StreamFits.WithinColumn, stream_nodes.StreamFits.Opens, stream_nodes.StreamFits.Fits}
+use Rattle.yaml_base.proofs.{stream_nodes.StreamLaid.Opened, stream_nodes.StreamLaid.Lays}
 use Rattle.yaml_base.proofs.Common.{text_or_properties, node_read, Rules, Properties, no_properties, PropertiesRead, properties_read, collection_tag_parsed}
 use Rattle.yaml_base.proofs.stream_lines.StreamLineLaws.{is_closed, OneLine, one_line_both}
 use Rattle.yaml_base.proofs.stream_lines.StreamInside.{indented_spaces, not_blank, blank_spaces, AllInside, blank_both}
@@ -118,7 +119,8 @@ pub record Entries (rules : Rules) (e : ℕ) (place : Place) (begun entries : Re
   pub compact : begun.cursor.indention ≡ true → Compact e begun.cursor
 
 -- on lines below
-pub below : (rules : Rules) (e : ℕ) (cursor : Cursor) (entries : Rendered) (text : Text) → Lays e (render_nothing cursor) entries text → cursor.indention ≡ false
+pub below : (rules : Rules) (e : ℕ) (cursor : Cursor) (entries : Rendered) (text : Text) → Lays e (render_nothing cursor) entries text
+    → cursor.indention ≡ false
     → closed entries ≡ line_feed ∷ text
 below rules e cursor entries text lays h =
     lays.lays ∙ ap (λ t. t ++ (lays.head ∷ lays.tail)) (broken e cursor h) ∙ ap (λ t. line_feed ∷ t) (sym lays.is)

@@ -1,5 +1,6 @@
 -- The entries of a mapping read as its pairs, if each of them fits; and how a mapping's text is rendered.
-use Rattle.yaml_base.proofs.Common.{suc, ℕ, ◌+◌, ◌≤◌, if◌then◌else◌, is_some, ◌||◌, option_and_then, Option, None, Some, length, Bool, false, true, List, [], ◌++◌, ◌∷◌}
+use Rattle.yaml_base.proofs.Common.{suc, ℕ, ◌+◌, ◌≤◌, if◌then◌else◌, is_some, ◌||◌, option_and_then, Option, None, Some, length, Bool, false, true, List, []}
+use Rattle.yaml_base.proofs.Common.{◌++◌, ◌∷◌}
 use Rattle.yaml_base.proofs.Common.{refl, ◌≡◌, append-nil, append_assoc, ap, subst, sym, ◌∙◌, arith, false≢true, Text, Cursor, Rendered, or_right}
 use Rattle.yaml_base.proofs.Common.{TagDirective, Node, Pairs, pairs_and, entry_place, Role, as_key, as_value, has_no_pairs, is_simple}
 use Rattle.yaml_base.proofs.Common.{Effective, Tree, TreePairs, tree_pairs_and, lines_of, spaces, SimpleKey, key_entry, value_entry, simple_entry}
@@ -8,7 +9,8 @@ use Rattle.yaml_base.proofs.stream_nodes.StreamPairs.{KeyFits, key_place, value_
 use Rattle.yaml_base.proofs.stream_nodes.StreamPairs.{pair_text, PairFits, keyed_lines, keyed_begins}
 use Rattle.yaml_base.proofs.stream_lines.{StreamInside.past_spaces, StreamInside.inside_deeper, StreamMarkerless.question_markerless}
 use Rattle.yaml_base.proofs.stream_lines.{StreamMarkerless.colon_markerless, StreamLineLaws.is_closed, StreamLineLaws.lines_after_break}
-use Rattle.yaml_base.proofs.stream_nodes.{StreamAgrees.node_tree, StreamAgrees.pairs_tree, StreamItems.regrouped, StreamTexts.placed_own, StreamTexts.node_own, StreamTexts.pairs_own}
+use Rattle.yaml_base.proofs.stream_nodes.{StreamAgrees.node_tree, StreamAgrees.pairs_tree, StreamItems.regrouped, StreamTexts.placed_own}
+use Rattle.yaml_base.proofs.stream_nodes.{StreamTexts.node_own, StreamTexts.pairs_own}
 use Rattle.yaml_base.proofs.stream_lines.StreamLineLaws.{unbroken_line}
 use Rattle.yaml_base.proofs.stream_lines.StreamClosed.{closed, closed_behind, new_line_closes, indicator_cursor}
 use Rattle.yaml_base.proofs.stream_nodes.StreamFits.{size, pairs_size, Fits, tree_anywhere, indicated_lines, indicated_ends, blanked_lines}
@@ -209,7 +211,8 @@ pair_laid rules s directives pairs key value e cursor all fit =
     let before = pairs_own pairs s directives false e cursor in
     let trees = pairs_tree pairs s directives false in
     laid_and false rules e cursor (has_no_pairs pairs) before (pairs_own (pairs_and pairs key value) s directives false e cursor)
-    (pair_text x pairs key value s directives e) (pairs_size pairs) (size key + size value) trees (pairs_tree (pairs_and pairs key value) s directives false) all
+    (pair_text x pairs key value s directives e) (pairs_size pairs) (size key + size value) trees (pairs_tree (pairs_and pairs key value) s directives false)
+    all
     (subst (λ k. Reads false rules e (pair_text x pairs key value s directives e) (size key + size value) (record { pairs = trees; key = None })
     (record { pairs = tree_pairs_and trees k (node_tree value s directives (value_place x 0)); key = None }))
     (tree_anywhere key s directives false (as_key (has_no_pairs pairs)) e 0)
