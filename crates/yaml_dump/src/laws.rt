@@ -12,7 +12,8 @@ pub use yaml_emitter::laws::{
     list_has_one_tree, meaning_is_kept, output_tells_content, pieces_stand,
     plain_holds_no_indicator, portable_streams_read_back, portable_suffix_holds_no_flow_indicator,
     ready_events_stay_ready, refused_exactly, streams_agree, streams_read_back, texts_hold_raw,
-    tree_is_found, whole_stream_is_ready, written_tag_reads, written_tag_stays_one_word,
+    tree_is_found, untaken_scalar_is_told, whole_stream_is_ready, written_tag_reads,
+    written_tag_stays_one_word,
 };
 
 /// States the consequences of a dump, and of emitting events in order.

@@ -69,7 +69,7 @@ pub use yaml_base::{
 };
 
 // The parts that write a piece of text, for a caller that puts pieces together.
-pub use yaml_base::{Position, position_of, write_to_sink};
+pub use yaml_base::{CharacterKind, Charset, Ending, Position, position_of, write_to_sink};
 pub use yaml_mark::{
     Directives, Name, analyze_anchor, analyze_name, analyze_tag, analyze_tag_directive,
     analyze_version, tag_t, write_anchor, write_tag_content, write_tag_handle, write_tag_prefix,
