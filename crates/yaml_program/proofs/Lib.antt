@@ -1,5 +1,7 @@
+mod Differing
 mod Doing
 mod Headings
+mod Parts
 mod Portable
 mod Telling
 pub mod FilesInTurn

@@ -1,6 +1,6 @@
 -- The depth to which collections may nest.
-use Rattle.std.specs.Prelude.{ℕ, ℤ, pos, negsuc, Bool, true, false, not, nat_le, ◌&&◌, ◌||◌, Option, None, Some}
-use Rattle.yaml_emitter.specs.declared.settings.Settings.{Settings}
+use Rattle.std.specs.Prelude.{ℤ, pos, negsuc, Bool, true, false, not, nat_le, ◌&&◌, ◌||◌, Option, None, Some}
+use Rattle.yaml_writer.specs.declared.settings.ValueSettings.{ValueSettings}
 
 abbrev pub is_below_zero : Option ℤ → Bool
 is_below_zero None = false
@@ -8,9 +8,9 @@ is_below_zero (Some (pos n)) = false
 is_below_zero (Some (negsuc n)) = true
 
 -- True if no line is indented, since a document is one line.
-abbrev pub is_in_one_line : Settings → (in_flow : Bool) → Bool
-is_in_one_line writer in_flow = in_flow && not writer.canonical && is_below_zero writer.width
+abbrev pub is_in_one_line : ValueSettings → Bool
+is_in_one_line settings = settings.flow && not settings.emitter.canonical && is_below_zero settings.emitter.width
 
 -- True if the depth is at most 10,000 levels, or no line is indented.
-abbrev pub is_allowed : Settings → (in_flow : Bool) → (depth : ℕ) → Bool
-is_allowed writer in_flow depth = nat_le depth 10000 || is_in_one_line writer in_flow
+abbrev pub is_allowed : ValueSettings → Bool
+is_allowed settings = nat_le settings.depth 10000 || is_in_one_line settings

@@ -1,7 +1,8 @@
 //! The conversion that a program's arguments ask for.
-ghost use Rattle.std.specs.Prelude.{◌≡◌, ◌&&◌, IfOk, not};
+ghost use Rattle.std.specs.Prelude.{◌≡◌, ◌&&◌, IfOk, not, option_map};
+ghost use Rattle.yaml_base.specs.Seen.{seen_break, seen_encoding};
 ghost use Rattle.yaml_emitter.specs.Given.{is_double};
-ghost use Rattle.yaml_program.specs.Options.{AreCommonSettings, AreWriterSettings};
+ghost use Rattle.yaml_program.specs.Options.{AreValueSettings, AreWriterSettings, IsBreakOf, IsEncodingOf};
 ghost use Rattle.yaml_program.specs.Conversions.{IsAskedBy};
 
 use crate::formats::Format;
@@ -10,21 +11,15 @@ use clap::{ArgMatches, Error};
 use std::alloc::{AllocError, Global};
 use std::rt::Runtime;
 use std::{env, io};
-use yaml_writer::{Quotes, Settings, value_settings};
+use yaml_base::{
+    YAML_ANY_BREAK, YAML_ANY_ENCODING, YAML_CR_BREAK, YAML_CRLN_BREAK, YAML_LN_BREAK,
+    YAML_UTF8_ENCODING, YAML_UTF16BE_ENCODING, YAML_UTF16LE_ENCODING, yaml_break_t,
+    yaml_encoding_t,
+};
+use yaml_writer::{Quotes, Settings, ValueSettings, value_settings};
 
 /// The maximum nesting depth of collections if no option sets it.
 const DEFAULT_DEPTH: usize = 1_000;
-
-/// The settings that every format has.
-#[derive(Clone, Copy)]
-pub struct CommonSettings {
-    /// The settings of the writer.
-    pub writer: Settings,
-    /// Collections are written in flow style.
-    pub flow: bool,
-    /// The maximum nesting depth of collections.
-    pub depth: usize,
-}
 
 /// A conversion: the files that are read, and the place and the form of the YAML.
 #[derive(Drop)]
@@ -60,27 +55,56 @@ fn quotes_of(are_double: bool) -> Quotes
     }
 }
 
-/// Returns the settings of the writer that the options ask for.
-fn writer_settings_of(matches: &ArgMatches<'_>) -> Settings
+/// Returns the encoding of this name; that of libyaml's streams without a name.
+fn encoding_of(name: Option<&str>) -> yaml_encoding_t
+    ensures { IsEncodingOf (option_map (λ name. name.now) name.entry) (seen_encoding result) }
+{
+    match name {
+        Some("utf-8") => YAML_UTF8_ENCODING,
+        Some("utf-16le") => YAML_UTF16LE_ENCODING,
+        Some("utf-16be") => YAML_UTF16BE_ENCODING,
+        _ => YAML_ANY_ENCODING,
+    }
+}
+
+/// Returns the line break of this name; that of libyaml's streams without a name.
+fn line_break_of(name: Option<&str>) -> yaml_break_t
+    ensures { IsBreakOf (option_map (λ name. name.now) name.entry) (seen_break result) }
+{
+    match name {
+        Some("lf") => YAML_LN_BREAK,
+        Some("cr") => YAML_CR_BREAK,
+        Some("crlf") => YAML_CRLN_BREAK,
+        _ => YAML_ANY_BREAK,
+    }
+}
+
+/// Returns the settings of the emitter that the options ask for.
+fn emitter_settings_of(matches: &ArgMatches<'_>) -> Settings
     ensures { AreWriterSettings matches.now result }
 {
     let mut settings = value_settings();
+    settings.encoding = encoding_of(matches.get_str("encoding"));
     settings.canonical = matches.get_flag("canonical");
-    settings.line_breaks_1_2 = matches.get_flag("no-document-start");
-    settings.portable = is_portable(matches.get_flag("no-portable"), settings.line_breaks_1_2);
-    settings.indented_sequences = !matches.get_flag("no-indented-sequences");
+    settings.unicode = !matches.get_flag("no-unicode");
     settings.quotes = quotes_of(matches.get_flag("double-quotes"));
     settings.indent = matches.get_one::<i32>("indent");
     settings.width = matches.get_one::<i32>("width").or(settings.width);
+    settings.line_break = line_break_of(matches.get_str("line-break"));
+    settings.line_breaks_1_2 = matches.get_flag("no-document-start");
+    settings.portable = is_portable(matches.get_flag("no-portable"), settings.line_breaks_1_2);
+    settings.indented_sequences = !matches.get_flag("no-indented-sequences");
+    settings.literal_blanks = !matches.get_flag("no-literal-blanks");
+    settings.limit = matches.get_one::<usize>("limit").unwrap_or(settings.limit);
     settings
 }
 
-/// Returns the settings of every format that the options ask for.
-pub fn common_settings_of(matches: &ArgMatches<'_>) -> CommonSettings
-    ensures { AreCommonSettings matches.now result }
+/// Returns the settings for writing values that the options ask for.
+pub fn value_settings_of(matches: &ArgMatches<'_>) -> ValueSettings
+    ensures { AreValueSettings matches.now result }
 {
-    CommonSettings {
-        writer: writer_settings_of(matches),
+    ValueSettings {
+        emitter: emitter_settings_of(matches),
         flow: matches.get_flag("flow"),
         depth: matches.get_one::<usize>("depth").unwrap_or(DEFAULT_DEPTH),
     }

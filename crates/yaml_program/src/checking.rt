@@ -1,10 +1,12 @@
 //! The comparison of a file with the YAML that would be written to it.
-ghost use Rattle.std.specs.Prelude.{◌≡◌, ◌≢◌, ◌≤◌, ◌⊎◌};
+ghost use Rattle.std.specs.Prelude.{◌≡◌, ◌≢◌, ◌≤◌, ◌⊎◌, codes, false, true};
 ghost use Rattle.yaml_program.specs.Conversions.{Differs, HaveNoYaml, HaveYaml, IsThere, OfFiles, heading_of, names_of};
+ghost use Rattle.yaml_program.specs.Messages.{IsNameLine, Tells};
 
 use crate::arguments::Conversion;
-use crate::faults::{Failure, Messages, give_up, report};
+use crate::faults::{Failure, give_up, report};
 use crate::formats::Format;
+use crate::messages::{Messages, line_of};
 use crate::sending::send_all;
 use crate::sources::{Sources, read_if_there};
 use std::io::Write;
@@ -12,13 +14,26 @@ use yaml_base::Quoted;
 
 /// Reports that a file differs from the YAML that would be written to it, or is missing.
 fn tell_difference<W: Write>(name: &str, faults: &mut Messages<W>) -> u8
-    ensures { result ≡ 1 }
+    ensures status { result ≡ 1 }
+    ensures told { Tells W.contents faults.old faults.new (IsNameLine faults.old.words.now.name.now name.now (codes " would be changed")) }
 {
-    faults.end_line();
-    let program = faults.words.name;
-    let name = Quoted(name);
-    let _reported = writeln!(&mut faults.sink, "{program}: {name} would be changed");
+    let shown = faults.loss.part(Quoted(name));
+    faults.tell(&line_of(
+        faults.words.name,
+        shown.as_str(),
+        " would be changed",
+        "",
+        "",
+    ));
     1
+}
+
+/// Returns whether two files have the same bytes.
+fn are_same(first: &[u8], second: &[u8]) -> bool
+    ensures same { result ≡ true → first.now ≡ second.now }
+    ensures other { result ≡ false → first.now ≢ second.now }
+{
+    first == second
 }
 
 /// Compares a file with the YAML that would be written to it, reports a difference or a failure, and returns the status.
@@ -42,7 +57,7 @@ pub fn check<F: Format, S: Sources + AllocGlobal, W: Write>(
     }
     match read_if_there(sources, name) {
         Ok(Some(there)) => {
-            if yaml.as_slice() == there.as_slice() {
+            if are_same(yaml.as_slice(), there.as_slice()) {
                 0
             } else {
                 tell_difference(name, faults)

@@ -1,11 +1,13 @@
 //! The conversion of each file by itself, to one beside it.
 ghost use Rattle.std.specs.List.{Any};
-ghost use Rattle.std.specs.Prelude.{◌≡◌, ◌≢◌, ◌≤◌, ◌⊎◌, ◌++◌, IfOk, false, max};
+ghost use Rattle.std.specs.Prelude.{◌≡◌, ◌≢◌, ◌≤◌, ◌⊎◌, ◌++◌, IfOk, codes, max};
 ghost use Rattle.yaml_program.specs.Conversions.{EachIsDone, EndsOtherwise, IsDoneBeside, IsUndoneBeside, names_of};
+ghost use Rattle.yaml_program.specs.Messages.{IsNameLine, Tells};
 
 use crate::arguments::Conversion;
-use crate::faults::{Messages, run_out};
+use crate::faults::run_out;
 use crate::formats::Format;
+use crate::messages::{Messages, line_of};
 use crate::names::{stem_of, yaml_name};
 use crate::program::perform;
 use crate::sources::Sources;
@@ -45,6 +47,18 @@ fn convert_stem<'a, F: Format + Copy + Drop, S: Sources + AllocGlobal, W: Write>
     Ok(perform(rt, sources, &one, target.as_str(), faults))
 }
 
+/// Reports that a name doesn't have the format's ending, and returns the status.
+fn refuse_name<W: Write>(name: &str, ending: &str, faults: &mut Messages<W>) -> u8
+    ensures status { result ≡ 2 }
+    ensures told { Tells W.contents faults.old faults.new
+        (IsNameLine faults.old.words.now.name.now name.now (codes ": --each wants names that end in " ++ ending.now)) }
+{
+    let shown = faults.loss.part(Quoted(name));
+    let why = ": --each wants names that end in ";
+    faults.tell(&line_of(faults.words.name, shown.as_str(), why, ending, ""));
+    2
+}
+
 /// Converts a file to the file beside it, if its name has the format's ending.
 fn convert_beside<'a, F: Format + Copy + Drop, S: Sources + AllocGlobal, W: Write>(
     rt: &HostRuntime,
@@ -57,6 +71,8 @@ fn convert_beside<'a, F: Format + Copy + Drop, S: Sources + AllocGlobal, W: Writ
     ensures done { result ≡ 0 → IsDoneBeside F.is_yaml F.ending (S.bytes_of sources.now) conversion.now name.now }
     ensures undone { result ≡ 1 → IsUndoneBeside F.is_yaml F.ending (S.bytes_of sources.now) conversion.now name.now }
     ensures otherwise { result ≡ 2 → EndsOtherwise F.ending name.now }
+    ensures told { EndsOtherwise F.ending name.now → Tells W.contents faults.old faults.new
+        (IsNameLine faults.old.words.now.name.now name.now (codes ": --each wants names that end in " ++ F.ending)) }
 {
     let ending = conversion.format.ending();
     match stem_of(name, ending) {
@@ -64,16 +80,7 @@ fn convert_beside<'a, F: Format + Copy + Drop, S: Sources + AllocGlobal, W: Writ
             Ok(status) => status,
             Err(_) => run_out(faults),
         },
-        None => {
-            faults.end_line();
-            let program = faults.words.name;
-            let name = Quoted(name);
-            let _reported = writeln!(
-                &mut faults.sink,
-                "{program}: {name}: --each wants names that end in {ending}"
-            );
-            2
-        }
+        None => refuse_name(name, ending, faults),
     }
 }
 
@@ -88,18 +95,6 @@ fn worse(first: u8, second: u8) -> u8
     ensures one { (result ≡ first) ⊎ (result ≡ second) }
 {
     if first < second { second } else { first }
-}
-
-/// Writes to the last line of a terminal how many files are done, and ends that line after the last file.
-fn tell_progress<W: Write>(done: usize, all: usize, faults: &mut Messages<W>)
-    ensures { all ≤ done → faults.new.has_open_line ≡ false }
-{
-    let program = faults.words.name;
-    let _reported = write!(&mut faults.sink, "\r{program}: {done} of {all}");
-    faults.has_open_line = true;
-    if done >= all {
-        faults.end_line();
-    }
 }
 
 /// Converts each file to the file beside it, reports each failure, and returns the worst status.
@@ -123,7 +118,7 @@ pub fn convert_each<F: Format + Copy + Drop, S: Sources + AllocGlobal, W: Write>
         status = worse(status, one);
         done = done.saturating_add(1);
         if tells {
-            tell_progress(done, names.len(), faults);
+            faults.count(done, names.len());
         }
     }
     status

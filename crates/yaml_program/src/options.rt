@@ -14,6 +14,12 @@ const INDENT_HELP: &str = "Columns for each level, 2 to 9 [default: 2]";
 
 const WIDTH_HELP: &str = "Folds texts of several words past this column [default: never]";
 
+const ENCODING_HELP: &str = "The encoding of the output, not with --heading [default: utf-8]";
+
+const BREAK_HELP: &str = "The break that ends each line [default: lf]";
+
+const LIMIT_HELP: &str = "The most bytes that a stream may have [default: no limit]";
+
 const HEADING_HELP: &str = "Writes a text as comments before all else";
 
 /// The options without a value, each with a line of help and a longer text. The arguments are the program's name, the ending of its files,
@@ -65,6 +71,20 @@ macro_rules! flags {
         concat!(
         "Leaves the items of a list in the column of the name that the list belongs to, as libyaml does, and doesn't indent them.\
         {n}Example: ", $program, " --no-indented-sequences in", $ending),
+    ),
+    (
+        "no-literal-blanks",
+        "Quotes a text of several lines if a line has a tab or ends in a space",
+        concat!(
+        "Quotes a text of several lines if it has a tab, or a space at the end of a line, as libyaml does, and writes it no block.\
+        {n}Example: ", $program, " --no-literal-blanks in", $ending),
+    ),
+    (
+        "no-unicode",
+        "Escapes the characters beyond ASCII",
+        concat!(
+        "Writes ASCII alone: a text with characters beyond ASCII is in double quotes, with an escape for each of them.\
+        {n}Example: ", $program, " --no-unicode in", $ending),
     ),
     (
         "double-quotes",
@@ -137,6 +157,26 @@ fn depth_option<'a>(alloc: Global, words: &Wording) -> Arg<'a> {
     option.value_parser(ValueParser::unsigned(0, 1_000_000))
 }
 
+/// Returns the option for the encoding. A heading is always in UTF-8.
+fn encoding_option<'a>(alloc: Global, words: &Wording) -> Result<Arg<'a>, AllocError> {
+    option_with_value(alloc, "encoding", "NAME", ENCODING_HELP, words.encoding)
+        .value_parser(ValueParser::Names(&["utf-8", "utf-16le", "utf-16be"]))
+        .conflicts_with("heading")
+}
+
+/// Returns the option for the break that ends each line.
+fn line_break_option<'a>(alloc: Global, words: &Wording) -> Arg<'a> {
+    option_with_value(alloc, "line-break", "NAME", BREAK_HELP, words.line_break).value_parser(
+        ValueParser::Names(&["lf", "crlf", "cr"]),
+    )
+}
+
+/// Returns the option for the maximum number of bytes of the output.
+fn limit_option<'a>(alloc: Global, words: &Wording) -> Arg<'a> {
+    let option = option_with_value(alloc, "limit", "BYTES", LIMIT_HELP, words.limit);
+    option.value_parser(ValueParser::unsigned(0, u64::MAX))
+}
+
 /// An argument that has a value, or depends on other arguments.
 enum Setting {
     Output,
@@ -145,6 +185,9 @@ enum Setting {
     Indent,
     Width,
     Depth,
+    Encoding,
+    LineBreak,
+    Limit,
     Files,
 }
 
@@ -165,6 +208,9 @@ fn argument_of<'a>(
         Setting::Indent => Ok(indent_option(alloc, words)),
         Setting::Width => Ok(width_option(alloc, words)),
         Setting::Depth => Ok(depth_option(alloc, words)),
+        Setting::Encoding => encoding_option(alloc, words),
+        Setting::LineBreak => Ok(line_break_option(alloc, words)),
+        Setting::Limit => Ok(limit_option(alloc, words)),
         Setting::Files => Ok(files_argument(alloc, words)),
     }
 }
@@ -194,6 +240,9 @@ fn push_arguments<'a>(
         Setting::Indent,
         Setting::Width,
         Setting::Depth,
+        Setting::Encoding,
+        Setting::LineBreak,
+        Setting::Limit,
         Setting::Files,
     ] {
         arguments.push(argument_of(alloc, words, setting)?)?;

@@ -1,17 +1,20 @@
 //! The program: the conversion that its arguments ask for, with files and the standard streams.
 ghost use Rattle.std.specs.List.{Any};
-ghost use Rattle.std.specs.Prelude.{◌≡◌, ◌≢◌, ◌≤◌, IfErr, IfOk, OnOk, Some, false, option_map, true};
+ghost use Rattle.std.specs.IoError.{error_kind};
+ghost use Rattle.std.specs.Prelude.{◌≡◌, ◌≢◌, ◌≤◌, IfErr, IfOk, OnOk, Some, codes, false, option_map, true};
 ghost use Rattle.std.specs.Io.Buffered.{writer_contents, writer_inner};
 ghost use Rattle.clap.specs.Values.{kind_of};
 ghost use Rattle.yaml_program.specs.Conversions.{AllDone, EndsOtherwise, HaveNoYaml, HaveYaml, IsDone, IsRefusedByOptions, IsUndone, OfFiles};
 ghost use Rattle.yaml_program.specs.Conversions.{RefusesConversion, SomeUndone, WroteConversion, WroteToStream, names_of};
 ghost use Rattle.yaml_program.specs.Faults as statuses;
+ghost use Rattle.yaml_program.specs.Messages.{Told, is_memory_kind, message_line};
 
 use crate::arguments::{Conversion, conversion_of, read_arguments};
 use crate::checking::check;
 use crate::each::convert_each;
-use crate::faults::{Failure, Messages, give_up, refuse, report, run_out};
+use crate::faults::{Failure, give_up, refuse, report, run_out};
 use crate::formats::Format;
+use crate::messages::Messages;
 use crate::output::{Beside, is_written_in_place};
 use crate::sending::{BUFFER_SIZE, send_buffered, send_to_sink};
 use crate::sources::{STREAM, Sources};
@@ -87,10 +90,15 @@ fn check_stream<F, I: IsTerminal + AsFd, W: Write>(
         if stdin.is_terminal() {
             let name = faults.words.name;
             let format = faults.words.format;
-            let _reported = writeln!(
-                &mut faults.sink,
-                "{name}: reading {format} from the terminal, up to Ctrl-D; {name} --help tells more"
-            );
+            let until = " from the terminal, up to Ctrl-D; ";
+            faults.tell(&[
+                name,
+                ": reading ",
+                format,
+                until,
+                name,
+                " --help tells more\n",
+            ]);
         }
         let _open = stdin.as_fd().try_clone_to_owned()?;
     }
@@ -201,9 +209,13 @@ fn convert<
 
 /// Reports why the arguments can't be read, and returns the program's status.
 fn refuse_arguments<W: Write>(error: &io::Error, faults: &mut Messages<W>) -> u8
-    ensures { result ≤ 3 }
+    ensures known { result ≤ 3 }
+    ensures memory { is_memory_kind (error_kind error.now) ≡ true
+        → (result ≡ 3) × Told W.contents faults.old faults.new (message_line faults.old.words.now.name.now (codes "out of memory")) }
+    ensures words { is_memory_kind (error_kind error.now) ≡ false
+        → (result ≡ 2) × Told W.contents faults.old faults.new (message_line faults.old.words.now.name.now (codes "an argument isn't UTF-8")) }
 {
-    if error.kind() == ErrorKind::OutOfMemory {
+    if matches!(error.kind(), ErrorKind::OutOfMemory) {
         return run_out(faults);
     }
     refuse("an argument isn't UTF-8", faults)
@@ -241,9 +253,7 @@ fn answer<R: Runtime + AllocGlobal, W: Write>(
         },
         _ => {
             match printable(rt.alloc(), error) {
-                Ok(words) => {
-                    let _reported = faults.sink.write_all(words.as_bytes());
-                }
+                Ok(words) => faults.tell(&[words.as_str()]),
                 Err(_) => {
                     run_out(faults);
                 }

@@ -13,6 +13,9 @@ pub struct Wording {
     pub output: &'static str,
     pub indent: &'static str,
     pub width: &'static str,
+    pub encoding: &'static str,
+    pub line_break: &'static str,
+    pub limit: &'static str,
     pub heading: &'static str,
     pub each: &'static str,
     pub each_long: &'static str,
@@ -47,6 +50,19 @@ macro_rules! wording {
                 "Folds a text of several words at the first space past this column, so a line may be longer; never, if it is negative. A \
                 column up to twice the indent is taken for 80. Never by default. With --flow a line also breaks between items past it.{n}Example: ",
                 $program, " --width=80 in", $ending
+            ),
+            encoding: concat!(
+                "The encoding of the output; utf-8 by default. UTF-16 begins with a byte order mark. A heading is always in UTF-8, so this option and \
+                --heading refuse each other.{n}Example: ",
+                $program, " --encoding=utf-16le in", $ending
+            ),
+            line_break: concat!(
+                "The break that ends each line, but the lines of --heading, which end with LF; lf by default.{n}Example: ",
+                $program, " --line-break=crlf in", $ending
+            ),
+            limit: concat!(
+                "The most bytes that a stream may have, without its heading. More are refused, as a write error. No limit by default.{n}Example: ",
+                $program, " --limit=1000000 in", $ending
             ),
             heading: concat!(
                 "Writes a text before all else, each line of it as a comment, after # and a space.{n}Example: ",

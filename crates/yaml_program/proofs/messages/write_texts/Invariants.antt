@@ -1,6 +1,6 @@
 use Rattle.std.proofs.Common.{◌≤◌, ◌≡◌, flat_map, length, take}
 use Rattle.std.specs.Io.KnownBytes.{Appends}
-use Rattle.yaml_program.proofs.faults.write_texts.Given as goal
+use Rattle.yaml_program.proofs.messages.write_texts.Given as goal
 
 abbrev pub invariant-loop-text : goal.invariant-loop-text
 invariant-loop-text g l =
