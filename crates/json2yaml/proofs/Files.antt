@@ -58,17 +58,17 @@ pub record SentJsonFiles (settings : JsonSettings) (files : List (List ℕ)) (wa
   pub rest : List (List ℕ × Json)
   pub utf8 : All IsUtf8 files
   pub cut : map (λ part. part.0) (first ∷ rest) ≡ flat_map texts_in files
-  pub each : AreJson settings.depth (first ∷ rest)
+  pub each : AreJson settings.values.depth (first ∷ rest)
   pub names : HaveNamesOnce settings.unique_names (flat_map texts_in files)
   pub handed : List ℕ
   pub sends : Appends before after handed
-  pub wrote : WroteTaking was (parts_events was.canonical settings.flow (first ∷ rest)) handed now
+  pub wrote : WroteTaking was (parts_events was.canonical settings.values.flow (first ∷ rest)) handed now
 
 module _ (settings : JsonSettings) where
   -- a file
   one_file : (file : List ℕ) (was now : WriterState) (before after : Option (List ℕ)) (parts : List (List ℕ × Json))
-      → map (λ part. part.0) parts ≡ texts_in file → AreJson settings.depth parts → HaveNamesOnce settings.unique_names (texts_in file)
-      → (handed : List ℕ) → Appends before after handed → WroteTaking was (parts_events was.canonical settings.flow parts) handed now
+      → map (λ part. part.0) parts ≡ texts_in file → AreJson settings.values.depth parts → HaveNamesOnce settings.unique_names (texts_in file)
+      → (handed : List ℕ) → Appends before after handed → WroteTaking was (parts_events was.canonical settings.values.flow parts) handed now
       → IsUtf8 file → SentJsonFiles settings (file ∷ []) was before now after
   one_file file was now before after [] cut each names handed sends wrote utf8 =
       let (next, later, is) = some_text file in absurd (cc (cut ∙ is))
@@ -110,18 +110,18 @@ module _ (settings : JsonSettings) where
         cut = map-append (λ (part : List ℕ × Json). part.0) parts more
             ∙ ap (λ (texts : List (List ℕ)). texts ++ map (λ part. part.0) more) sent.cut
             ∙ ap (λ (texts : List (List ℕ)). flat_map texts_in files ++ texts) other.cut ∙ sym joined;
-        each = both_json settings.depth parts more sent.each other.each;
+        each = both_json settings.values.depth parts more sent.each other.each;
         names = subst (HaveNamesOnce settings.unique_names) (sym joined)
             (both_names settings.unique_names (flat_map texts_in files) (flat_map texts_in (file ∷ [])) sent.names other.names);
         handed = (sent.handed ++ begins.bytes) ++ other.handed;
         sends = Appends-trans start holds after (sent.handed ++ begins.bytes) other.handed
             (Appends-trans start held holds sent.handed begins.bytes sent.sends begins.sends) other.sends;
         wrote = subst (λ (events : List Event). WroteTaking was events ((sent.handed ++ begins.bytes) ++ other.handed) now)
-            (both_events was.canonical settings.flow sent.first sent.rest other.first other.rest)
-            (taking_then was begun now (parts_events was.canonical settings.flow parts ++ between) (parts_events was.canonical settings.flow more)
+            (both_events was.canonical settings.values.flow sent.first sent.rest other.first other.rest)
+            (taking_then was begun now (parts_events was.canonical settings.values.flow parts ++ between) (parts_events was.canonical settings.values.flow more)
             (sent.handed ++ begins.bytes) other.handed
-            (taking_then was middle begun (parts_events was.canonical settings.flow parts) between sent.handed begins.bytes sent.wrote begins.wrote)
-            (subst (λ (canonical : Bool). WroteTaking begun (parts_events canonical settings.flow more) other.handed now) same other.wrote));
+            (taking_then was middle begun (parts_events was.canonical settings.values.flow parts) between sent.handed begins.bytes sent.wrote begins.wrote)
+            (subst (λ (canonical : Bool). WroteTaking begun (parts_events canonical settings.values.flow more) other.handed now) same other.wrote));
       }
 
   -- and all
@@ -132,7 +132,7 @@ module _ (settings : JsonSettings) where
       (λ some file middle begun now held holds later. next_sent some file was middle begun now before held holds later) files was now before after
       (λ file now holds. file_sent file was now before holds)
 
-  pub all_wrote : (files : List (List ℕ)) (before after : Option (List ℕ)) → SentStream (SentJsonFile settings) settings.writer files before after
+  pub all_wrote : (files : List (List ℕ)) (before after : Option (List ℕ)) → SentStream (SentJsonFile settings) settings.values.emitter files before after
       → WroteStream (IsYamlOfJsonFiles settings) files before after
   all_wrote files before after whole =
       let was = whole.first in
@@ -150,7 +150,7 @@ module _ (settings : JsonSettings) where
           each = sent.each;
           names = sent.names;
           stream = stream_finished whole.last.emitter bytes (emits.given ∙ new.settings)
-              (opened_events (λ c. parts_events c settings.flow parts) emits.appended new.events new.canonical)
+              (opened_events (λ c. parts_events c settings.values.flow parts) emits.appended new.events new.canonical)
               (emits.taken ∙ ap (λ (taken : List ℕ). taken ++ sent.handed) new.untaken) finishes;
         },
       )

@@ -49,9 +49,9 @@ use Rattle.json2yaml.proofs.Texts.{text_utf8}
 record Reached (settings : JsonSettings) (files : List (List ℕ)) (was begun : WriterState) : Type 0 where
   pub parts : List (List ℕ × Json)
   pub cut : map (λ part. part.0) parts ≡ flat_map texts_in files
-  pub each : AreJson settings.depth parts
+  pub each : AreJson settings.values.depth parts
   pub handed : List ℕ
-  pub emits : EmitsTaking was.emitter (events_with_separators was.canonical settings.flow parts) handed begun.emitter
+  pub emits : EmitsTaking was.emitter (events_with_separators was.canonical settings.values.flow parts) handed begun.emitter
   pub canonical : begun.canonical ≡ was.canonical
 
 module _ (settings : JsonSettings) where
@@ -78,7 +78,7 @@ module _ (settings : JsonSettings) where
         handed = sent.handed ++ begins.bytes;
         emits =
             subst (λ (events : List Event). EmitsTaking was.emitter events (sent.handed ++ begins.bytes) begun.emitter)
-            (with_between was.canonical settings.flow sent.first sent.rest) (emits_taking_then sent.wrote.emits begins.wrote.emits);
+            (with_between was.canonical settings.values.flow sent.first sent.rest) (emits_taking_then sent.wrote.emits begins.wrote.emits);
         canonical = begins.wrote.canonical ∙ sent.wrote.canonical;
       }
 
@@ -87,11 +87,11 @@ module _ (settings : JsonSettings) where
 -- A text that is JSON is refused for no tokens of its own.
 module _ (depth : ℕ) (unique : Bool) (text : List ℕ) (taken left : List Token) (split : taken ++ left ≡ tokens text) where
   explained : (error : JsonError) → TokensStopAt depth unique text taken left error → ExplainsError depth unique text error
-  explained (errors.NotJson line column says) why =
+  explained (errors.NotJson position says) why =
       (record { taken = taken; left = left; parts = split; begins = why.0.begins; breaks = why.0.breaks }, why.1)
-  explained (errors.Marked line column) why =
+  explained (errors.Marked position) why =
       (record { taken = taken; left = left; parts = split; begins = why.0.begins; breaks = why.0.breaks }, why.1)
-  explained (errors.TooDeep line column) why =
+  explained (errors.TooDeep position) why =
       record {
         taken = taken;
         next = why.next;
@@ -101,7 +101,7 @@ module _ (depth : ℕ) (unique : Bool) (text : List ℕ) (taken left : List Toke
         some = why.some;
         deeper = why.deeper;
       }
-  explained (errors.DuplicateName line column) why =
+  explained (errors.DuplicateName position) why =
       record {
         wanted = why.wanted;
         taken = taken;
@@ -128,44 +128,44 @@ module _ (depth : ℕ) (unique : Bool) (text : List ℕ) (taken left : List Toke
         (names why.wanted depth json read)
 
     never_refused : (error : JsonError) → TokensStopAt depth unique text taken left error → IsOfText error → ⊥
-    never_refused (errors.NotJson line column says) why is =
-        why_no_json depth unique text (errors.NotJson line column says) (explained (errors.NotJson line column says) why) tt json read
-    never_refused (errors.Marked line column) why is =
-        why_no_json depth unique text (errors.Marked line column) (explained (errors.Marked line column) why) tt json read
-    never_refused (errors.TooDeep line column) why is =
-        why_no_json depth unique text (errors.TooDeep line column) (explained (errors.TooDeep line column) why) tt json read
-    never_refused (errors.DuplicateName line column) why is = named_once why
+    never_refused (errors.NotJson position says) why is =
+        why_no_json depth unique text (errors.NotJson position says) (explained (errors.NotJson position says) why) tt json read
+    never_refused (errors.Marked position) why is =
+        why_no_json depth unique text (errors.Marked position) (explained (errors.Marked position) why) tt json read
+    never_refused (errors.TooDeep position) why is =
+        why_no_json depth unique text (errors.TooDeep position) (explained (errors.TooDeep position) why) tt json read
+    never_refused (errors.DuplicateName position) why is = named_once why
     never_refused (errors.Emitter code) why is = is
 
     -- nor is it stopped otherwise with status 1, if the emitter has no error of that status
     never_stopped : (was now : WriterState) → IsUtf8 text → ((code : yaml_error_t) → now.emitter.error ≡ Some code → emitter_status code ≡ 1 → ⊥)
         → (error : StreamError) → json_status error ≡ 1 → IsSoundSending was (Err error) now → StopsPartAt depth unique text taken left error → ⊥
-    never_stopped was now utf8 never (faults.Refused (errors.NotJson line column says)) status sound why =
-        never_refused (errors.NotJson line column says) why.0 tt
-    never_stopped was now utf8 never (faults.Refused (errors.Marked line column)) status sound why = never_refused (errors.Marked line column) why.0 tt
-    never_stopped was now utf8 never (faults.Refused (errors.TooDeep line column)) status sound why = never_refused (errors.TooDeep line column) why.0 tt
-    never_stopped was now utf8 never (faults.Refused (errors.DuplicateName line column)) status sound why =
-        never_refused (errors.DuplicateName line column) why.0 tt
+    never_stopped was now utf8 never (faults.Refused (errors.NotJson position says)) status sound why =
+        never_refused (errors.NotJson position says) why.0 tt
+    never_stopped was now utf8 never (faults.Refused (errors.Marked position)) status sound why = never_refused (errors.Marked position) why.0 tt
+    never_stopped was now utf8 never (faults.Refused (errors.TooDeep position)) status sound why = never_refused (errors.TooDeep position) why.0 tt
+    never_stopped was now utf8 never (faults.Refused (errors.DuplicateName position)) status sound why =
+        never_refused (errors.DuplicateName position) why.0 tt
     never_stopped was now utf8 never (faults.Refused (errors.Emitter code)) status (inl memory) why =
         let three : 3 ≡ 1 = sym (ap emitter_status memory.0) ∙ status in
         absurd (omega (arith, three))
     never_stopped was now utf8 never (faults.Refused (errors.Emitter code)) status (inr has) why = never code has status
-    never_stopped was now utf8 never (faults.NotText line column) status sound why = why.1 utf8
+    never_stopped was now utf8 never (faults.NotText position) status sound why = why.1 utf8
     never_stopped was now utf8 never (faults.ReadFailed error) status sound why = absurd (omega (arith, status))
     never_stopped was now utf8 never (faults.WriteFailed error) status sound why = absurd (omega (arith, status))
 
 -- ---- files that have a stream
 
 module _ (settings : JsonSettings) (files : List (List ℕ)) (bytes : List ℕ) (whole : IsYamlOfJsonFiles settings files bytes) (first : WriterState)
-    (new : IsNewWriter (seen_settings settings.writer) first) where
+    (new : IsNewWriter (seen_settings settings.values.emitter) first) where
   abbrev events_before : List (List ℕ × Json) → List Event
-  events_before parts = events_with_separators settings.writer.canonical settings.flow parts
+  events_before parts = events_with_separators settings.values.emitter.canonical settings.values.flow parts
 
   abbrev events_of : List (List ℕ × Json) → List Event
-  events_of parts = parts_events settings.writer.canonical settings.flow parts
+  events_of parts = parts_events settings.values.emitter.canonical settings.values.flow parts
 
   abbrev given_of : List Token → List Event
-  given_of some = tokens_events settings.writer.canonical settings.flow some
+  given_of some = tokens_events settings.values.emitter.canonical settings.values.flow some
 
   abbrev all : List Event
   all = opening ++ (events_of whole.parts ++ closing)
@@ -206,55 +206,55 @@ module _ (settings : JsonSettings) (files : List (List ℕ)) (bytes : List ℕ) 
         text_utf8 file (file_utf8 front file later (subst (All IsUtf8) (sym are) whole.utf8)) (map (λ part. part.0) refused.stops.parts)
         refused.stops.next refused.stops.later refused.stops.cut
 
-    set : now.emitter.given ≡ seen_settings settings.writer
+    set : now.emitter.given ≡ seen_settings settings.values.emitter
     set = refused.stops.emits.given ∙ reached.emits.given ∙ new.settings
 
     events_are : now.emitter.events
         ≡ (opening ++ events_before reached.parts) ++ (events_before refused.stops.parts ++ given_of refused.stops.taken)
     events_are =
         events_given
-        (λ c. events_with_separators c settings.flow refused.stops.parts ++ tokens_events c settings.flow refused.stops.taken)
+        (λ c. events_with_separators c settings.values.flow refused.stops.parts ++ tokens_events c settings.values.flow refused.stops.taken)
         refused.stops.emits.appended
-        (events_given (λ c. events_with_separators c settings.flow reached.parts) reached.emits.appended new.events new.canonical)
+        (events_given (λ c. events_with_separators c settings.values.flow reached.parts) reached.emits.appended new.events new.canonical)
         (reached.canonical ∙ new.canonical)
 
     by_rest : (rest : List (List ℕ × Json)) → earlier ++ rest ≡ whole.parts → map (λ part. part.0) rest ≡ refused.stops.next ∷ others
-        → AreJson settings.depth rest → ⊥
+        → AreJson settings.values.depth rest → ⊥
     by_rest [] same texts good = absurd (cc)
     by_rest (one ∷ rest) same texts good =
         let text : one.0 ≡ refused.stops.next = first_same one.0 refused.stops.next (map (λ part. part.0) rest) others texts in
-        let read : value settings.depth (tokens refused.stops.next) ≡ Some (one.1, []) =
-        ap (λ (t : List ℕ). value settings.depth (tokens t)) (sym text) ∙ good.0 in
-        let (more, next) = next_begins settings.writer.canonical settings.flow one rest in
+        let read : value settings.values.depth (tokens refused.stops.next) ≡ Some (one.1, []) =
+        ap (λ (t : List ℕ). value settings.values.depth (tokens t)) (sym text) ∙ good.0 in
+        let (more, next) = next_begins settings.values.emitter.canonical settings.values.flow one rest in
         let taken = given_of refused.stops.taken in
         let left = given_of refused.stops.left in
         let value_events : (taken ++ left) ++ more ≡ events_of (one ∷ rest) =
         ap (λ (events : List Event). events ++ more)
-        (sym (some_then settings.writer.canonical settings.flow refused.stops.taken refused.stops.left)
+        (sym (some_then settings.values.emitter.canonical settings.values.flow refused.stops.taken refused.stops.left)
         ∙ ap given_of
-        (spelled settings.depth settings.unique_names refused.stops.next refused.stops.taken refused.stops.left refused.stops.split one.1 read names)
-        ∙ value_given one.1 settings.writer.canonical settings.flow)
+        (spelled settings.values.depth settings.unique_names refused.stops.next refused.stops.taken refused.stops.left refused.stops.split one.1 read names)
+        ∙ value_given one.1 settings.values.emitter.canonical settings.values.flow)
         ∙ next in
         let begins : ((opening ++ events_before reached.parts) ++ (events_before refused.stops.parts ++ taken)) ++ (left ++ (more ++ closing)) ≡ all =
         ap (λ (events : List Event). opening ++ events)
         (regroup (events_before reached.parts) (events_before refused.stops.parts) taken left more closing
         ∙ ap (λ (events : List Event). events ++ closing)
         (ap (λ (events : List Event). events ++ ((taken ++ left) ++ more))
-        (sym (flat_map-append (λ (part : List ℕ × Json). json_events settings.writer.canonical settings.flow part.1 ++ between) reached.parts
+        (sym (flat_map-append (λ (part : List ℕ × Json). json_events settings.values.emitter.canonical settings.values.flow part.1 ++ between) reached.parts
         refused.stops.parts))
         ∙ ap (λ (events : List Event). events_before earlier ++ events) value_events
-        ∙ parts_begin settings.writer.canonical settings.flow earlier one rest ∙ ap events_of same)) in
-        never_stopped settings.depth settings.unique_names refused.stops.next refused.stops.taken refused.stops.left refused.stops.split one.1 read names
+        ∙ parts_begin settings.values.emitter.canonical settings.values.flow earlier one rest ∙ ap events_of same)) in
+        never_stopped settings.values.depth settings.unique_names refused.stops.next refused.stops.taken refused.stops.left refused.stops.split one.1 read names
         begun now utf8
-        (λ code has status. never_fails (seen_settings settings.writer) all bytes whole.stream
+        (λ code has status. never_fails (seen_settings settings.values.emitter) all bytes whole.stream
         ((opening ++ events_before reached.parts) ++ (events_before refused.stops.parts ++ taken)) (left ++ (more ++ closing)) now.emitter code set events_are
         promised begins has status)
         refused.error refused.status refused.sound refused.stops.why
 
     text_refused : ⊥
     text_refused =
-        let (rest, same, texts, good) = same_parts settings.depth earlier (refused.stops.next ∷ others) whole.parts
-        (both_json settings.depth reached.parts refused.stops.parts reached.each refused.stops.each) whole.each cut in
+        let (rest, same, texts, good) = same_parts settings.values.depth earlier (refused.stops.next ∷ others) whole.parts
+        (both_json settings.values.depth reached.parts refused.stops.parts reached.each refused.stops.each) whole.each cut in
         by_rest rest same texts good
 
   -- nor is the next document
@@ -273,21 +273,21 @@ module _ (settings : JsonSettings) (files : List (List ℕ)) (bytes : List ℕ) 
         absurd (cc)
     by_more (one ∷ rest) same texts =
         let emits = refuses.passed.emits in
-        let events = events_given (λ c. parts_events c settings.flow some) sent.wrote.emits.appended new.events new.canonical in
+        let events = events_given (λ c. parts_events c settings.values.flow some) sent.wrote.emits.appended new.events new.canonical in
         let begins : ((opening ++ events_of some) ++ between) ++ (events_of (one ∷ rest) ++ closing) ≡ all =
         ap (λ (events : List Event). opening ++ events)
         (sym (append_assoc (events_of some ++ between) (events_of (one ∷ rest)) closing)
         ∙ ap (λ (events : List Event). events ++ closing)
-        (ap (λ (events : List Event). events ++ events_of (one ∷ rest)) (with_between settings.writer.canonical settings.flow sent.first sent.rest)
-        ∙ parts_begin settings.writer.canonical settings.flow some one rest ∙ ap events_of same)) in
-        never_fails (seen_settings settings.writer) all bytes whole.stream ((opening ++ events_of some) ++ between) (events_of (one ∷ rest) ++ closing)
+        (ap (λ (events : List Event). events ++ events_of (one ∷ rest)) (with_between settings.values.emitter.canonical settings.values.flow sent.first sent.rest)
+        ∙ parts_begin settings.values.emitter.canonical settings.values.flow some one rest ∙ ap events_of same)) in
+        never_fails (seen_settings settings.values.emitter) all bytes whole.stream ((opening ++ events_of some) ++ between) (events_of (one ∷ rest) ++ closing)
         now.emitter refuses.error (emits.set.given ∙ sent.wrote.emits.given ∙ new.settings)
         (emits.set.events ∙ ap (λ (first : List Event). first ++ between) events) promised begins
         (some_from_result now.emitter.error refuses.error emits.answered) refuses.status
 
     document_refused : ⊥
     document_refused =
-        let (rest, same, texts, good) = same_parts settings.depth some next_texts whole.parts sent.each whole.each
+        let (rest, same, texts, good) = same_parts settings.values.depth some next_texts whole.parts sent.each whole.each
         (ap (λ (t : List (List ℕ)). t ++ next_texts) sent.cut ∙ texts_of front file later are) in
         by_more rest same texts
 
@@ -299,21 +299,21 @@ module _ (settings : JsonSettings) (files : List (List ℕ)) (bytes : List ℕ) 
 
     by_end : (rest : List (List ℕ × Json)) → sent_parts ++ rest ≡ whole.parts → map (λ part. part.0) rest ≡ [] → ⊥
     by_end [] same none =
-        never_unended (seen_settings settings.writer) (opening ++ events_of whole.parts) bytes whole.stream last.emitter
+        never_unended (seen_settings settings.values.emitter) (opening ++ events_of whole.parts) bytes whole.stream last.emitter
         (sent.wrote.emits.given ∙ new.settings)
-        (events_given (λ c. parts_events c settings.flow sent_parts) sent.wrote.emits.appended new.events new.canonical
+        (events_given (λ c. parts_events c settings.values.flow sent_parts) sent.wrote.emits.appended new.events new.canonical
         ∙ ap (λ (parts : List (List ℕ × Json)). opening ++ events_of parts) (sym (append-nil sent_parts) ∙ same))
         refuses
     by_end (one ∷ rest) same none = absurd (cc)
 
     end_refused : ⊥
     end_refused =
-        let (rest, same, texts, good) = same_parts settings.depth sent_parts [] whole.parts sent.each whole.each
+        let (rest, same, texts, good) = same_parts settings.values.depth sent_parts [] whole.parts sent.each whole.each
         (append-nil (map (λ part. part.0) sent_parts) ∙ sent.cut ∙ sym whole.cut) in
         by_end rest same texts
 
 module _ (settings : JsonSettings) (files : List (List ℕ)) (before after : Option (List ℕ))
-    (refuses : RefusesStream (SentJsonFile settings) (RefusedJsonFile settings) settings.writer files before after) (bytes : List ℕ)
+    (refuses : RefusesStream (SentJsonFile settings) (RefusedJsonFile settings) settings.values.emitter files before after) (bytes : List ℕ)
     (whole : IsYamlOfJsonFiles settings files bytes) where
   at_file : (front : List (List ℕ)) (file : List ℕ) (later : List (List ℕ)) → front ++ file ∷ later ≡ files → (middle : WriterState)
       (held : Option (List ℕ)) → SentJsonFiles settings front refuses.first before middle held
@@ -343,5 +343,5 @@ module _ (settings : JsonSettings) (files : List (List ℕ)) (before after : Opt
       (all_sent settings files refuses.first refuses.last before after sent) end
 
 pub refused_none : (settings : JsonSettings) (files : List (List ℕ)) (before after : Option (List ℕ))
-    → RefusesStream (SentJsonFile settings) (RefusedJsonFile settings) settings.writer files before after → HaveNoYaml (IsYamlOfJsonFiles settings) files
+    → RefusesStream (SentJsonFile settings) (RefusedJsonFile settings) settings.values.emitter files before after → HaveNoYaml (IsYamlOfJsonFiles settings) files
 refused_none settings files before after refuses (bytes, whole) = by_why settings files before after refuses bytes whole refuses.why

@@ -12,21 +12,19 @@ use Rattle.yaml_json.specs.Wrote.{AreJson, parts_events}
 use Rattle.yaml_json.specs.declared.error.StreamError.{StreamError}
 use Rattle.yaml_json.specs.declared.settings.JsonSettings.{JsonSettings}
 use Rattle.json2yaml.specs.Statuses.{json_status}
-use Rattle.yaml_program.specs.Options.{AreWriterSettings, IsCountOf, IsOff, IsOn, value_of}
+use Rattle.yaml_program.specs.Options.{AreValueSettings, IsOff, value_of}
 use Rattle.yaml_program.specs.Streams.{Sending}
 
 -- True if the settings are those that the options ask for.
 pub record AreJsonSettings (matches : ArgMatches) (settings : JsonSettings) : Type 0 where
-  pub writer : AreWriterSettings matches settings.writer
-  pub flow : IsOn (value_of matches (codes "flow")) settings.flow
+  pub values : AreValueSettings matches settings.values
   pub names : IsOff (value_of matches (codes "allow-duplicates")) settings.unique_names
-  pub depth : IsCountOf (value_of matches (codes "depth")) 1000 settings.depth
 
 -- ---- the bytes that a sink is given
 
 -- True if the texts of this file were sent.
 abbrev pub SentJsonFile : JsonSettings → Sending
-SentJsonFile settings = SentTexts settings.depth settings.unique_names settings.flow
+SentJsonFile settings = SentTexts settings.values.depth settings.unique_names settings.values.flow
 
 -- True if one of the texts of this file is refused, or the emitter refuses an event of it, or the bytes pass the limit there; and what comes
 -- before it was sent.
@@ -35,14 +33,14 @@ pub record RefusedJsonFile (settings : JsonSettings) (file : List ℕ) (was : Wr
   pub error : StreamError
   pub status : json_status error ≡ 1
   pub sound : IsSoundSending was (Err error) now
-  pub stops : StopsSending settings.depth settings.unique_names settings.flow file was before error now after
+  pub stops : StopsSending settings.values.depth settings.unique_names settings.values.flow file was before error now after
 
 -- True if the files are UTF-8, and the bytes are the stream of their texts, a document each, by these settings.
 pub record IsYamlOfJsonFiles (settings : JsonSettings) (files : List (List ℕ)) (bytes : List ℕ) : Type 0 where
   pub utf8 : All IsUtf8 files
   pub parts : List (List ℕ × Json)
   pub cut : map (λ part. part.0) parts ≡ flat_map texts_in files
-  pub each : AreJson settings.depth parts
+  pub each : AreJson settings.values.depth parts
   pub names : HaveNamesOnce settings.unique_names (flat_map texts_in files)
-  pub stream : IsStream (seen_settings settings.writer)
-      (opening ++ parts_events settings.writer.canonical settings.flow parts ++ closing) bytes
+  pub stream : IsStream (seen_settings settings.values.emitter)
+      (opening ++ parts_events settings.values.emitter.canonical settings.values.flow parts ++ closing) bytes

@@ -9,6 +9,6 @@ use Rattle.yaml_program.specs.Faults.{emitter_status}
 abbrev pub json_status : StreamError → ℕ
 json_status (faults.Refused (errors.Emitter error)) = emitter_status error
 json_status (faults.Refused error) = 1
-json_status (faults.NotText line column) = 1
+json_status (faults.NotText position) = 1
 json_status (faults.ReadFailed error) = 3
 json_status (faults.WriteFailed error) = 3

@@ -7,9 +7,7 @@ use crate::words;
 use clap::ArgMatches;
 use std::io::Write;
 use yaml_json::JsonSettings;
-use yaml_program::{
-    CommonSettings, Failure, Format, Sources, Wording, common_settings_of, send_stream,
-};
+use yaml_program::{Failure, Format, Sources, Wording, send_stream, value_settings_of};
 
 /// JSON texts, which are written by these settings.
 #[derive(Clone, Copy)]
@@ -22,7 +20,7 @@ impl Format for JsonFormat {
 
     ghost is_asked_by = { λ matches format. AreJsonSettings matches format.settings };
 
-    ghost allows_depth = { λ format. is_allowed format.settings.writer format.settings.flow format.settings.depth };
+    ghost allows_depth = { λ format. is_allowed format.settings.values };
 
     ghost ending = { codes ".json" };
 
@@ -31,11 +29,8 @@ impl Format for JsonFormat {
     }
 
     fn from_options(matches: &ArgMatches<'_>) -> Self {
-        let common = common_settings_of(matches);
         let settings = JsonSettings {
-            writer: common.writer,
-            flow: common.flow,
-            depth: common.depth,
+            values: value_settings_of(matches),
             unique_names: !matches.get_flag("allow-duplicates"),
         };
         JsonFormat { settings }
@@ -46,17 +41,7 @@ impl Format for JsonFormat {
     }
 
     fn allows_depth(&self) -> bool {
-        let JsonSettings {
-            writer,
-            flow,
-            depth,
-            ..
-        } = self.settings;
-        yaml_program::is_allowed(&CommonSettings {
-            writer,
-            flow,
-            depth,
-        })
+        yaml_program::is_allowed(&self.settings.values)
     }
 
     fn send_files<'a, S: Sources + AllocGlobal, W: Write>(
@@ -65,6 +50,6 @@ impl Format for JsonFormat {
         names: &[&'a str],
         sink: &mut W,
     ) -> Result<(), (Option<&'a str>, Failure)> {
-        send_stream(self, self.settings.writer, sources, names, sink)
+        send_stream(self, self.settings.values.emitter, sources, names, sink)
     }
 }

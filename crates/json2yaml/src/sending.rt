@@ -24,7 +24,7 @@ impl SendsFile for JsonFormat {
             Ok(reader) => reader,
             Err(error) => return Err(Failure::ReadFailed(error)),
         };
-        match send_json_texts(sources.alloc(), writer, &mut reader, sink, self.settings) {
+        match send_json_texts(sources.alloc(), writer, sink, &mut reader, self.settings) {
             Ok(()) => Ok(()),
             Err(error) => Err(failure_of(error)),
         }

@@ -22,7 +22,7 @@ returns-clause-refused g c = λ status file is.
     let stops = subst
     (λ (bytes : Option (List ℕ)).
     IfSome bytes
-    (λ text. StopsSending c.args.self.now.settings.depth c.args.self.now.settings.unique_names c.args.self.now.settings.flow text c.args.writer.now
+    (λ text. StopsSending c.args.self.now.settings.values.depth c.args.self.now.settings.unique_names c.args.self.now.settings.values.flow text c.args.writer.now
     (g.W.Write.contents c.args.sink.now) c.in-Err-send_json_texts.error c.send_json_texts.new.writer (g.W.Write.contents c.send_json_texts.new.sink)))
     (subst (λ (known : Option (List ℕ)). IfSome known (λ bytes. g.S.Reader.Read.remaining c.in-Ok.reader ≡ Some bytes)) is c.in-Ok.ensures.known)
     c.in-Err-send_json_texts.ensures.stopped in
