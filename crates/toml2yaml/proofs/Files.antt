@@ -12,7 +12,7 @@ use Rattle.yaml_writer.proofs.GivenAndTaken.{begun_taken, stream_finished, takin
 use Rattle.yaml_program.specs.Conversions.{WroteStream}
 use Rattle.yaml_program.specs.Streams.{BeganDocument, SentFiles, SentStream}
 use Rattle.yaml_program.proofs.FilesInTurn.{each_sent}
-use Rattle.yaml_toml.specs.declared.settings.TomlSettings.{TomlSettings}
+use Rattle.yaml_writer.specs.declared.settings.ValueSettings.{ValueSettings}
 use Rattle.toml2yaml.specs.Conversions.{AreToml, IsYamlOfTomlFiles, SentTomlFile, toml_parts_events, root_events}
 
 -- ---- documents after others
@@ -40,7 +40,7 @@ both_events canonical in_flow first (second ∷ rest) next =
 
 -- True if these files, at least one, are documents of TOML, their events were given, a document each, and the sink was given the bytes that
 -- were taken.
-pub record SentTomlFiles (settings : TomlSettings) (files : List (List ℕ)) (was : WriterState) (before : Option (List ℕ)) (now : WriterState)
+pub record SentTomlFiles (settings : ValueSettings) (files : List (List ℕ)) (was : WriterState) (before : Option (List ℕ)) (now : WriterState)
     (after : Option (List ℕ)) : Type 0 where
   pub first : List ℕ × TomlNodes
   pub rest : List (List ℕ × TomlNodes)
@@ -50,7 +50,7 @@ pub record SentTomlFiles (settings : TomlSettings) (files : List (List ℕ)) (wa
   pub sends : Appends before after handed
   pub wrote : WroteTaking was (toml_parts_events was.canonical settings.flow (first ∷ rest)) handed now
 
-module _ (settings : TomlSettings) where
+module _ (settings : ValueSettings) where
   -- a file
   file_sent : (file : List ℕ) (was now : WriterState) (held after : Option (List ℕ)) → SentTomlFile settings file was held now after
       → SentTomlFiles settings (file ∷ []) was held now after
@@ -102,7 +102,7 @@ module _ (settings : TomlSettings) where
       (λ some file middle begun now held holds later. next_sent some file was middle begun now before held holds later) files was now before after
       (λ file now holds. file_sent file was now before holds)
 
-  pub all_wrote : (files : List (List ℕ)) (before after : Option (List ℕ)) → SentStream (SentTomlFile settings) settings.writer files before after
+  pub all_wrote : (files : List (List ℕ)) (before after : Option (List ℕ)) → SentStream (SentTomlFile settings) settings.emitter files before after
       → WroteStream (IsYamlOfTomlFiles settings) files before after
   all_wrote files before after whole =
       let was = whole.first in

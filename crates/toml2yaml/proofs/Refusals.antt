@@ -20,7 +20,7 @@ use Rattle.yaml_toml.specs.Failing.{GaveFirst}
 use Rattle.yaml_toml.specs.WritingCalls.{DocumentUnwritten}
 use Rattle.yaml_toml.specs.declared.error.TomlError.{TomlError}
 use Rattle.yaml_toml.specs.declared.error.TomlError.TheVariants as errors
-use Rattle.yaml_toml.specs.declared.settings.TomlSettings.{TomlSettings}
+use Rattle.yaml_writer.specs.declared.settings.ValueSettings.{ValueSettings}
 use Rattle.yaml_program.specs.Conversions.{HaveNoYaml}
 use Rattle.yaml_program.specs.Faults.{emitter_status}
 use Rattle.yaml_program.specs.Streams.{BeganDocument, RefusesDocument, RefusesEnd, RefusesNext, RefusesSome, RefusesStream, SentFiles}
@@ -91,7 +91,7 @@ regroup a g l m z = simp append_assoc
 -- ---- files before the one that is refused
 
 -- These files were sent, and a document was begun after each.
-record Reached (settings : TomlSettings) (files : List (List ℕ)) (was begun : WriterState) : Type 0 where
+record Reached (settings : ValueSettings) (files : List (List ℕ)) (was begun : WriterState) : Type 0 where
   pub parts : List (List ℕ × TomlNodes)
   pub are : map (λ part. part.0) parts ≡ files
   pub each : AreToml settings.depth parts
@@ -99,7 +99,7 @@ record Reached (settings : TomlSettings) (files : List (List ℕ)) (was begun : 
   pub emits : EmitsTaking was.emitter (before_next was.canonical settings.flow parts) handed begun.emitter
   pub canonical : begun.canonical ≡ was.canonical
 
-module _ (settings : TomlSettings) where
+module _ (settings : ValueSettings) where
   reached_none : (was : WriterState) → Reached settings [] was was
   reached_none was =
       record {
@@ -133,7 +133,7 @@ none_is_some : (root : TomlNodes) → ◌≡◌ {A = Option TomlNodes} None (Som
 none_is_some root is = cc
 
 -- A document that nests no deeper than is allowed isn't refused, if the emitter has no error of status 1.
-module _ (settings : TomlSettings) (file : List ℕ) (root : TomlNodes) (read : ordered_document file ≡ Some root) (nests : NestsWithin settings.depth file)
+module _ (settings : ValueSettings) (file : List ℕ) (root : TomlNodes) (read : ordered_document file ≡ Some root) (nests : NestsWithin settings.depth file)
     (was now : WriterState) (never : (code : yaml_error_t) → now.emitter.error ≡ Some code → emitter_status code ≡ 1 → ⊥) where
   not_deeper : NestsDeeper settings.depth file → ⊥
   not_deeper deep =
@@ -148,21 +148,21 @@ module _ (settings : TomlSettings) (file : List ℕ) (root : TomlNodes) (read : 
   by_code code status (inr has) = never code has status
 
   never_unwritten : (error : TomlError) → toml_status error ≡ 1 → DocumentUnwritten settings file was error now → ⊥
-  never_unwritten (errors.NotToml line column) status stops = none_is_some root (sym (stops.refused tt) ∙ read)
-  never_unwritten (errors.TooDeepToRead line column) status stops = none_is_some root (sym (stops.refused tt) ∙ read)
-  never_unwritten (errors.DefinedAgain name first_line first_column line column) status stops = none_is_some root (sym (stops.refused tt) ∙ read)
+  never_unwritten (errors.NotToml position) status stops = none_is_some root (sym (stops.refused tt) ∙ read)
+  never_unwritten (errors.TooDeepToRead position) status stops = none_is_some root (sym (stops.refused tt) ∙ read)
+  never_unwritten (errors.DefinedAgain name first position) status stops = none_is_some root (sym (stops.refused tt) ∙ read)
   never_unwritten errors.TooDeep status stops = not_deeper stops.deep
   never_unwritten (errors.Emitter code) status stops = by_code code status stops.sound
 
 -- ---- files that have a stream
 
-module _ (settings : TomlSettings) (files : List (List ℕ)) (bytes : List ℕ) (whole : IsYamlOfTomlFiles settings files bytes) (first : WriterState)
-    (new : IsNewWriter (seen_settings settings.writer) first) where
+module _ (settings : ValueSettings) (files : List (List ℕ)) (bytes : List ℕ) (whole : IsYamlOfTomlFiles settings files bytes) (first : WriterState)
+    (new : IsNewWriter (seen_settings settings.emitter) first) where
   abbrev events_before : List (List ℕ × TomlNodes) → List Event
-  events_before parts = before_next settings.writer.canonical settings.flow parts
+  events_before parts = before_next settings.emitter.canonical settings.flow parts
 
   abbrev events_of : List (List ℕ × TomlNodes) → List Event
-  events_of parts = toml_parts_events settings.writer.canonical settings.flow parts
+  events_of parts = toml_parts_events settings.emitter.canonical settings.flow parts
 
   abbrev all : List Event
   all = opening ++ (events_of whole.parts ++ closing)
@@ -185,10 +185,10 @@ module _ (settings : TomlSettings) (files : List (List ℕ)) (bytes : List ℕ) 
       emitter_sound : GaveFirst settings.depth (root_events begun.canonical settings.flow one.1) begun now → (code : yaml_error_t)
           → now.emitter.error ≡ Some code → emitter_status code ≡ 1 → ⊥
       emitter_sound gave code has status =
-          let (more, next) = next_begins settings.writer.canonical settings.flow one rest in
-          let begins : gave.given ++ gave.begins.rest ≡ root_events settings.writer.canonical settings.flow one.1 =
+          let (more, next) = next_begins settings.emitter.canonical settings.flow one rest in
+          let begins : gave.given ++ gave.begins.rest ≡ root_events settings.emitter.canonical settings.flow one.1 =
           gave.begins.parts ∙ ap (λ (c : Bool). root_events c settings.flow one.1) (reached.canonical ∙ new.canonical) in
-          never_fails (seen_settings settings.writer) all bytes whole.stream ((opening ++ events_before reached.parts) ++ gave.given)
+          never_fails (seen_settings settings.emitter) all bytes whole.stream ((opening ++ events_before reached.parts) ++ gave.given)
           (gave.begins.rest ++ (more ++ closing)) now.emitter code
           (gave.gave.emits.set.given ∙ reached.emits.given ∙ new.settings)
           (gave.gave.emits.set.events ∙ ap (λ (first : List Event). first ++ gave.given) events_are) promised
@@ -197,7 +197,7 @@ module _ (settings : TomlSettings) (files : List (List ℕ)) (bytes : List ℕ) 
           ∙ ap (λ (events : List Event). events ++ closing)
           (ap (λ (events : List Event). events_before reached.parts ++ (events ++ more)) begins
           ∙ ap (λ (events : List Event). events_before reached.parts ++ events) next
-          ∙ parts_begin settings.writer.canonical settings.flow reached.parts one rest ∙ ap events_of same)))
+          ∙ parts_begin settings.emitter.canonical settings.flow reached.parts one rest ∙ ap events_of same)))
           has status
 
       not_refused : RefusesFile settings file begun now → ⊥
@@ -233,9 +233,9 @@ module _ (settings : TomlSettings) (files : List (List ℕ)) (bytes : List ℕ) 
         ap (λ (events : List Event). opening ++ events)
         (sym (append_assoc (events_of some ++ between) (events_of (one ∷ rest)) closing)
         ∙ ap (λ (events : List Event). events ++ closing)
-        (ap (λ (events : List Event). events ++ events_of (one ∷ rest)) (with_between settings.writer.canonical settings.flow sent.first sent.rest)
-        ∙ parts_begin settings.writer.canonical settings.flow some one rest ∙ ap events_of same)) in
-        never_fails (seen_settings settings.writer) all bytes whole.stream ((opening ++ events_of some) ++ between) (events_of (one ∷ rest) ++ closing)
+        (ap (λ (events : List Event). events ++ events_of (one ∷ rest)) (with_between settings.emitter.canonical settings.flow sent.first sent.rest)
+        ∙ parts_begin settings.emitter.canonical settings.flow some one rest ∙ ap events_of same)) in
+        never_fails (seen_settings settings.emitter) all bytes whole.stream ((opening ++ events_of some) ++ between) (events_of (one ∷ rest) ++ closing)
         now.emitter refuses.error (emits.set.given ∙ sent.wrote.emits.given ∙ new.settings)
         (emits.set.events ∙ ap (λ (first : List Event). first ++ between) events) promised begins
         (some_from_result now.emitter.error refuses.error emits.answered) refuses.status
@@ -254,7 +254,7 @@ module _ (settings : TomlSettings) (files : List (List ℕ)) (bytes : List ℕ) 
 
     by_end : (rest : List (List ℕ × TomlNodes)) → sent_parts ++ rest ≡ whole.parts → map (λ part. part.0) rest ≡ [] → ⊥
     by_end [] same none =
-        never_unended (seen_settings settings.writer) (opening ++ events_of whole.parts) bytes whole.stream last.emitter
+        never_unended (seen_settings settings.emitter) (opening ++ events_of whole.parts) bytes whole.stream last.emitter
         (sent.wrote.emits.given ∙ new.settings)
         (events_given (λ c. toml_parts_events c settings.flow sent_parts) sent.wrote.emits.appended new.events new.canonical
         ∙ ap (λ (parts : List (List ℕ × TomlNodes)). opening ++ events_of parts) (sym (append-nil sent_parts) ∙ same))
@@ -267,8 +267,8 @@ module _ (settings : TomlSettings) (files : List (List ℕ)) (bytes : List ℕ) 
         (append-nil (map (λ part. part.0) sent_parts) ∙ sent.are ∙ sym whole.are) in
         by_end rest same texts
 
-module _ (settings : TomlSettings) (files : List (List ℕ)) (before after : Option (List ℕ))
-    (refuses : RefusesStream (SentTomlFile settings) (RefusedTomlFile settings) settings.writer files before after) (bytes : List ℕ)
+module _ (settings : ValueSettings) (files : List (List ℕ)) (before after : Option (List ℕ))
+    (refuses : RefusesStream (SentTomlFile settings) (RefusedTomlFile settings) settings.emitter files before after) (bytes : List ℕ)
     (whole : IsYamlOfTomlFiles settings files bytes) where
   at_file : (front : List (List ℕ)) (file : List ℕ) (later : List (List ℕ)) → front ++ file ∷ later ≡ files → (middle : WriterState)
       (held : Option (List ℕ)) → SentTomlFiles settings front refuses.first before middle held
@@ -297,6 +297,6 @@ module _ (settings : TomlSettings) (files : List (List ℕ)) (before after : Opt
       end_refused settings files bytes whole refuses.first refuses.is_new refuses.last before after
       (all_sent settings files refuses.first refuses.last before after sent) end
 
-pub refused_none : (settings : TomlSettings) (files : List (List ℕ)) (before after : Option (List ℕ))
-    → RefusesStream (SentTomlFile settings) (RefusedTomlFile settings) settings.writer files before after → HaveNoYaml (IsYamlOfTomlFiles settings) files
+pub refused_none : (settings : ValueSettings) (files : List (List ℕ)) (before after : Option (List ℕ))
+    → RefusesStream (SentTomlFile settings) (RefusedTomlFile settings) settings.emitter files before after → HaveNoYaml (IsYamlOfTomlFiles settings) files
 refused_none settings files before after refuses (bytes, whole) = by_why settings files before after refuses bytes whole refuses.why

@@ -1,6 +1,5 @@
--- The settings that the options ask for, and the YAML of several files of TOML, which a sink is given.
+-- The YAML of several files of TOML, which a sink is given.
 use Rattle.std.specs.Prelude.{◌≡◌, ◌⊎◌, ℕ, Some, List, [], ◌∷◌, ◌++◌, codes, map, Bool, IsUtf8}
-use Rattle.clap.specs.declared.parser.matches.ArgMatches.{ArgMatches}
 use Rattle.toml_ordered.specs.Data.{TomlNodes, table}
 use Rattle.toml_ordered.specs.Grammar.{ordered_document}
 use Rattle.toml_ordered.specs.declared.tree.Origin.TheVariants.{Header}
@@ -13,16 +12,9 @@ use Rattle.yaml_toml.specs.Events.{toml_events}
 use Rattle.yaml_toml.specs.Walk.{WroteToml}
 use Rattle.yaml_toml.specs.WritingCalls.{DocumentUnwritten}
 use Rattle.yaml_toml.specs.declared.error.TomlError.{TomlError}
-use Rattle.yaml_toml.specs.declared.settings.TomlSettings.{TomlSettings}
-use Rattle.yaml_program.specs.Options.{AreWriterSettings, IsCountOf, IsOn, value_of}
+use Rattle.yaml_writer.specs.declared.settings.ValueSettings.{ValueSettings}
 use Rattle.yaml_program.specs.Streams.{Sending}
 use Rattle.toml2yaml.specs.Statuses.{toml_status}
-
--- True if the settings are those that the options ask for.
-pub record AreTomlSettings (matches : ArgMatches) (settings : TomlSettings) : Type 0 where
-  pub writer : AreWriterSettings matches settings.writer
-  pub flow : IsOn (value_of matches (codes "flow")) settings.flow
-  pub depth : IsCountOf (value_of matches (codes "depth")) 1000 settings.depth
 
 -- ---- the bytes that a sink is given
 
@@ -47,27 +39,27 @@ abbrev pub WroteFile : (depth : ℕ) → (in_flow : Bool) → List ℕ → Write
 WroteFile depth in_flow file was now = IsUtf8 file × NestsWithin depth file × WroteToml in_flow file was now
 
 -- The same, and the sink was given nothing.
-abbrev pub SentTomlFile : TomlSettings → Sending
+abbrev pub SentTomlFile : ValueSettings → Sending
 SentTomlFile settings file was before now after = WroteFile settings.depth settings.flow file was now × (after ≡ before)
 
 -- True if the file's document isn't written, since it is refused, or since the emitter refuses an event of it, or the bytes pass the limit.
-pub record UnwrittenFile (settings : TomlSettings) (file : List ℕ) (was now : WriterState) : Type 0 where
+pub record UnwrittenFile (settings : ValueSettings) (file : List ℕ) (was now : WriterState) : Type 0 where
   pub error : TomlError
   pub status : toml_status error ≡ 1
   pub unwritten : DocumentUnwritten settings file was error now
 
 -- True if the file isn't UTF-8, or its document isn't written.
-abbrev pub RefusesFile : TomlSettings → List ℕ → WriterState → WriterState → Type 0
+abbrev pub RefusesFile : ValueSettings → List ℕ → WriterState → WriterState → Type 0
 RefusesFile settings file was now = (IsUtf8 file → ⊥) ⊎ UnwrittenFile settings file was now
 
 -- The same, and the sink was given nothing.
-abbrev pub RefusedTomlFile : TomlSettings → Sending
+abbrev pub RefusedTomlFile : ValueSettings → Sending
 RefusedTomlFile settings file was before now after = RefusesFile settings file was now × (after ≡ before)
 
 -- True if the bytes are the stream of these files, a document each, by these settings.
-pub record IsYamlOfTomlFiles (settings : TomlSettings) (files : List (List ℕ)) (bytes : List ℕ) : Type 0 where
+pub record IsYamlOfTomlFiles (settings : ValueSettings) (files : List (List ℕ)) (bytes : List ℕ) : Type 0 where
   pub parts : List (List ℕ × TomlNodes)
   pub are : map (λ part. part.0) parts ≡ files
   pub each : AreToml settings.depth parts
-  pub stream : IsStream (seen_settings settings.writer)
-      (opening ++ toml_parts_events settings.writer.canonical settings.flow parts ++ closing) bytes
+  pub stream : IsStream (seen_settings settings.emitter)
+      (opening ++ toml_parts_events settings.emitter.canonical settings.flow parts ++ closing) bytes

@@ -1,28 +1,27 @@
 //! TOML, as the format of the program.
 ghost use Rattle.std.specs.Prelude.{codes};
-ghost use Rattle.toml2yaml.specs.Conversions.{AreTomlSettings, IsYamlOfTomlFiles};
+ghost use Rattle.toml2yaml.specs.Conversions.{IsYamlOfTomlFiles};
 ghost use Rattle.yaml_program.specs.Bounds.{is_allowed};
+ghost use Rattle.yaml_program.specs.Options.{AreValueSettings};
 
 use crate::words;
 use clap::ArgMatches;
 use std::io::Write;
-use yaml_program::{
-    CommonSettings, Failure, Format, Sources, Wording, common_settings_of, send_stream,
-};
-use yaml_toml::TomlSettings;
+use yaml_program::{Failure, Format, Sources, Wording, send_stream, value_settings_of};
+use yaml_writer::ValueSettings;
 
 /// TOML documents, which are written by these settings.
 #[derive(Clone, Copy)]
 pub struct TomlFormat {
-    pub settings: TomlSettings,
+    pub settings: ValueSettings,
 }
 
 impl Format for TomlFormat {
     ghost is_yaml = { λ format. IsYamlOfTomlFiles format.settings };
 
-    ghost is_asked_by = { λ matches format. AreTomlSettings matches format.settings };
+    ghost is_asked_by = { λ matches format. AreValueSettings matches format.settings };
 
-    ghost allows_depth = { λ format. is_allowed format.settings.writer format.settings.flow format.settings.depth };
+    ghost allows_depth = { λ format. is_allowed format.settings };
 
     ghost ending = { codes ".toml" };
 
@@ -31,13 +30,9 @@ impl Format for TomlFormat {
     }
 
     fn from_options(matches: &ArgMatches<'_>) -> Self {
-        let common = common_settings_of(matches);
-        let settings = TomlSettings {
-            writer: common.writer,
-            flow: common.flow,
-            depth: common.depth,
-        };
-        TomlFormat { settings }
+        TomlFormat {
+            settings: value_settings_of(matches),
+        }
     }
 
     fn ending(&self) -> &'static str {
@@ -45,16 +40,7 @@ impl Format for TomlFormat {
     }
 
     fn allows_depth(&self) -> bool {
-        let TomlSettings {
-            writer,
-            flow,
-            depth,
-        } = self.settings;
-        yaml_program::is_allowed(&CommonSettings {
-            writer,
-            flow,
-            depth,
-        })
+        yaml_program::is_allowed(&self.settings)
     }
 
     fn send_files<'a, S: Sources + AllocGlobal, W: Write>(
@@ -63,6 +49,6 @@ impl Format for TomlFormat {
         names: &[&'a str],
         sink: &mut W,
     ) -> Result<(), (Option<&'a str>, Failure)> {
-        send_stream(self, self.settings.writer, sources, names, sink)
+        send_stream(self, self.settings.emitter, sources, names, sink)
     }
 }

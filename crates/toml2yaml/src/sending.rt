@@ -9,16 +9,17 @@ use crate::formats::TomlFormat;
 use std::alloc::Global;
 use std::io::Write;
 use std::str;
-use yaml_base::place_of;
+use yaml_base::position_of;
 use yaml_program::{Failure, SendsFile, Sources, read_file};
-use yaml_toml::{TomlSettings, Writer, write_toml};
+use yaml_toml::{Writer, write_toml};
+use yaml_writer::ValueSettings;
 
 /// Gives a writer the events of a document, if the bytes are one.
 fn write_bytes(
     alloc: Global,
     writer: &mut Writer<Global>,
     bytes: &[u8],
-    settings: &TomlSettings,
+    settings: &ValueSettings,
 ) -> Result<(), Failure>
     requires { IsBare writer.old }
     ensures bare { OnOk result (IsBare writer.new) }
@@ -28,8 +29,8 @@ fn write_bytes(
     let text = match str::from_utf8(bytes) {
         Ok(text) => text,
         Err(error) => {
-            let (line, column) = place_of(bytes, error.valid_up_to());
-            return Err(refused(line, column, "not UTF-8"));
+            let position = position_of(bytes, error.valid_up_to());
+            return Err(refused(position, "not UTF-8"));
         }
     };
     match write_toml(alloc, writer, text, *settings) {
