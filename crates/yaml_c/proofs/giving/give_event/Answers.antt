@@ -1,7 +1,6 @@
 use Rattle.yaml_c.proofs.Common.{Some, ap}
 use Rattle.yaml_base.specs.Seen.{seen_event}
 use Rattle.yaml_c.specs.Giving.{given_event}
-use Rattle.yaml_emitter.proofs.Keeping.{untaken_is_told}
 use Rattle.yaml_c.proofs.giving.give_event.Goals as goal
 
 pub returns-in-Owned-clause-gave : goal.returns-in-Owned-clause-gave
@@ -11,9 +10,3 @@ returns-in-Owned-clause-gave g c =
       ap (λ given. Some (given_event given)) c.in-Owned.is,
       record { emits = emit.emits; unready = emit.unready; kept = emit.kept },
     )
-
-pub returns-in-Scalar-then-has_taken-clause-gave : goal.returns-in-Scalar-then-has_taken-clause-gave
-returns-in-Scalar-then-has_taken-clause-gave g c = ?
-
-pub returns-in-Scalar-else-has_taken-clause-gave : goal.returns-in-Scalar-else-has_taken-clause-gave
-returns-in-Scalar-else-has_taken-clause-gave g c = ?
