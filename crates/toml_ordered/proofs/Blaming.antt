@@ -8,7 +8,7 @@ use Rattle.toml_parser.specs.Lexical.{Read, first, skip_blank}
 use Rattle.toml_parser.specs.Numbers.{unquoted, word_len}
 use Rattle.toml_parser.specs.Strings.{Key, key_after, simple_key}
 use Rattle.toml.specs.Parse.{after_element, key_equals, read_map}
-use Rattle.toml_ordered.proofs.Options.{option_map_some}
+use Rattle.std.proofs.NetLemmas.Options.{map_some}
 use Rattle.toml_ordered.proofs.LongKeys.{long_begins, long_nameless}
 use Rattle.toml_ordered.proofs.Turns.{items_turn, members_turn, val_array, val_atom, val_deep, val_table}
 use Rattle.toml_ordered.specs.Data.{Items, TomlNode, TomlNodes, array, no_items, no_nodes, push_item, table}
@@ -161,7 +161,7 @@ module _ (depth : ℕ) (start : List ℕ) where
       option_and_then_some {P = ReadsPairs room to} (next_pair depth) (after_pairs depth m start) to is λ p at next.
       option_and_then_some {P = ReadsPairs room to} _ (keyval (val depth) (skip_blank p.1)) to next λ e read pair.
       option_and_then_some {P = ReadsPairs room to} _ (put e.0.0 e.0.1 p.0) to pair λ more defined ends.
-      option_map_some {P = ReadsPairs room to} (λ rest. (more, rest)) (after_element 125 e.1) to ends λ r element same.
+      map_some {P = ReadsPairs room to} (λ rest. (more, rest)) (after_element 125 e.1) to ends λ r element same.
       elim (reads_pairs m room p at) [
         | inl none ↦ inl none
         | inr on ↦ by_left p e more r read defined element same on.0 on.1 (cases_lt 0 on.0)

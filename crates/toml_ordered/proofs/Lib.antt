@@ -1,4 +1,3 @@
-pub mod Options
 pub mod Trees
 pub mod KeyPlaces
 pub mod FirstKeys

@@ -14,7 +14,7 @@ use Rattle.toml_ordered.specs.Sorted.{sorted_value, sorted_items, sorted_keys}
 use Rattle.toml_ordered.specs.Tables.{key_value, std_table, array_table, Expression, TomlDocument, put, define}
 use Rattle.toml_ordered.specs.declared.tree.Origin.TheVariants.{Closed}
 use Rattle.toml.proofs.Turns.{val_deep}
-use Rattle.toml_ordered.proofs.Options.{option_map_some}
+use Rattle.std.proofs.NetLemmas.Options.{map_some}
 use Rattle.toml_ordered.proofs.SortedScalars.{same_scalar}
 use Rattle.toml_ordered.proofs.SortedTables.{mapped, closed_keys, sorted-push, seen, seen_document, seen_definition, IsComplete, DefinesComplete, same_put}
 use Rattle.toml_ordered.proofs.SortedTables.{complete_sealed, same_define}
@@ -62,7 +62,7 @@ same_atom text =
 complete_keyval : (depth : ℕ) (text : List ℕ) (e : (Key × TomlNode) × List ℕ) → keyval (val depth) text ≡ Some e → IsComplete e.0.1
 complete_keyval depth text e is =
     option_and_then_some _ (key_equals text) e is λ k named read.
-    option_map_some (λ r. ((k.0, r.0), r.1)) (val depth k.1) e read λ v found same.
+    map_some (λ r. ((k.0, r.0), r.1)) (val depth k.1) e read λ v found same.
     subst (λ (d : (Key × TomlNode) × List ℕ). IsComplete d.0.1) same
     (subst IsComplete (val_sealed depth k.1 v.0 v.1 found) (complete_sealed v.0))
 
@@ -153,10 +153,10 @@ complete_expression text e = by (first text == 91 && slice_index text 1 == 91) (
         → CompletesIn e
     by true b is =
         option_and_then_some _ (header_key (drop 2 text)) e is λ k named ends.
-        option_map_some (λ rest. ((k.0, array_table), rest)) (after_byte 93 k.1) e ends λ rest closed same. subst CompletesIn same tt
-    by false true is = option_map_some (λ k. ((k.0, std_table), k.1)) (header_key (drop 1 text)) e is λ k named same. subst CompletesIn same tt
+        map_some (λ rest. ((k.0, array_table), rest)) (after_byte 93 k.1) e ends λ rest closed same. subst CompletesIn same tt
+    by false true is = map_some (λ k. ((k.0, std_table), k.1)) (header_key (drop 1 text)) e is λ k named same. subst CompletesIn same tt
     by false false is =
-        option_map_some (λ r. ((r.0.0, key_value r.0.1), r.1)) (keyval (val recursion_limit) text) e is λ r read same.
+        map_some (λ r. ((r.0.0, key_value r.0.1), r.1)) (keyval (val recursion_limit) text) e is λ r read same.
         subst CompletesIn same (complete_keyval recursion_limit text r read)
 
 same_line : (text : List ℕ) → option_map seen_expression (line text) ≡ p.line text

@@ -10,7 +10,7 @@ use Rattle.toml_parser.specs.declared.scalar.Scalar.{Scalar}
 use Rattle.toml_parser.specs.declared.scalar.Scalar.TheVariants as scalar
 use Rattle.toml_parser.specs.Lexical.{Read, first, skip_blank}
 use Rattle.toml.specs.Parse.{read_map, after_element, key_equals, skip_bom}
-use Rattle.toml_ordered.proofs.Options.{option_map_some}
+use Rattle.std.proofs.NetLemmas.Options.{map_some}
 use Rattle.toml_ordered.specs.Data.{TomlNode, string, decimal, infinity, not_a_number, Items, no_items, array, table, push_item, TomlNodes, no_nodes}
 use Rattle.toml_ordered.specs.Keys.{sealed}
 use Rattle.toml_ordered.specs.Tables.{put, TomlDocument, Expression, define, Edit, along, passed, get_node, replace, append, made_by, Definition, redefine}
@@ -168,7 +168,7 @@ rest_is s d rest = by (word_len s == 0)
         → rest ≡ drop (word_len s) s
     by true e = absurd (none-some (d, rest) e)
     by false e =
-        option_map_some (λ x. (x, drop (word_len s) s)) (word_value (take (word_len s) s)) (d, rest) e λ x is same. sym (ap (λ (p : Scalar × List ℕ). p.1) same)
+        map_some (λ x. (x, drop (word_len s) s)) (word_value (take (word_len s) s)) (d, rest) e λ x is same. sym (ap (λ (p : Scalar × List ℕ). p.1) same)
 
 word_taken : (s rest : List ℕ) (n : ℕ) → rest ≡ drop n s → take (length s - length rest) s ≡ take n s
 word_taken s rest n is = by (cases_lt (length s) n)
@@ -190,7 +190,7 @@ atom_scalar s d rest x other read is =
 read_sealed : {A : Type 0} (f : A → TomlNode) → ((a : A) → sealed (f a) ≡ f a) → (o : Read A) (x : TomlNode) (rest : List ℕ) → read_map f o ≡ Some (x, rest)
     → sealed x ≡ x
 read_sealed f all o x rest read =
-    option_map_some (λ r. (f r.0, r.1)) o (x, rest) read λ r is same. subst (λ (y : TomlNode × List ℕ). sealed y.0 ≡ y.0) same (all r.0)
+    map_some (λ r. (f r.0, r.1)) o (x, rest) read λ r is same. subst (λ (y : TomlNode × List ℕ). sealed y.0 ≡ y.0) same (all r.0)
 
 float_sealed : (word : List ℕ) → sealed (float_node word) ≡ float_node word
 float_sealed word = by (bytes_eq (without_sign word) (codes "inf")) (bytes_eq (without_sign word) (codes "nan"))
