@@ -164,7 +164,7 @@ fn give_borrowed<A: Allocator + Copy>(
     content: &ScalarContent,
 ) -> Answer {
     assert!(rt; emitter.has_output());
-    yaml_emitter_emit_scalar(emitter, content).into_result()
+    yaml_emitter_emit_scalar(emitter, content)
 }
 
 // A scalar that is queued takes memory: if it gets none, nothing changes, and it is taken when it comes again. One
@@ -185,7 +185,9 @@ fn give_refused<A: Allocator + Copy>(
     }
     let got = (answer, emitter.error(), emitter.held());
     equal(rt, &got, &(Err(yaml_error_t::Memory), None, held));
+    equal(rt, &emitter.has_taken(answer), &false);
     let again = give_borrowed(rt, emitter, content);
+    equal(rt, &emitter.has_taken(again), &true);
     equal(rt, &emitter.held(), &held.saturating_add(1));
     again
 }

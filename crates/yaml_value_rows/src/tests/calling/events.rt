@@ -98,7 +98,7 @@ fn emit_text(emitter: &mut yaml_emitter_t<Global>, value: &str) -> Result<(), ya
         quoted_implicit: true,
         style: YAML_ANY_SCALAR_STYLE,
     };
-    yaml_emitter_emit_scalar(emitter, &content).into_result()
+    yaml_emitter_emit_scalar(emitter, &content)
 }
 
 /// Emits a mapping in which a sequence occurs once, and then as an alias.
