@@ -6,7 +6,7 @@ use Rattle.yaml_base.proofs.Common.{meant_text, slice_split, or_from, nat_tests}
 use Rattle.yaml_base.proofs.NumberCuts.{digit_unlike, no_word_of_core}
 use Rattle.yaml_base.specs.values.Resolved.{some_if}
 use Rattle.std.proofs.lemmas.Option.{cond_some, none-some, option_and_then_some, same_Some}
-use Rattle.toml_ordered.proofs.Options.{option_map_some}
+use Rattle.std.proofs.NetLemmas.Options.{map_some}
 use Rattle.std.proofs.lemmas.List.{Splits.slice_split_none, Sums.AllPass-from_list_all}
 use Rattle.std.specs.List.{All}
 use Rattle.std.proofs.Common.{get_or}
@@ -127,7 +127,7 @@ valid_by date None None moment valid e =
 valid_by date None (Some offset) moment valid e = absurd (none-some moment e)
 valid_by date (Some time) None moment valid e = absurd (none-some moment e)
 valid_by date (Some time) (Some offset) moment valid e =
-    option_map_some {B = Moment} (λ clock. record { date = date; time = Some clock }) (time_of time offset) moment e λ clock is same.
+    map_some {B = Moment} (λ clock. record { date = date; time = Some clock }) (time_of time offset) moment e λ clock is same.
     subst (λ (m : Moment). is_moment m ≡ true) same (and_from (is_calendar_date date) (is_clock_time clock) valid (valid_time time offset clock is))
 
 pub valid_moment : (d : Datetime) (moment : Moment) → moment_of d ≡ Some moment → is_moment moment ≡ true
