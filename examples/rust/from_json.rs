@@ -4,17 +4,29 @@ mod yaml_c;
 use std::io::Write;
 use yaml_c::Report;
 
+/// How values are written: `struct yaml_c_value_settings`.
+#[repr(C)]
+#[derive(Default)]
+struct ValueSettings {
+    flow: u32,
+    canonical: u32,
+    no_unicode: u32,
+    line_breaks_1_2: u32,
+    no_portable: u32,
+    no_indented_sequences: u32,
+    no_literal_blanks: u32,
+    double_quotes: u32,
+    indent: i32,
+    width: i32,
+    depth: usize,
+}
+
 /// How JSON is written: `struct yaml_c_json_settings`.
 #[repr(C)]
 #[derive(Default)]
 struct Settings {
-    flow: u32,
-    no_indented_sequences: u32,
-    no_portable: u32,
+    values: ValueSettings,
     allow_duplicates: u32,
-    indent: i32,
-    width: i32,
-    depth: usize,
 }
 
 extern "C" {
@@ -50,7 +62,8 @@ fn from_json(text: &str, settings: &Settings) -> Result<Vec<u8>, Report> {
 
 fn main() {
     let text = r#"{"country": "no", "ports": [80, 1e9], "proxy": null}"#;
-    let in_flow = Settings { flow: 1, width: -1, ..Settings::default() };
+    let values = ValueSettings { flow: 1, width: -1, ..ValueSettings::default() };
+    let in_flow = Settings { values, ..Settings::default() };
     for settings in [Settings::default(), in_flow] {
         if let Ok(yaml) = from_json(text, &settings) {
             std::io::stdout().write_all(&yaml).expect("standard output is open");
