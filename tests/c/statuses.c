@@ -235,6 +235,14 @@ static void expect_json(const char *name, const char *text, struct yaml_c_json_s
 /* Seven words that fill columns 11 to 79 after `--- aaaaaa `. */
 #define EIGHTY "bbbbbbbbb ccccccccc ddddddddd eeeeeeeee fffffffff ggggggggg hhhhhhhhh"
 
+/* A text by the default settings, and with this flag of theirs. */
+static void json_flag(const char *name, const char *text, struct yaml_c_json_settings *given, uint32_t *flag, const char *off, const char *on) {
+    memset(given, 0, sizeof *given);
+    expect_json(name, text, *given, YAML_DONE, 0, 0, off);
+    *flag = 1;
+    expect_json(name, text, *given, YAML_DONE, 0, 0, on);
+}
+
 static void json_settings(void) {
     static const char text[] = "{\"a\": [1, {\"b\": 2}]}", words[] = "\"aaaa bbbb cccc dddd eeee ffff\"";
     struct yaml_c_json_settings given;
@@ -253,25 +261,14 @@ static void json_settings(void) {
     expect_json("and not portable", text, given, YAML_DONE, 0, 0, "a:\n- 1\n-   b: 2\n");
     given.values.flow = 1;
     expect_json("and in flow", text, given, YAML_DONE, 0, 0, "{a: [1, {b: 2}]}\n");
-    memset(&given, 0, sizeof given);
-    expect_json("single quotes", "[\"no\", \"a: b\"]", given, YAML_DONE, 0, 0, "---\n- 'no'\n- 'a: b'\n");
-    given.values.double_quotes = 1;
-    expect_json("double quotes", "[\"no\", \"a: b\"]", given, YAML_DONE, 0, 0, "---\n- \"no\"\n- \"a: b\"\n");
-    memset(&given, 0, sizeof given);
-    expect_json("characters past ASCII", "\"\xc3\xa9\"", given, YAML_DONE, 0, 0, "--- \xc3\xa9\n");
-    given.values.no_unicode = 1;
-    expect_json("characters past ASCII escaped", "\"\xc3\xa9\"", given, YAML_DONE, 0, 0, "--- \"\\xE9\"\n");
-    memset(&given, 0, sizeof given);
-    given.values.canonical = 1;
-    expect_json("canonical form", "[1]", given, YAML_DONE, 0, 0, "---\n[\n  !!int \"1\",\n]\n");
+    json_flag("double quotes", "[\"no\", \"a: b\"]", &given, &given.values.double_quotes, "---\n- 'no'\n- 'a: b'\n", "---\n- \"no\"\n- \"a: b\"\n");
+    json_flag("no characters past ASCII", "\"\xc3\xa9\"", &given, &given.values.no_unicode, "--- \xc3\xa9\n", "--- \"\\xE9\"\n");
+    json_flag("canonical form", "[1]", &given, &given.values.canonical, "---\n- 1\n", "---\n[\n  !!int \"1\",\n]\n");
+    json_flag("no literal blanks", "[\"a \\nb\"]", &given, &given.values.no_literal_blanks, "---\n- |-\n  a \n  b\n", "---\n- \"a \\nb\"\n");
     memset(&given, 0, sizeof given);
     given.values.line_breaks_1_2 = 1;
     given.values.no_portable = 1;
     expect_json("line breaks of 1.2", "\"\\u2028\"", given, YAML_DONE, 0, 0, "\"\\L\"\n");
-    memset(&given, 0, sizeof given);
-    expect_json("a blank before a break", "[\"a \\nb\"]", given, YAML_DONE, 0, 0, "---\n- |-\n  a \n  b\n");
-    given.values.no_literal_blanks = 1;
-    expect_json("a blank before a break in quotes", "[\"a \\nb\"]", given, YAML_DONE, 0, 0, "---\n- \"a \\nb\"\n");
     memset(&given, 0, sizeof given);
     given.values.width = 20;
     expect_json("a width of 20", words, given, YAML_DONE, 0, 0, "--- aaaa bbbb cccc dddd\n  eeee ffff\n");
