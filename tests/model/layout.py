@@ -5,11 +5,11 @@ A plain model: a layout is a recursion over the tree of the events, one piece of
 import re
 from dataclasses import dataclass, replace
 from typing import List, Optional, Tuple
+from characters import *
+from comments import head_of, line_of, write_head, write_line_comment
 from events import *
 
 I32MAX = 2**31 - 1
-BREAKS = "\n\r\x85\u2028\u2029"
-ALPHA = set("0123456789ABCDEFGHIJKLMNOPQRSTUVWXYZabcdefghijklmnopqrstuvwxyz_-")
 TAG_KEPT = ALPHA | set(";/?:@&=+$,.~*'()[]")
 DEPTH = 1_000_000
 
@@ -196,11 +196,6 @@ def start_explicit(s: "Effective", first: bool, start: DocStart) -> bool:
 
 # ---------------------------------------------------------------- analysis
 
-def is_printable(c: str) -> bool:
-    o = ord(c)
-    return (o == 0x0A or 0x20 <= o <= 0x7E or 0xA0 <= o <= 0xD7FF or (0xE000 <= o <= 0xFFFD and o != 0xFEFF)
-            or 0x10000 <= o <= 0x10FFFF)
-def is_break(c): return c in BREAKS
 def blankz(value, i):   # a blank, a break, NUL or the end
     return i >= len(value) or value[i] in " \t\0" or is_break(value[i])
 
@@ -365,7 +360,7 @@ def has_digit(v):
     """Whether a block header names its indentation: the first line doesn't show it."""
     return v[0] in " \t" or is_break(v[0])
 
-def block_header(t: Text, sign, v, B):
+def block_header(t: Text, sign, v, B, line=None):
     t.indicator(sign, True, False, False)
     if has_digit(v): t.indicator(str(B), False, False, False)
     mark = 0
@@ -373,6 +368,7 @@ def block_header(t: Text, sign, v, B):
     elif len(v) >= 2 and not is_break(v[-2]): pass
     else:
         t.indicator("+", False, False, False); mark = 2
+    write_line_comment(t, line)
     t.brk(); t.flags(whitespace=True, indention=True)
     return mark
 
@@ -387,16 +383,16 @@ def lines_of(v):
         out.append((line, brks)); i += 2
     return out
 
-def write_literal(t: Text, v, indent, B):
-    mark = block_header(t, "|", v, B)
+def write_literal(t: Text, v, indent, B, line=None):
+    mark = block_header(t, "|", v, B, line)
     for line, brks in lines_of(v):
         if line:
             t.newline(indent); t.put(line); t.flags(indention=False)
         for ch in brks: t.brk(ch); t.flags(indention=True)
     return mark
 
-def write_folded(t: Text, v, indent, B):
-    mark = block_header(t, ">", v, B)
+def write_folded(t: Text, v, indent, B, line=None):
+    mark = block_header(t, ">", v, B, line)
     ls = lines_of(v)
     for i, (line, brks) in enumerate(ls):
         if line:
@@ -466,23 +462,43 @@ def completion(L):
 # ---------------------------------------------------------------- layout
 
 class Layout:
-    def __init__(self, eff: Effective):
+    """The pieces of an accepted list; comments are those beside its events, from the first one on."""
+    def __init__(self, eff: Effective, comments=()):
         self.s = eff; self.pieces: List[str] = []; self.c = Cursor(); self.mark = 0
         self.bodies = []       # (style, body text, value, flow, block column I or -1)
+        self.closed = []       # for each document, whether the event after its end writes `...`
         self.directives = []
+        self.comments, self.waiting = comments, ()
     def piece(self):
         return Text(self.c, self.s)
     def done(self, t: Text):
         self.pieces.append(t.text()); self.c = t.c
 
+    # comments: those beside the event whose piece is next; in canonical mode none
+    def own(self):
+        n = len(self.pieces)
+        return self.comments[n] if n < len(self.comments) and not self.s.canonical else NO_COMMENTS
+    def head(self, t: Text, column):
+        """Writes the head that waits and then the event's own, before what begins at a column."""
+        write_head(t, self.waiting + self.own().head, column, self.mark == 2); self.waiting = ()
+    def keep_head(self):
+        """The event's head waits: nothing that the event writes begins a line, so the next event has it."""
+        self.waiting = self.waiting + self.own().head
+    def drop_head(self): self.waiting = ()
+    def line(self, place):
+        """The event's line comment, unless its text is a key or in flow."""
+        return None if place[0] in ("block-key", "flow-item", "flow-key", "flow-value") else self.own().line
+
     def stream(self, docs):
         self.mark = 0
-        self.pieces.append("")                       # STREAM-START
+        self.keep_head(); self.pieces.append("")     # STREAM-START
         for n, (start, tree, end) in enumerate(docs):
             t = self.piece()
             has = start.version is not None or len(start.tags) > 0
+            if n > 0: self.closed.append(has and self.mark != 0)
             if has and self.mark != 0:
-                t.indicator("...", True, False, False); t.newline(0)
+                t.indicator("...", True, False, False); t.newline(0); self.mark = 0
+            self.head(t, 0)
             self.mark = 0
             if start.version is not None:
                 t.indicator("%YAML", True, False, False)
@@ -496,14 +512,16 @@ class Layout:
             self.done(t)
             self.node(tree, ("root",), -1, False, False)
             t = self.piece()
+            self.head(t, 0)
             t.newline(0)
             if not end.implicit:
                 t.indicator("...", True, False, False); self.mark = 0; t.newline(0)
             elif self.mark == 0: self.mark = 1
             self.done(t)
-        t = self.piece()
+        t = self.piece(); self.closed.append(self.mark == 2)
         if self.mark == 2:
-            t.indicator("...", True, False, False); t.newline(0)
+            t.indicator("...", True, False, False); t.newline(0); self.mark = 0
+        self.head(t, 0)
         self.done(t)
 
     def simple_key(self, tree):
@@ -541,9 +559,9 @@ class Layout:
                 brk(); t.indicator(":", True, False, False)
             return False
         if k == "block-item":
-            t.newline(I); t.indicator("-", True, False, True); return False
+            self.head(t, I); t.newline(I); t.indicator("-", True, False, True); return False
         if k == "block-key":
-            t.newline(I)
+            self.head(t, I); t.newline(I)
             simple = self.simple_key(tree)
             if not simple: t.indicator("?", True, False, True)
             return simple
@@ -566,47 +584,60 @@ class Layout:
 
     def node(self, tree, place, I, flow, in_mapping):
         """I: the indentation in force; returns whether the node was a simple key."""
-        s, e = self.s, tree.event
+        e = tree.event
         t = self.piece()
         simple = self.place(t, place, I, tree)
-        if isinstance(e, Alias):
-            t.indicator("*", True, False, False); t.name(e.anchor)
-            if simple: t.put(" ")
-            self.done(t); return simple
-        if isinstance(e, Scalar):
-            self.scalar(t, e, I, flow, simple); self.done(t); return simple
+        if isinstance(tree, Leaf):
+            if isinstance(e, Scalar): self.scalar(t, e, I, (flow, simple), self.line(place))
+            else:
+                t.indicator("*", True, False, False); t.name(e.anchor)
+                if simple: t.put(" ")
+                write_line_comment(t, self.line(place))
+            self.drop_head(); self.done(t); return simple
         self.properties(t, e, False)
-        self.done(t)
-        seq = isinstance(e, SeqStart)
-        as_flow = flow or s.canonical or e.style == "flow" or not tree.items
-        B = s.indent
-        if as_flow:
-            I2 = B if I < 0 else I + B
-            for i, item in enumerate(tree.items):
-                if seq: self.node(item, ("flow-item", i == 0), I2, True, False)
-                else:
-                    sk = self.node(item[0], ("flow-key", i == 0), I2, True, True)
-                    self.node(item[1], ("flow-value", sk), I2, True, True)
-            t = self.piece()
-            if not tree.items: t.indicator("[" if seq else "{", True, True, False)
-            elif s.canonical:
-                t.indicator(",", False, False, False); t.newline(I)
-            t.indicator("]" if seq else "}", False, False, False)
-            self.done(t)
-        else:
-            if I < 0: I2 = 0
-            elif seq and in_mapping and not self.c.indention and not s.indented_sequences: I2 = I
-            else: I2 = I + B
-            for item in tree.items:
-                if seq: self.node(item, ("block-item",), I2, False, False)
-                else:
-                    sk = self.node(item[0], ("block-key",), I2, False, True)
-                    self.node(item[1], ("block-value", sk), I2, False, True)
-            self.done(self.piece())
+        if flow or self.s.canonical or e.style == "flow" or not tree.items: self.flow_collection(t, tree, place, I)
+        else: self.block_collection(t, tree, place, I, in_mapping)
         return simple
 
-    def scalar(self, t: Text, e: Scalar, I, flow, simple):
-        s = self.s
+    def flow_collection(self, t: Text, tree, place, I):
+        s, seq = self.s, isinstance(tree.event, SeqStart)
+        self.drop_head(); self.done(t)
+        I2 = s.indent if I < 0 else I + s.indent
+        for i, item in enumerate(tree.items):
+            if seq: self.node(item, ("flow-item", i == 0), I2, True, False)
+            else:
+                sk = self.node(item[0], ("flow-key", i == 0), I2, True, True)
+                self.node(item[1], ("flow-value", sk), I2, True, True)
+        t = self.piece()
+        if not tree.items: t.indicator("[" if seq else "{", True, True, False)
+        elif s.canonical:
+            t.indicator(",", False, False, False); t.newline(I)
+        t.indicator("]" if seq else "}", False, False, False)
+        write_line_comment(t, self.line(place))
+        self.done(t)
+
+    def block_collection(self, t: Text, tree, place, I, in_mapping):
+        seq = isinstance(tree.event, SeqStart)
+        if I < 0: I2 = 0
+        elif seq and in_mapping and not t.c.indention and not self.s.indented_sequences: I2 = I
+        else: I2 = I + self.s.indent
+        if place[0] in ("root", "block-value"): self.keep_head()
+        line = self.own().line
+        if t.c.column > 0: write_line_comment(t, line)
+        elif line is not None: self.waiting = self.waiting + (line_of(line),)     # nothing is on the line yet
+        self.done(t)
+        for item in tree.items:
+            if seq: self.node(item, ("block-item",), I2, False, False)
+            else:
+                sk = self.node(item[0], ("block-key",), I2, False, True)
+                self.node(item[1], ("block-value", sk), I2, False, True)
+        t = self.piece()
+        if I < 0 or I2 == I: self.keep_head()        # what follows begins at the same column
+        else: self.head(t, I2)
+        self.done(t)
+
+    def scalar(self, t: Text, e: Scalar, I, where, line):
+        s, (flow, simple) = self.s, where
         a = analyze(e.value, s.unicode, s.breaks12)
         style, bare = select_style(e.style, a, e.value == "", tag_analysed(s, e), e.plain_implicit, e.quoted_implicit,
                                    flow, simple, s.canonical)
@@ -622,17 +653,18 @@ class Layout:
         if style == "plain": write_plain(t, e.value, allow, flow, ind)
         elif style == "single": write_single(t, e.value, allow, ind)
         elif style == "double": write_double(t, e.value, allow, ind)
-        elif style == "literal": self.mark = write_literal(t, e.value, ind, s.indent)
-        else: self.mark = write_folded(t, e.value, ind, s.indent)
+        elif style == "literal": self.mark = write_literal(t, e.value, ind, s.indent, line)
+        else: self.mark = write_folded(t, e.value, ind, s.indent, line)
+        if style not in ("literal", "folded"): write_line_comment(t, line)
         body = "".join(t.out[k:])
         if body.startswith(" ") and not start_ws: body = body[1:]
         self.bodies.append((style, body, e.value, flow, I))
 
-def layout_of(eff: Effective, L) -> Layout:
-    lay = Layout(eff); lay.stream(parse(L)); return lay
+def layout_of(eff: Effective, L, comments=()) -> Layout:
+    lay = Layout(eff, comments); lay.stream(parse(L)); return lay
 
-def pieces(eff, L, k):
-    return layout_of(eff, completion(L[:k])).pieces[:k]
+def pieces(eff, L, k, comments=()):
+    return layout_of(eff, completion(L[:k]), comments[:k]).pieces[:k]
 
 # ---------------------------------------------------------------- the emitter
 
@@ -642,14 +674,23 @@ class Emitter:
         self.written, self.grammar, self.eff, self.text, self.output = 0, Grammar(), None, "", b""
         self.enc = s.encoding
         self.held = 0
+        self.comments, self.given = [], NO_COMMENTS    # those beside the events so far, and those for the next one
     def _eff(self):
         if self.eff is None:
             first = self.L[0] if self.L else None
             self.eff = effective(self.settings, first.encoding if isinstance(first, StreamStart) else "any")
         return self.eff
+    def head_comment(self, text):
+        """Comments, a line each, before what the next event writes."""
+        if not self.err: self.given = replace(self.given, head=self.given.head + head_of(text))
+    def blank_line(self):
+        if not self.err: self.given = replace(self.given, head=self.given.head + (None,))
+    def line_comment(self, text):
+        """A comment at the end of the next event's line, in place of one that was given before."""
+        if not self.err: self.given = replace(self.given, line=text)
     def emit(self, e):
         if self.err: return self.err
-        self.L.append(e)
+        self.L.append(e); self.comments.append(self.given); self.given = NO_COMMENTS
         r = ready_count(self.L)
         flush = False
         while self.written < r:
@@ -667,7 +708,7 @@ class Emitter:
         return None
     def _fail(self, n): self.err, self.held = n, 0; return n
     def _text(self):
-        if self.written: self.text = "".join(pieces(self._eff(), self.L, self.written))
+        if self.written: self.text = "".join(pieces(self._eff(), self.L, self.written, self.comments))
     def _flush(self):
         if not self.known or self.written == 0: return None
         b = encode(self._eff().encoding, self.text)
