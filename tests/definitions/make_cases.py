@@ -74,7 +74,7 @@ def strict_reader():
 
 
 def without_heading(data, breaks12):
-    """The bytes of a stream, in UTF-8 without the lines at its front that begin with `#`, if it has some: the model's readers refuse these."""
+    """The bytes of a stream, in UTF-8 without the lines at its front that begin with `#`, if it has some: the model refuses some of these."""
     text = readers.decode_stream(data)
     if text is None or text[:1] != "#" or not all(c in "\r\n\t" or stream_reader.PRINTABLE(c) for c in text): return data
     text = readers.normalize(text)
@@ -82,11 +82,21 @@ def without_heading(data, breaks12):
     return text.encode()
 
 
+def begins_with_blank_line(data, breaks12):
+    """Whether the first line of a stream is blank."""
+    return re.match(" *[" + breaks_of(breaks12) + "]", readers.normalize(readers.decode_stream(data))) is not None
+
+
 def stream_read(data, breaks12):
-    """The documents in some bytes, or None; 'differs' where the model's two readers don't agree."""
+    """The documents in some bytes, or None; 'differs' where the model's two readers don't agree. The definition knows no comments but a
+    heading, and no blank lines before a document: where the model passes over such lines, it has no reading."""
     data = without_heading(data, breaks12)
-    one, other = stream_reader.read(data, breaks_of(breaks12)), lines_reader.read(data, breaks_of(breaks12))
-    return one if one == other else "differs"
+    one, other = (reader.read_with_comments(data, breaks_of(breaks12)) for reader in (stream_reader, lines_reader))
+    if one != other: return "differs"
+    if one is None: return None
+    documents = stream_reader.documents_alone(one)
+    has_comments = found_comments.count(found_comments.found(one)) > 0
+    return None if has_comments or documents != [] and begins_with_blank_line(data, breaks12) else documents
 
 
 def first_encoding(events):
@@ -272,7 +282,7 @@ if __name__ == "__main__":
     sys.dont_write_bytecode = True  # (so that nothing is left beside the sources)
     sys.path.insert(0, str(pathlib.Path(__file__).resolve().parents[1] / "model"))
     sys.setrecursionlimit(100000)
-    import cases, compare, content, layout, lines_reader, random_lists, readers, scalar_bodies, schema, stream_reader
+    import cases, compare, content, found_comments, layout, lines_reader, random_lists, readers, scalar_bodies, schema, stream_reader
     stream_reader.Reader = lines_reader.Reader = strict_reader()
     random_lists.settings = half_portable(random_lists.settings)
     first, count = (int(x) for x in (sys.argv[1:3] + ["0", "300"][len(sys.argv[1:3]):]))

@@ -5,7 +5,7 @@ With `portable` on without a condition; without it for all lists but two kinds (
 sequences in mappings; the lines reader reads what the stream reader reads. First the rows of `portable`.
 """
 import itertools, random, sys
-import content, random_lists, lines_reader, readers, stream_reader, program_model
+import content, found_comments, random_lists, lines_reader, readers, stream_reader, program_model
 from layout import *
 
 sys.setrecursionlimit(200000)
@@ -53,8 +53,9 @@ check("sequences, at most once and before the events", [program_model.run(x)[0::
 check("sequences, to a script and back", [readers.parse_script(readers.to_script(Settings(indented_sequences=x), []))[0].indented_sequences for x in (False, True)], [False, True])
 check("sequences, two notations", [readers.to_script(Settings(indented_sequences=True), []), random_lists.script(Settings(indented_sequences=True), [StreamStart()])], [b"sequences indented\n", b"sequences indented\n+STR any\n"])
 # texts that aren't read, or as something else
-for text in (b"- a\n  - b\n-c\n", b"a: b: c\n", b"[a b]]\n", b"[a, b\n", b"{a: b, c}\n", b"&a*b\n", b"!t!u x\n", b"!a,b x\n", b"\"a\n", b"'a\n", b"\"a\tb\"\n", b"- |\na\n", b"a\n--- b\n...c\n", b"%YAML 1.1\na\n", b"a\n%YAML 1.1\n--- b\n", b"*a: b\n", b"- !\n", b"\n- a\n"):
+for text in (b"- a\n  - b\n-c\n", b"a: b: c\n", b"[a b]]\n", b"[a, b\n", b"{a: b, c}\n", b"&a*b\n", b"!t!u x\n", b"!a,b x\n", b"\"a\n", b"'a\n", b"\"a\tb\"\n", b"- |\na\n", b"a\n--- b\n...c\n", b"%YAML 1.1\na\n", b"a\n%YAML 1.1\n--- b\n", b"*a: b\n", b"- !\n", b" a\n", b"\n - a\n"):
     check("no reading of %r" % text, stream_reader.read(text), None)
+check("blank lines before a document", [stream_reader.read(b"\n" + x + b"- a\n") for x in (b"", b"\n", b"  \n")], [stream_reader.read(b"- a\n")] * 3)
 check("breaks alone are no document", [stream_reader.read(x) for x in (b"", b"\n", b"\n\n")], [[], [], []])
 check("one document", stream_reader.read(b"k:\n- a\n- ? b\n  : \"c\"\n"), [(None, (), ("map", None, None, [(("scalar", None, None, "plain", "k"), ("seq", None, None, [("scalar", None, None, "plain", "a"), ("map", None, None, [(("scalar", None, None, "plain", "b"), ("scalar", None, None, "quoted", "c"))])]))]))])
 
@@ -62,8 +63,9 @@ check("one document", stream_reader.read(b"k:\n- a\n- ? b\n  : \"c\"\n"), [(None
 def reads(name, s, L):
     eff = effective(s, L[0].encoding); data = encode(eff.encoding, "".join(layout_of(eff, L).pieces))
     if eff.portable or not (content.is_lost_document(eff, L) or content.has_flow_sign_after_handle(eff, L)):
-        read = stream_reader.read(data); check(name, content.agrees(eff, L, read), True)
-        check("lines: " + name, lines_reader.read(data) == read, True)
+        read = stream_reader.read_with_comments(data); check(name, content.agrees(eff, L, stream_reader.documents_alone(read)), True)
+        check("lines: " + name, lines_reader.read_with_comments(data) == read, True)
+        check("no comments: " + name, read is None or found_comments.count(found_comments.found(read)), 0)
 
 def accepted(s, L):
     eff = effective(s, L[0].encoding); g = Grammar()
