@@ -14,6 +14,6 @@ static WORDS: Wording = wording!(
     "write_canonical of the crate yaml_value gives, and what yaml_is_canonical of the library yaml_c takes",
     "Files of TOML, a text each; - is standard input",
     "Files of TOML, a text each, which are written one after another. The name - means standard input, which is also read if no name \
-    is given.{n}Example: toml2yaml first.toml - last.toml",
+    is given.{n}Their comments are dropped.{n}Example: toml2yaml first.toml - last.toml",
     &[]
 );
