@@ -103,8 +103,8 @@ pub use Rattle.yaml_base.specs.streams.StreamFlow.{is_alias, longest_key, is_key
 pub use Rattle.yaml_base.specs.streams.StreamFlow.{after_blank, after_white, Awaited, collection_awaited, entry_awaited, node_awaited, comma_awaited}
 pub use Rattle.yaml_base.specs.streams.StreamFlow.{colon_awaited, FlowReading, failed, done, within, with_tree, word_step, level_opened, opened, flow_step}
 pub use Rattle.yaml_base.specs.streams.StreamFlow.{tree_at_end, flow_read}
-pub use Rattle.yaml_base.specs.streams.StreamLines.{Line, prepend_to_first_line, prepend_character, lines_of, text_of_lines, is_spaces, without_blank_lines}
-pub use Rattle.yaml_base.specs.streams.StreamLines.{first_line_is_blank, ends_indicator, begins_with_indicator, belongs_to_entry, all_deeper, Indented}
+pub use Rattle.yaml_base.specs.streams.StreamLines.{Line, prepend_to_first_line, prepend_character, lines_of, text_of_lines, is_spaces, without_skipped_lines}
+pub use Rattle.yaml_base.specs.streams.StreamLines.{first_line_is_skipped, ends_indicator, begins_with_indicator, belongs_to_entry, all_deeper, Indented}
 pub use Rattle.yaml_base.specs.streams.StreamLines.{indented_step, past_indentation, spaces, blanked}
 pub use Rattle.yaml_base.specs.streams.StreamNodes.{SimpleKey, without_last_space, word_but_alias, word_of_alias, key_of_text, key_ends, key_from, key_of_line}
 pub use Rattle.yaml_base.specs.streams.StreamNodes.{LinesReader, key_entry, value_entry, simple_entry, prepend_to_trimmed, trimmed, word_text, kind_of_text}

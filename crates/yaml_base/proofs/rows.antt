@@ -26,6 +26,7 @@ pub mod StreamTrees
 pub mod RowsStreamNodes
 pub mod RowsStreamDocuments
 pub mod RowsStreamRefused
+mod RowsStreamComments
 pub mod RowsTidy
 pub mod RowsStreamLaw
 pub mod RowsPortable

@@ -81,10 +81,10 @@ streams : (reads_none (stream_trees false) (codes "\na\n" ∷ codes " a\n" ∷ c
 unfolding chars is_utf8 encode_utf8
 streams = (refl, refl)
 
--- comments that are no heading: after a document, after its end, indented, after an empty line or a directive; an empty line after a heading; in a
--- heading a character that isn't printable, a marker before or after it
-comments : reads_none (stream_trees false) (codes "- a\n# b\n" ∷ codes "--- a\n...\n# b\n" ∷ codes " # a\nb\n" ∷ codes "\n# a\n" ∷ codes "# a\n\n# b\nc\n"
-    ∷ codes "%YAML 1.1\n# a\n--- b\n" ∷ codes "# a\n\nb\n" ∷ codes "# \u{7}\na\n" ∷ (0xEF ∷ 0xBB ∷ 0xBF ∷ codes "# a\nb\n")
-    ∷ (codes "# a\n" ++ 0xEF ∷ 0xBB ∷ 0xBF ∷ codes "b\n") ∷ []) ≡ true
+-- comments: indented or after an empty line at a stream's start, after a directive, an empty line after a heading; in a heading a character that isn't
+-- printable, a marker before or after it
+comments : reads_none (stream_trees false) (codes " # a\nb\n" ∷ codes "\n# a\n" ∷ codes "# a\n\n# b\nc\n" ∷ codes "%YAML 1.1\n# a\n--- b\n"
+    ∷ codes "# a\n\nb\n" ∷ codes "# \u{7}\na\n" ∷ (0xEF ∷ 0xBB ∷ 0xBF ∷ codes "# a\nb\n") ∷ (codes "# a\n" ++ 0xEF ∷ 0xBB ∷ 0xBF ∷ codes "b\n")
+    ∷ []) ≡ true
 unfolding chars is_utf8 encode_utf8
 comments = refl

@@ -1,24 +1,24 @@
--- A text that begins with `#` has no documents. So nothing is dropped of a text that has some.
+-- No scalar, alias, key or text begins with `#`, and no documents do. So nothing is dropped of a text that has some.
 use Rattle.yaml_base.proofs.Common.{arith, nat_tests}
-use Rattle.yaml_base.proofs.Common.{ℕ, suc, ◌==◌, if◌then◌else◌, nat_le, length, fold, is_some, option_and_then, option_map, option_or, Option, None}
+use Rattle.yaml_base.proofs.Common.{ℕ, suc, ◌==◌, if◌then◌else◌, nat_le, length, fold, option_and_then, option_map, option_or, Option, None}
 use Rattle.yaml_base.proofs.Common.{Some, Bool, false, true, List, [], ◌++◌, ◌∷◌, refl, ◌≡◌, ap, eqb-true, sym, ◌∙◌, Text, documents_of}
 use Rattle.yaml_base.proofs.Common.{documents_at_end, Line, lines_of, Section, sections_of, sections_read, DocumentTree, Rules, Tree, marker_of}
 use Rattle.std.proofs.lemmas.Option.{none-some}
 use Rattle.yaml_base.specs.Event.{plain}
 use Rattle.yaml_base.specs.reading.{ReadPlain.read_plain, TidyText.is_tidy}
 use Rattle.yaml_base.specs.streams.StreamContent.{stood_plain}
-use Rattle.yaml_base.specs.streams.StreamDocuments.{MarkerKind, no_exclamation, no_prologue, prepend_section, section_read, with_read_document}
+use Rattle.yaml_base.specs.streams.StreamDocuments.{MarkerKind, no_exclamation, prepend_section, section_read}
 use Rattle.yaml_base.specs.streams.StreamFlow.{is_alias, longest_key}
-use Rattle.yaml_base.specs.streams.StreamLines.{all_blank, prepend_to_first_line, text_of_lines}
-use Rattle.yaml_base.specs.streams.StreamNodes.{SimpleKey, key_ends, key_from, key_of_text, node_read, node_by_kind, trimmed, without_last_space}
-use Rattle.yaml_base.specs.streams.StreamNodes.{begins_mapping, begins_properties, begins_text, text_or_properties, word_of_alias, word_but_alias}
+use Rattle.yaml_base.specs.streams.StreamLines.{all_blank, all_deeper, prepend_to_first_line, text_of_lines}
+use Rattle.yaml_base.specs.streams.StreamNodes.{key_ends, key_from, key_of_text, kind_of_text, text_by_kind, text_read, trimmed, without_last_space}
+use Rattle.yaml_base.specs.streams.StreamNodes.{word_of_alias, word_but_alias}
 use Rattle.yaml_base.specs.streams.StreamReader.{after_comments, without_heading}
 use Rattle.yaml_base.specs.streams.StreamScalars.{Properties, no_properties, scalar_parsed, word_after}
 
 -- Words
 
 -- no plain scalar begins with `#`
-no_plain : (breaks12 : Bool) (rest : Text) → read_plain breaks12 false (0x23 ∷ rest) ≡ None
+pub no_plain : (breaks12 : Bool) (rest : Text) → read_plain breaks12 false (0x23 ∷ rest) ≡ None
 no_plain breaks12 [] = refl
 no_plain breaks12 (c ∷ []) = refl
 no_plain breaks12 (c ∷ d ∷ rest) = refl
@@ -63,25 +63,34 @@ no_key_ends true rules rest after =
 no_key_ends false rules rest after = refl
 
 -- nor any simple key
-no_key : (rules : Rules) (before text : Text) → key_from rules (0x23 ∷ before) text ≡ None
+pub no_key : (rules : Rules) (before text : Text) → key_from rules (0x23 ∷ before) text ≡ None
 no_key rules before [] = refl
 no_key rules before (c ∷ rest) = grind (arith, nat_tests, no_key_ends, no_key rules (before ++ c ∷ []) rest)
 
--- Documents
+-- Texts
 
 stays : (breaks12 : Bool) (rest : Text) → trimmed breaks12 (0x23 ∷ rest) ≡ 0x23 ∷ trimmed breaks12 rest
 stays true rest = refl
 stays false rest = refl
 
--- no node is on lines of which the first begins so
-no_node : (depth : ℕ) (rules : Rules) (text ending : Text) (rest : List Line)
-    → node_read (suc depth) rules true None (record { text = 0x23 ∷ text; ending = ending } ∷ rest) ≡ None
-no_node depth rules text ending rest =
-    ap (λ (found : Option SimpleKey). node_by_kind (if is_some found then begins_mapping else begins_text) rules (node_read depth rules)
-    (λ at text. text_or_properties (begins_properties text) rules (node_read depth rules) None at text) no_properties true true
-    (record { column = 0; text = 0x23 ∷ text }) ending rest (record { text = 0x23 ∷ text; ending = ending } ∷ rest)) (no_key rules [] text)
-    ∙ ap (word_after rules false None no_properties) (stays rules.breaks12 (text ++ (ending ++ text_of_lines rest)))
-    ∙ no_word rules None no_properties (trimmed rules.breaks12 (text ++ (ending ++ text_of_lines rest)))
+-- no text of a node begins so
+pub no_text_by_kind : (rules : Rules) (column : Option ℕ) (properties : Properties) (rest : Text)
+    → text_by_kind (kind_of_text (0x23 ∷ [])) rules column properties (0x23 ∷ rest) ≡ None
+no_text_by_kind rules column properties rest =
+    ap (word_after rules false column properties) (stays rules.breaks12 rest) ∙ no_word rules column properties (trimmed rules.breaks12 rest)
+
+either_way : {A : Type 0} (deep : Bool) (found : Option A) → found ≡ None → (if deep then found else None) ≡ None
+either_way true found none = none
+either_way false found none = refl
+
+-- nor is one read of lines of which the first begins so
+pub no_text : (rules : Rules) (column : Option ℕ) (properties : Properties) (text ending : Text) (rest : List Line)
+    → text_read rules column properties (0x23 ∷ text) ending rest ≡ None
+no_text rules column properties text ending rest =
+    either_way (all_deeper column rest) (text_by_kind (kind_of_text (0x23 ∷ [])) rules column properties (0x23 ∷ (text ++ (ending ++ text_of_lines rest))))
+    (no_text_by_kind rules column properties (text ++ (ending ++ text_of_lines rest)))
+
+-- Documents
 
 no_marker : (text : Text) → marker_of (0x23 ∷ text) ≡ no_exclamation
 no_marker [] = refl
@@ -98,8 +107,6 @@ no_sections depth breaks12 text ending rest =
     let line : Line = record { text = 0x23 ∷ text; ending = ending } in
     let after = sections_of rest in
     ap (λ (marker : MarkerKind). sections_read (suc depth) breaks12 (prepend_section marker line after)) (no_marker text)
-    ∙ ap (λ found. option_and_then documents_at_end (fold (section_read (suc depth) breaks12) (with_read_document [] no_prologue found) after.sections))
-    (no_node depth (record { breaks12 = breaks12; directives = [] }) text ending after.before)
     ∙ ap (option_and_then documents_at_end) (none_goes_on (suc depth) breaks12 after.sections)
 
 no_lines : (depth : ℕ) (breaks12 : Bool) (lines : List Line)

@@ -3,7 +3,9 @@ use Rattle.yaml_base.proofs.Common.{arith, ℕ, ◌≤◌, if◌then◌else◌, 
 use Rattle.yaml_base.proofs.Common.{sym, ◌∙◌, and_from, false≢true, list_all, Text, line_feed, Document, has_directives, root_place, Effective, Tree}
 use Rattle.yaml_base.proofs.Common.{DocumentTree, begins_with_marker, start_marker, end_marker, no_exclamation, marker_of, Prologue, stands_at_margin}
 use Rattle.yaml_base.proofs.Common.{root_below, with_read_document, section_by_kind, document_lines, prefix_kind, lines_before_marker_read, Line, lines_of}
-use Rattle.yaml_base.proofs.Common.{is_spaces, without_blank_lines, node_read, Rules, nat_tests}
+use Rattle.yaml_base.specs.streams.StreamLines.{begins_comment, is_skipped}
+use Rattle.yaml_base.proofs.stream_lines.StreamInside.{not_skipped}
+use Rattle.yaml_base.proofs.Common.{◌==◌, ◌&&◌, and_parts, not-true, space, ends_indicator, without_skipped_lines, node_read, Rules, nat_tests}
 use Rattle.yaml_base.{proofs.stream_nodes.StreamAgrees.document_tree, specs.streams.StreamDocuments.after_root}
 use Rattle.yaml_base.proofs.stream_documents.{StreamDocumentReads.BehindPrologue, StreamDocumentReads.prologue_parsed, StreamDocumentReads.nothing_parsed}
 use Rattle.yaml_base.proofs.stream_documents.{StreamRootLines.begins_shown, StreamRootLines.stands_below, StreamRootLines.Stood, StreamRootStood.root_tree}
@@ -22,9 +24,16 @@ shown_margin : (lines : List Line) → begins_shown lines ≡ true → stands_at
 shown_margin [] h = refl
 shown_margin (line ∷ rest) h = h
 
--- and isn't blank
-shown_whole : (lines : List Line) → begins_shown lines ≡ true → without_blank_lines lines ≡ lines
-shown_whole lines h = grind (arith, nat_tests, false≢true)
+-- and isn't skipped
+shown_line : (t : Text) → (not (ends_indicator t) && not (begins_comment t)) ≡ true → is_skipped t ≡ false
+shown_line [] h = absurd (false≢true h)
+shown_line (c ∷ t) h =
+    let parts = and_parts (not (c == space)) (not (c == 0x23)) h in
+    not_skipped 0 c t (not-true (c == space) parts.0) (not-true (c == 0x23) parts.1)
+
+shown_whole : (lines : List Line) → begins_shown lines ≡ true → without_skipped_lines lines ≡ lines
+shown_whole [] h = refl
+shown_whole (line ∷ rest) h = ap (λ x. if x then without_skipped_lines rest else line ∷ rest) (shown_line line.text h)
 
 -- no line of a text that reads as a node is a marker, if none after its first is
 markerless_whole : (lines : List Line) (depth : ℕ) (rules : Rules) (here : Bool) (column : Option ℕ) (tree : Tree)
@@ -67,8 +76,8 @@ on_marker_added s depth text documents document behind fit deep stood =
     o : Opens s.breaks12 own
     o = fit.opens refl
 
-    margin : is_spaces o.head ≡ true → stands_at_margin (without_blank_lines o.rest) ≡ true
-    margin e = ap (λ x. not x || stands_at_margin (without_blank_lines o.rest)) (sym e) ∙ ap stands_below (sym o.is) ∙ stood.1
+    margin : is_skipped o.head ≡ true → stands_at_margin (without_skipped_lines o.rest) ≡ true
+    margin e = ap (λ x. not x || stands_at_margin (without_skipped_lines o.rest)) (sym e) ∙ ap stands_below (sym o.is) ∙ stood.1
 
 -- a root on lines of its own below `---`
 below_marker_added : (s : Effective) (depth : ℕ) (text : Text) (documents : List DocumentTree) (document : Document)

@@ -4,10 +4,10 @@ use Rattle.yaml_base.proofs.Common.{suc, ℕ, ◌≤◌, if◌then◌else◌, op
 use Rattle.yaml_base.proofs.Common.{true≢false, ap, subst, sym, ◌∙◌, arith, or_parts, false≢true, Text, Rendered, TagDirective, Collection, collection_tag}
 use Rattle.yaml_base.proofs.Common.{Node, alias_node, scalar_node, sequence_node, mapping_node, Document, root_place, asks_flow, is_written_in_flow}
 use Rattle.yaml_base.proofs.Common.{has_no_nodes, has_no_pairs, Effective, is_written_as_nothing, directives_in_force, Tagging, Tree, scalar_tree}
-use Rattle.yaml_base.proofs.Common.{sequence_tree, mapping_tree, stands_at_margin, Line, lines_of, is_spaces, without_blank_lines, past_indentation, blanked}
+use Rattle.yaml_base.proofs.Common.{sequence_tree, mapping_tree, stands_at_margin, Line, lines_of, without_skipped_lines, past_indentation, blanked}
 use Rattle.yaml_base.proofs.Common.{LinesReader, NodeKind, begins_sequence, begins_mapping, begins_text, kind_of_node, ReadsText, node_by_kind, node_at}
 use Rattle.yaml_base.proofs.{stream_documents.StreamRoots.marker_cursor, stream_lines.StreamClosed.closed, stream_lines.StreamCuts.none_not_some}
-use Rattle.yaml_base.proofs.{stream_nodes.StreamAgrees.node_tree}
+use Rattle.yaml_base.{proofs.stream_nodes.StreamAgrees.node_tree, specs.streams.StreamLines.is_skipped}
 use Rattle.yaml_base.proofs.Common.{begins_properties, text_or_properties, node_read, Rules, no_properties}
 use Rattle.yaml_base.proofs.stream_documents.StreamRootLines.{FirstStands, Stood, begins_stands, block_stands}
 use Rattle.yaml_base.proofs.stream_documents.StreamRootsStand.{rules_of, root_cursor, render_root, is_leaf, PropertiesStand, RootStands}
@@ -70,11 +70,11 @@ nothing_left rules reads reads_text (line ∷ rest) anchor tagging value h = abs
     by begins_mapping h = no_scalar (mapping_tree None None) (λ a. refl) _ anchor tagging value h
     by begins_text h = none_not_some h
 
--- a scalar after a marker: its first line isn't blank, or nothing follows
+-- a scalar after a marker: its first line isn't skipped, or nothing follows
 scalar_stands : (rules : Rules) (n : ℕ) (own : Rendered) (anchor : Option Text) (tagging : Tagging) (value : Text)
     → Fits rules n own (scalar_tree anchor tagging value) root_place marker_cursor
     → FirstStands true (lines_of rules.breaks12 (closed own))
-scalar_stands rules n own anchor tagging value fit = subst (FirstStands true) (sym o.is) (by (is_spaces o.head) refl)
+scalar_stands rules n own anchor tagging value fit = subst (FirstStands true) (sym o.is) (by (is_skipped o.head) refl)
   where
     o : Opens rules.breaks12 (closed own)
     o = fit.opens refl
@@ -89,11 +89,11 @@ scalar_stands rules n own anchor tagging value fit = subst (FirstStands true) (s
     whole = ap (node_read (suc n) rules false None) (sym (blanked_lines _ 3 _ o))
         ∙ fit.reads (suc n) (omega arith) false 3 (λ h. absurd (false≢true h))
 
-    by : (x : Bool) → is_spaces o.head ≡ x → (not x || stands_at_margin (without_blank_lines o.rest)) ≡ true
+    by : (x : Bool) → is_skipped o.head ≡ x → (not x || stands_at_margin (without_skipped_lines o.rest)) ≡ true
     by false e = refl
     by true e =
-        ap stands_at_margin (nothing_left rules (node_read n rules) texts (without_blank_lines o.rest) anchor tagging value
-        (sym (ap (λ x. node_at rules (node_read n rules) texts no_properties (false || x) (not x) (if x then without_blank_lines o.rest else line ∷ o.rest))
+        ap stands_at_margin (nothing_left rules (node_read n rules) texts (without_skipped_lines o.rest) anchor tagging value
+        (sym (ap (λ x. node_at rules (node_read n rules) texts no_properties (false || x) (not x) (if x then without_skipped_lines o.rest else line ∷ o.rest))
         e) ∙ whole))
 
 -- a root that is written as nothing

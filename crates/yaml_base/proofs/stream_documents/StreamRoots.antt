@@ -1,7 +1,8 @@
 -- A root that fits reads as its document's tree: on lines of its own, on the line of `---`, and below that line.
 use Rattle.yaml_base.proofs.Common.{arith, suc, zero, ℕ, ◌≤◌, if◌then◌else◌, None, Some, codes, Bool, false, true, List, [], ◌++◌, ◌∷◌, refl, ◌≡◌, ap, sym}
-use Rattle.yaml_base.proofs.Common.{◌∙◌, false≢true, Cursor, Rendered, root_place, Tree, stands_at_margin, root_below, Line, lines_of, is_spaces}
-use Rattle.yaml_base.proofs.Common.{without_blank_lines, first_line_is_blank, past_indentation, blanked, LinesReader, NodeKind, begins_sequence}
+use Rattle.yaml_base.proofs.Common.{◌∙◌, false≢true, Cursor, Rendered, root_place, Tree, stands_at_margin, root_below, Line, lines_of}
+use Rattle.yaml_base.specs.streams.StreamLines.{is_skipped}
+use Rattle.yaml_base.proofs.Common.{without_skipped_lines, first_line_is_skipped, past_indentation, blanked, LinesReader, NodeKind, begins_sequence}
 use Rattle.yaml_base.proofs.stream_lines.{StreamClosed.closed, StreamClosed.margin_cursor, StreamCuts.none_not_some}
 use Rattle.yaml_base.proofs.Common.{begins_mapping, begins_text, kind_of_node, ReadsText, node_by_kind, node_at, node_read, Rules, Properties}
 use Rattle.yaml_base.proofs.stream_nodes.StreamFits.{Opens, Fits, blanked_lines}
@@ -19,9 +20,9 @@ root_reads rules n own tree fit margin depth deep =
     ap (λ x. if x then node_read depth rules true None (lines_of rules.breaks12 (closed own)) else None) margin
     ∙ fit.reads depth deep true 0 (λ h. (refl, refl))
 
--- a line that isn't blank stays so
-shown_once : (lines : List Line) → (first_line_is_blank (without_blank_lines lines) ≡ false)
-    × (without_blank_lines (without_blank_lines lines) ≡ without_blank_lines lines)
+-- a line that isn't skipped stays so
+shown_once : (lines : List Line) → (first_line_is_skipped (without_skipped_lines lines) ≡ false)
+    × (without_skipped_lines (without_skipped_lines lines) ≡ without_skipped_lines lines)
 shown_once [] = (refl, refl)
 shown_once (line ∷ rest) = grind (arith, shown_once rest)
 
@@ -38,17 +39,17 @@ first_more rules reads reads_text properties (line ∷ rest) tree h = by (kind_o
     by begins_mapping h = h
     by begins_text h = absurd (none_not_some h)
 
--- a node below a blank line reads on lines of its own
-below_blank : (depth : ℕ) (rules : Rules) (line : Line) (rest : List Line) (tree : Tree) → is_spaces line.text ≡ true
-    → node_read depth rules false None (line ∷ rest) ≡ Some tree → node_read depth rules true None (without_blank_lines rest) ≡ Some tree
-below_blank zero rules line rest tree blank h = absurd (none_not_some h)
-below_blank (suc depth) rules line rest tree blank h = grind (arith, shown_once, first_more)
+-- a node below a blank line or a comment reads on lines of its own
+below_skipped : (depth : ℕ) (rules : Rules) (line : Line) (rest : List Line) (tree : Tree) → is_skipped line.text ≡ true
+    → node_read depth rules false None (line ∷ rest) ≡ Some tree → node_read depth rules true None (without_skipped_lines rest) ≡ Some tree
+below_skipped zero rules line rest tree skipped h = absurd (none_not_some h)
+below_skipped (suc depth) rules line rest tree skipped h = grind (arith, shown_once, first_more)
 
 -- a root after `---`, on its line or below it
 pub root_with_marker_reads : (rules : Rules) (n : ℕ) (own : Rendered) (tree : Tree) (fit : Fits rules n own tree root_place marker_cursor)
-    → (is_spaces (fit.opens refl).head ≡ true → stands_at_margin (without_blank_lines (fit.opens refl).rest) ≡ true) → (depth : ℕ) → n ≤ depth
+    → (is_skipped (fit.opens refl).head ≡ true → stands_at_margin (without_skipped_lines (fit.opens refl).rest) ≡ true) → (depth : ℕ) → n ≤ depth
     → root_with_marker depth rules (record { text = codes "---" ++ (fit.opens refl).head; ending = (fit.opens refl).ending }) (fit.opens refl).rest ≡ Some tree
-root_with_marker_reads rules n own tree fit margin depth deep = by (is_spaces o.head) refl
+root_with_marker_reads rules n own tree fit margin depth deep = by (is_skipped o.head) refl
   where
     o : Opens rules.breaks12 (closed own)
     o = fit.opens refl
@@ -57,7 +58,7 @@ root_with_marker_reads rules n own tree fit margin depth deep = by (is_spaces o.
     whole = ap (node_read depth rules false None) (sym (blanked_lines _ 3 _ o))
         ∙ fit.reads depth deep false 3 (λ h. absurd (false≢true h))
 
-    by : (x : Bool) → is_spaces o.head ≡ x → root_after_marker x depth rules (blanked 3 o.head o.ending) o.rest ≡ Some tree
+    by : (x : Bool) → is_skipped o.head ≡ x → root_after_marker x depth rules (blanked 3 o.head o.ending) o.rest ≡ Some tree
     by false e = whole
     by true e =
-        ap (λ x. if x then node_read depth rules true None (without_blank_lines o.rest) else None) (margin e) ∙ below_blank depth rules _ _ tree e whole
+        ap (λ x. if x then node_read depth rules true None (without_skipped_lines o.rest) else None) (margin e) ∙ below_skipped depth rules _ _ tree e whole

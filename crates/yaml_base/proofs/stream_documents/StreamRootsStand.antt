@@ -33,6 +33,7 @@ pub record Begins (breaks12 : Bool) (cursor : Cursor) (own : Rendered) : Type 0 
   pub text : own.text ≡ spaces count ++ (head ∷ tail)
   pub margin : cursor.whitespace ≡ true → count ≡ 0
   pub shows : (head == space) ≡ false
+  pub uncommented : (head == 0x23) ≡ false
   pub goes_on : is_read_break breaks12 head ≡ false
 
 -- a root that is an alias, a scalar or written in flow: it begins so if anything is written, and no line after its first is a marker

@@ -2,7 +2,8 @@
 use Rattle.yaml_base.proofs.Common.{arith, ℕ, if◌then◌else◌, fold, option_and_then, None, Some, Bool, false, true, List, [], ◌++◌, ◌∷◌, refl, ◌≡◌, eqb-true}
 use Rattle.yaml_base.proofs.Common.{append-nil, append_assoc, ap, sym, ◌∙◌, and_parts, false≢true, list_all, Text, marker_of, Section, sections_of}
 use Rattle.yaml_base.proofs.Common.{Prologue, prologue_read, after_prologue, with_prologue, begins_with_percent, prefix_kind, lines_before_marker_read}
-use Rattle.yaml_base.proofs.Common.{documents_at_end, sections_read, Line, lines_of, is_spaces, without_blank_lines}
+use Rattle.yaml_base.proofs.Common.{documents_at_end, sections_read, Line, lines_of, without_skipped_lines}
+use Rattle.yaml_base.specs.streams.StreamLines.{is_skipped}
 use Rattle.std.proofs.lemmas.Grind.{fold-append}
 use Rattle.yaml_base.proofs.stream_lines.{StreamClosed.closed_both, StreamLineLaws.is_closed, StreamLineLaws.lines_after_break}
 use Rattle.yaml_base.proofs.stream_lines.StreamSections.{is_markerless, AllMarkerless, markerless_before, IsMarker, markers_one}
@@ -82,13 +83,13 @@ pub percents_markerless : (lines : List Line) → Percents lines → AllMarkerle
 percents_markerless lines h =
     all_pass (λ line. begins_with_percent line.text) (λ line. is_markerless (marker_of line.text)) (λ line e. percent_markerless line.text e) lines h
 
--- nor is such a line blank
-percent_shows : (t : Text) → begins_with_percent t ≡ true → is_spaces t ≡ false
+-- nor is such a line skipped
+percent_shows : (t : Text) → begins_with_percent t ≡ true → is_skipped t ≡ false
 percent_shows [] h = absurd (false≢true h)
-percent_shows (c ∷ t) h = ap (λ d. is_spaces (d ∷ t)) (eqb-true c 0x25 h)
+percent_shows (c ∷ t) h = ap (λ d. is_skipped (d ∷ t)) (eqb-true c 0x25 h)
 
 -- so none of them is left out
-pub percents_shown : (lines : List Line) → Percents lines → without_blank_lines lines ≡ lines
+pub percents_shown : (lines : List Line) → Percents lines → without_skipped_lines lines ≡ lines
 percents_shown [] h = refl
 percents_shown (line ∷ rest) h = grind (arith, and_parts, percent_shows)
 

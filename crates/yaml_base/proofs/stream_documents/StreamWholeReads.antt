@@ -11,6 +11,7 @@ use Rattle.yaml_base.proofs.Common.{documents_at_end, sections_read, documents_o
 use Rattle.yaml_base.{proofs.stream_documents.StreamRootAdded.with_document, proofs.stream_documents.StreamRootStood.root_fits}
 use Rattle.yaml_base.{proofs.stream_documents.StreamSizes.block_node, proofs.stream_documents.StreamSoFar.documents_so_far}
 use Rattle.yaml_base.{proofs.stream_lines.StreamCuts.none_not_some, proofs.stream_nodes.StreamFits.size, specs.streams.StreamLines.all_blank}
+use Rattle.yaml_base.specs.streams.StreamLines.{begins_comment}
 use Rattle.yaml_base.proofs.stream_documents.StreamDocumentsRead.{later_more, first_more}
 use Rattle.yaml_base.proofs.stream_lines.StreamClosed.{closing, margin_cursor}
 use Rattle.yaml_base.proofs.stream_lines.StreamSections.{is_markerless, AllMarkerless, markerless_before}
@@ -181,7 +182,8 @@ blank_read breaks12 depth lines documents blank reads =
         (sym (ap (λ x. option_and_then documents_at_end
         (lines_before_marker_read (if x then directive_lines else document_lines) depth breaks12 (line ∷ rest))) text.0
         ∙ ap (λ x. option_and_then documents_at_end
-        (with_read_document [] no_prologue (if not x then node_read depth (record { breaks12 = breaks12; directives = [] }) true None (line ∷ rest) else None)))
+        (with_read_document [] no_prologue (if not x && not (begins_comment line.text)
+        then node_read depth (record { breaks12 = breaks12; directives = [] }) true None (line ∷ rest) else None)))
         text.1) ∙ reads))
 
 -- Streams

@@ -110,7 +110,7 @@ text_reads rules cursor own anchor tag given_tag tree of column given line deepe
       deeper = deeper;
       read = λ reads at.
           ap (λ t. text_or_properties (begins_properties t) rules reads column at t line.ending line.rest) (sym h.is)
-          ∙ parsed_reads rules reads column at anchor tag parsed of.bracket line.first line.ending line.rest given of.brackets.content
+          ∙ parsed_reads rules reads column at anchor tag parsed of.bracket line.first line.ending line.rest given of.brackets.content of.brackets.uncommented
           (of.line None None None none line.first line.more line.whole)
           ∙ content_text rules cursor own anchor tag given_tag tree of column line (deeper_all column line.rest deeper);
     }

@@ -10,6 +10,7 @@ use Rattle.yaml_base.proofs.Common.{entry_awaited, comma_awaited, FlowReading, d
 use Rattle.yaml_base.proofs.Common.{flow_read, prepend_to_trimmed, trimmed, kind_of_text, text_by_kind, begins_text, kind_of_node, Rules, Properties}
 use Rattle.yaml_base.proofs.Common.{word_after, symbol, free, FlowStep, is_flow_indicator, begins_bracket, class_of, begun_token, bracket_step, is_pair}
 use Rattle.yaml_base.{proofs.Common.flow_tokens, proofs.stream_flow.StreamFlowScalars.rules_of, proofs.stream_flow.StreamPropertyWords.lead}
+use Rattle.yaml_base.proofs.Common.{◌==◌}
 use Rattle.yaml_base.{proofs.stream_nodes.StreamProperties.begins_content, specs.streams.StreamNodes.flow_text}
 use Rattle.yaml_base.proofs.stream_lines.StreamLineLaws.{OneLine, unbroken_line, break_line, not_white}
 use Rattle.yaml_base.proofs.stream_flow.StreamFlowNodes.{items_flow, pairs_flow}
@@ -33,6 +34,7 @@ pub record AreBrackets (rules : Rules) (bracket closing : ℕ) : Type 0 where
   pub shown : is_read_white rules.breaks12 closing ≡ false
   pub one_line : OneLine rules.breaks12 (bracket ∷ [])
   pub content : begins_content (bracket ∷ []) ≡ true
+  pub uncommented : (bracket == 0x23) ≡ false
   pub line : (anchor tag : Option Text) (parsed : Option ParsedTag) (first : Text) → Given rules anchor tag parsed → keeps_open first ≡ true
       → kind_of_node rules (lead anchor tag ++ (bracket ∷ first)) ≡ begins_text
   pub empty : (anchor tag : Option Text) (parsed : Option ParsedTag) → Given rules anchor tag parsed
@@ -59,6 +61,7 @@ square_brackets rules = record {
   shown = break_line rules.breaks12 0x5D refl;
   one_line = unbroken_line rules.breaks12 (0x5B ∷ []) refl;
   content = refl;
+  uncommented = refl;
   line = λ anchor tag parsed first given h. collection_kind rules anchor tag parsed true first given h;
   empty = λ anchor tag parsed given. (empty_kind rules anchor tag parsed given).0;
 }
@@ -72,6 +75,7 @@ curly_brackets rules = record {
   shown = break_line rules.breaks12 0x7D refl;
   one_line = unbroken_line rules.breaks12 (0x7B ∷ []) refl;
   content = refl;
+  uncommented = refl;
   line = λ anchor tag parsed first given h. collection_kind rules anchor tag parsed false first given h;
   empty = λ anchor tag parsed given. (empty_kind rules anchor tag parsed given).1;
 }

@@ -3,7 +3,9 @@ use Rattle.yaml_base.proofs.Common.{or_from, or_parts}
 use Rattle.yaml_base.proofs.Common.{suc, zero, ℕ, ◌<◌, ◌==◌, Some, Bool, false, not, true, ◌&&◌, ◌||◌, List, [], ◌++◌, ◌∷◌, refl, ◌≡◌, append-nil}
 use Rattle.yaml_base.proofs.Common.{append_assoc, ap, sym, ◌∙◌, arith, and_parts, and_from, false≢true, list_all, Text, space, Line, is_spaces}
 use Rattle.yaml_base.proofs.Common.{begins_with_indicator, belongs_to_entry, all_deeper, indented_step, past_indentation, spaces}
+use Rattle.yaml_base.specs.streams.StreamLines.{begins_comment, is_comment, is_skipped, is_comment_at, item_follows, goes_on_after_comment, prepend_line}
 use Rattle.yaml_base.specs.streams.StreamLines.{entries_at, past_column}
+use Rattle.std.specs.Prelude.{option_map, unwrap_or}
 
 -- a line deeper than a column is inside it
 pub inside_deeper : (s : Bool) (d e : ℕ) (t : Text) → d < e → belongs_to_entry s d (spaces e ++ t) ≡ true
@@ -11,10 +13,10 @@ inside_deeper s d zero t h = absurd (omega arith)
 inside_deeper s zero (suc e) t h = refl
 inside_deeper s (suc d) (suc e) t h = inside_deeper s d e t (omega arith)
 
--- the beginning of an entry: no space, and in a mapping no `-`
+-- the beginning of an entry: no space, no comment, and in a mapping no `-`
 abbrev pub begins_entry : (in_sequence : Bool) → Text → Bool
 begins_entry s [] = false
-begins_entry s (c ∷ t) = not (c == space) && (s || not (begins_with_indicator 0x2D (c ∷ t)))
+begins_entry s (c ∷ t) = not (c == space) && (not (c == 0x23) && (s || not (begins_with_indicator 0x2D (c ∷ t))))
 
 -- an entry's first line is not inside its column
 pub outside : (s : Bool) (e : ℕ) (t : Text) → begins_entry s t ≡ true → belongs_to_entry s e (spaces e ++ t) ≡ false
@@ -46,6 +48,29 @@ blank_spaces (suc e) = blank_spaces e
 pub blank_both : (k : ℕ) (t : Text) → is_spaces t ≡ true → is_spaces (spaces k ++ t) ≡ true
 blank_both zero t h = h
 blank_both (suc k) t h = blank_both k t h
+
+-- a character after spaces that is none begins no comment line, unless it is `#`
+no_comment_line : (e c : ℕ) (t : Text) → (c == space) ≡ false → (c == 0x23) ≡ false → is_comment (spaces e ++ (c ∷ t)) ≡ false
+no_comment_line zero c t shows uncommented = ap (λ b. b || (c == space && is_comment t)) uncommented ∙ ap (λ b. b && is_comment t) shows
+no_comment_line (suc e) c t shows uncommented = no_comment_line e c t shows uncommented
+
+-- so its line isn't skipped
+pub not_skipped : (e c : ℕ) (t : Text) → (c == space) ≡ false → (c == 0x23) ≡ false → is_skipped (spaces e ++ (c ∷ t)) ≡ false
+not_skipped e c t shows uncommented =
+    ap (λ b. b || is_comment (spaces e ++ (c ∷ t))) (not_blank e c t shows) ∙ no_comment_line e c t shows uncommented
+
+-- a blank line is skipped
+pub skipped_blank : (t : Text) → is_spaces t ≡ true → is_skipped t ≡ true
+skipped_blank t h = ap (λ b. b || is_comment t) h
+
+-- an entry's first line is no comment at its column
+pub entry_uncommented : (s : Bool) (e : ℕ) (t : Text) → begins_entry s t ≡ true → is_comment_at e (spaces e ++ t) ≡ false
+entry_uncommented s e [] h = absurd (false≢true h)
+entry_uncommented s e (c ∷ t) h =
+    ap (λ found. unwrap_or (option_map begins_comment found) false) (past_spaces e (c ∷ t)) ∙ begins s c t h
+  where
+    begins : (s : Bool) (c : ℕ) (t : Text) → begins_entry s (c ∷ t) ≡ true → (c == 0x23) ≡ false
+    begins s c t h = grind (arith, and_parts, false≢true)
 
 -- each of some lines is inside a column
 abbrev pub AllInside : Bool → ℕ → List Line → Type 0
@@ -79,12 +104,29 @@ splits_both s e a b x y one two = grind (arith, append_assoc)
 pub passes : (s : Bool) (e : ℕ) (rest lines : List Line) → AllInside s e rest
     → entries_at s e (rest ++ lines) ≡ record { before = rest ++ (entries_at s e lines).before; entries = (entries_at s e lines).entries }
 passes s e [] lines h = refl
-passes s e (line ∷ rest) lines h = grind (arith, and_parts, and_from, or_parts, or_from, passes s e rest lines)
+passes s e (line ∷ rest) lines h =
+    let parts = and_parts (belongs_to_entry s e line.text) (list_all (λ line. belongs_to_entry s e line.text) rest) h in
+    let after = entries_at s e (rest ++ lines) in
+    ap (λ b. prepend_line (b || goes_on_after_comment s e line.text (rest ++ lines)) line after) parts.0
+    ∙ ap (prepend_line true line) (passes s e rest lines parts.1)
+
+-- no line goes on after a comment that it isn't
+no_going_on : (s : Bool) (e : ℕ) (text : Text) (rest : List Line) → is_comment_at e text ≡ false → goes_on_after_comment s e text rest ≡ false
+no_going_on true e text rest h = refl
+no_going_on false e text rest h = ap (λ b. b && item_follows e rest) h
 
 -- one entry: a first line at the column, and lines inside it
-pub splits_one : (s : Bool) (e : ℕ) (line : Line) (rest : List Line) → belongs_to_entry s e line.text ≡ false → AllInside s e rest
-    → Splits s e (line ∷ rest) ((line ∷ rest) ∷ [])
-splits_one s e line rest out inside = grind (arith, passes, append-nil)
+pub splits_one : (s : Bool) (e : ℕ) (line : Line) (rest : List Line) → belongs_to_entry s e line.text ≡ false → is_comment_at e line.text ≡ false
+    → AllInside s e rest → Splits s e (line ∷ rest) ((line ∷ rest) ∷ [])
+splits_one s e line rest out uncommented inside = record {
+  splits = λ more h.
+      let after = entries_at s e (rest ++ more) in
+      ap (λ b. prepend_line (b || goes_on_after_comment s e line.text (rest ++ more)) line after) out
+      ∙ ap (λ b. prepend_line b line after) (no_going_on s e line.text (rest ++ more) uncommented)
+      ∙ ap (prepend_line false line) (passes s e rest more inside)
+      ∙ ap (λ b. record { before = []; entries = (line ∷ (rest ++ b)) ∷ (entries_at s e more).entries }) h
+      ∙ ap (λ b. record { before = []; entries = (line ∷ b) ∷ (entries_at s e more).entries }) (append-nil rest);
+}
 
 -- the entries of lines that split, and nothing after them
 pub splits_alone : (s : Bool) (e : ℕ) (lines : List Line) (entries : List (List Line)) → Splits s e lines entries

@@ -1,8 +1,9 @@
 -- A collection in a block, on the line of the text before it or below, after its properties or without them, fits if the text of its entries reads.
 use Rattle.yaml_base.proofs.Common.{suc, zero, ℕ, ◌+◌, ◌-◌, ◌<◌, ◌≤◌, if◌then◌else◌, ◌==◌, Option, None, Some, nat_lt, Bool, false, not, true, ◌&&◌, ◌||◌}
+use Rattle.yaml_base.proofs.Common.{nat_tests, false≢true}
 use Rattle.yaml_base.proofs.Common.{List, [], ◌++◌, ◌∷◌, refl, ◌≡◌, append-nil, append_assoc, ap, subst, sym, ◌∙◌, arith, and_parts, list_all, Text, or-true}
-use Rattle.yaml_base.proofs.Common.{line_feed, space, Cursor, Rendered, render_nothing, new_line, Place, Tree, Line, lines_of, is_spaces, without_blank_lines}
-use Rattle.yaml_base.proofs.Common.{first_line_is_blank, ends_indicator, belongs_to_entry, Indented, spaces, blanked, LinesReader, text_read, NodeKind}
+use Rattle.yaml_base.proofs.Common.{line_feed, space, Cursor, Rendered, render_nothing, new_line, Place, Tree, Line, lines_of, is_spaces, without_skipped_lines}
+use Rattle.yaml_base.proofs.Common.{first_line_is_skipped, ends_indicator, belongs_to_entry, Indented, spaces, blanked, LinesReader, text_read, NodeKind}
 use Rattle.yaml_base.proofs.Common.{begins_text, kind_of_node, ReadsText, node_by_kind, node_at, node_lines, begins_properties, after_properties}
 use Rattle.yaml_base.proofs.stream_lines.StreamClosed.{closing, closed, Settled, spaces_line, begins_cons, lines_behind, after_line, lines_broken}
 use Rattle.yaml_base.proofs.{stream_lines.StreamTidyLaws.lines_after_first, stream_lines.StreamClosed.closed_alike, stream_lines.StreamClosed.closed_both}
@@ -10,7 +11,7 @@ use Rattle.yaml_base.proofs.{stream_nodes.StreamFits.WithinColumn, stream_nodes.
 use Rattle.yaml_base.proofs.{stream_nodes.StreamLaid.Opened, stream_nodes.StreamLaid.Lays}
 use Rattle.yaml_base.proofs.Common.{text_or_properties, node_read, Rules, Properties, no_properties, PropertiesRead, properties_read, collection_tag_parsed}
 use Rattle.yaml_base.proofs.stream_lines.StreamLineLaws.{is_closed, OneLine, one_line_both}
-use Rattle.yaml_base.proofs.stream_lines.StreamInside.{indented_spaces, not_blank, blank_spaces, AllInside, blank_both}
+use Rattle.yaml_base.proofs.stream_lines.StreamInside.{indented_spaces, not_skipped, skipped_blank, blank_spaces, AllInside, blank_both}
 
 -- Lines
 
@@ -21,10 +22,15 @@ pub opened_reads : (rules : Rules) (reads : LinesReader) (reads_text : ReadsText
     ≡ node_by_kind kind rules reads reads_text properties here first (record { column = e; text = o.head ∷ o.tail }) o.ending o.rest lines
 opened_reads rules reads reads_text properties here first e lines kind o = grind (arith, indented_spaces)
 
--- no line is blank there
-pub opened_shows : (rules : Rules) (e : ℕ) (lines : List Line) (kind : NodeKind) → Opened rules e lines kind → (first_line_is_blank lines ≡ false)
-    × (without_blank_lines lines ≡ lines)
-opened_shows rules e lines kind o = grind (arith, not_blank)
+-- no line is skipped there
+pub opened_shows : (rules : Rules) (e : ℕ) (lines : List Line) (kind : NodeKind) → Opened rules e lines kind → (first_line_is_skipped lines ≡ false)
+    × (without_skipped_lines lines ≡ lines)
+opened_shows rules e lines kind o =
+    let line : Line = record { text = spaces e ++ (o.head ∷ o.tail); ending = o.ending } in
+    let shown = not_skipped e o.head o.tail o.shows o.uncommented in (
+      ap first_line_is_skipped o.is ∙ shown,
+      ap without_skipped_lines o.is ∙ ap (λ x. if x then without_skipped_lines o.rest else line ∷ o.rest) shown ∙ sym o.is,
+    )
 
 -- the text of a collection's entries at a column reads as a tree of its properties, at every depth from a size on
 pub record Block (rules : Rules) (size e : ℕ) (text : Text) (make : Option Text → Option Text → Tree) : Type 0 where
@@ -41,8 +47,9 @@ block_below : (rules : Rules) (n e : ℕ) (text : Text) (make : Option Text → 
     → node_lines rules (node_read depth rules) reads_text properties here (line ∷ lines_of rules.breaks12 text) ≡ Some (make properties.anchor tag)
 block_below rules n e text make block depth deep reads_text properties tag parsed here line blank =
     let lines = lines_of rules.breaks12 text in
-    ap (λ x. node_at rules (node_read depth rules) reads_text properties (here || x) (not x) (if x then without_blank_lines lines else line ∷ lines)) blank
-    ∙ ap (λ x. node_at rules (node_read depth rules) reads_text properties x false (without_blank_lines lines)) (or-true here)
+    ap (λ x. node_at rules (node_read depth rules) reads_text properties (here || x) (not x) (if x then without_skipped_lines lines else line ∷ lines))
+    (skipped_blank line.text blank)
+    ∙ ap (λ x. node_at rules (node_read depth rules) reads_text properties x false (without_skipped_lines lines)) (or-true here)
     ∙ ap (node_at rules (node_read depth rules) reads_text properties true false) (opened_shows rules e lines block.kind block.opened).1
     ∙ block.reads depth deep reads_text properties false tag parsed
 
@@ -52,8 +59,8 @@ block_on_line : (rules : Rules) (n e : ℕ) (text : Text) (make : Option Text �
     → node_lines rules (node_read depth rules) reads_text properties true (lines_of rules.breaks12 text) ≡ Some (make properties.anchor tag)
 block_on_line rules n e text make block depth deep reads_text properties tag parsed =
     let lines = lines_of rules.breaks12 text in
-    ap (λ ls. node_at rules (node_read depth rules) reads_text properties true (not (first_line_is_blank lines)) ls)
-    (opened_shows rules e lines _ block.opened).1 ∙ block.reads depth deep reads_text properties (not (first_line_is_blank lines)) tag parsed
+    ap (λ ls. node_at rules (node_read depth rules) reads_text properties true (not (first_line_is_skipped lines)) ls)
+    (opened_shows rules e lines _ block.opened).1 ∙ block.reads depth deep reads_text properties (not (first_line_is_skipped lines)) tag parsed
 
 -- Cursors
 
@@ -235,6 +242,10 @@ unsaid_on_line rules n e place cursor entries text make block all h =
 
 -- After properties
 
+-- no property begins with `#`
+pub property_uncommented : (c : ℕ) (t : Text) → begins_properties (c ∷ t) ≡ true → (c == 0x23) ≡ false
+property_uncommented c t h = grind (arith, nat_tests, false≢true)
+
 -- the text after the words of properties on a line, if the block is below
 parsed_reads : (rules : Rules) (n e : ℕ) (column : Option ℕ) (text : Text) (c : ℕ) (t : Text) (make : Option Text → Option Text → Tree)
     → Block rules n e text make
@@ -251,8 +262,8 @@ parsed_reads rules n e column text c t make block read anchor tag reads blank an
     let begun : Indented = record { column = k; text = c ∷ t } in
     ap (node_read (suc depth) rules here column)
     (lines_broken rules.breaks12 (spaces k ++ (c ∷ t)) text (one_line_both rules.breaks12 (spaces k) (c ∷ t) (spaces_line rules.breaks12 k) one))
-    ∙ ap (λ x. node_at rules (node_read depth rules) by no_properties (here || x) (not x) (if x then without_blank_lines lines else line ∷ lines))
-    (not_blank k c t shows)
+    ∙ ap (λ x. node_at rules (node_read depth rules) by no_properties (here || x) (not x) (if x then without_skipped_lines lines else line ∷ lines))
+    (not_skipped k c t shows (property_uncommented c t begins))
     ∙ ap (λ (i : Indented). node_by_kind (kind_of_node rules i.text) rules (node_read depth rules) by no_properties (here || false) true i
     (line_feed ∷ []) lines (line ∷ lines)) (indented_spaces k c t shows)
     ∙ ap (λ x. node_by_kind x rules (node_read depth rules) by no_properties (here || false) true begun (line_feed ∷ []) lines (line ∷ lines)) kind

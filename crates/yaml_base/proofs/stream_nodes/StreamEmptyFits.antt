@@ -4,6 +4,7 @@ use Rattle.yaml_base.proofs.Common.{refl, ◌≡◌, append-nil, append_assoc, a
 use Rattle.yaml_base.proofs.Common.{plain, TagDirective, render_properties, Place, Effective, ParsedTag, stood_plain, scalar_tree, Line, lines_of, spaces}
 use Rattle.yaml_base.proofs.Common.{blanked, text_read, ReadsText, node_at, begins_properties, after_properties, text_or_properties, node_read, Rules}
 use Rattle.yaml_base.proofs.{stream_flow.StreamFlowScalars.rules_of, stream_flow.StreamFlowWords.scalar_in, stream_lines.StreamCuts.none_not_some}
+use Rattle.yaml_base.proofs.stream_lines.StreamInside.{skipped_blank}
 use Rattle.yaml_base.proofs.{stream_lines.StreamInside.blank_spaces, stream_lines.StreamInside.blank_both, stream_lines.StreamLineLaws.is_closed}
 use Rattle.yaml_base.proofs.{stream_nodes.StreamAgrees.tagging_in, stream_nodes.StreamBegun.begun_kind, stream_nodes.StreamFits.Fits}
 use Rattle.yaml_base.proofs.{stream_nodes.StreamProperties.IsNamed, stream_nodes.StreamScalarsFit.render_styled, stream_nodes.StreamStands.TagStands}
@@ -34,7 +35,8 @@ nothing_fits rules place cursor = record {
         let by : ReadsText = λ at text. text_or_properties (begins_properties text) rules (node_read depth rules) place.column at text in
         let line : Line = record { text = spaces k; ending = line_feed ∷ [] } in
         ap (node_read (suc depth) rules here place.column) (lines_broken rules.breaks12 (spaces k) [] (spaces_line rules.breaks12 k))
-        ∙ ap (λ x. node_at rules (node_read depth rules) by no_properties (here || x) (not x) (if x then [] else line ∷ [])) (blank_spaces k)
+        ∙ ap (λ x. node_at rules (node_read depth rules) by no_properties (here || x) (not x) (if x then [] else line ∷ []))
+        (skipped_blank (spaces k) (blank_spaces k))
 
 -- the properties give the scalar's tagging
 empty_tagging : (read : Option ParsedTag) (tag : Option Text) → collection_tag_parsed read ≡ Some tag
@@ -58,7 +60,8 @@ parsed_reads_nothing rules column anchor tag cursor begun parsed = record {
       ap (λ x. text_or_properties x rules reads column at (parsed.head ∷ parsed.tail) (line_feed ∷ []) []) parsed.begins
       ∙ ap (after_properties rules reads column at (line_feed ∷ []) []) parsed.reads
       ∙ ap (λ x. node_at rules reads (λ at. text_read rules column parsed.read.properties) parsed.read.properties (false || x) (not x)
-      (if x then [] else blanked at parsed.read.text (line_feed ∷ []) ∷ [])) (blank_both at parsed.read.text parsed.blank)
+      (if x then [] else blanked at parsed.read.text (line_feed ∷ []) ∷ []))
+      (skipped_blank (spaces at ++ parsed.read.text) (blank_both at parsed.read.text parsed.blank))
       ∙ ap (option_map (λ tagging. scalar_tree parsed.read.properties.anchor tagging [])) (empty_tagging parsed.read.properties.tag tag parsed.read_tag)
       ∙ ap (λ a. Some (scalar_tree a (tagging_in tag (record { style = plain; bare = false })) [])) parsed.anchor_read;
 }

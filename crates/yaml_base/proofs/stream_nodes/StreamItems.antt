@@ -82,6 +82,7 @@ item_laid rules s directives items last e cursor all fit =
         rest = o.rest;
         is = indicated_lines rules.breaks12 e 0x2D (closed own) o (unbroken_line rules.breaks12 (0x2D ∷ []) refl);
         shows = refl;
+        uncommented = refl;
         begins = rw o.symbol;
       };
     })

@@ -1,17 +1,18 @@
 -- The entries of a collection in a block, one after another, be they the items of a sequence or the pairs of a mapping: the text of each begins on a line
 -- of its own, its lines are entries to the reader, lie inside the columns around, and add its trees to those before them.
-use Rattle.yaml_base.proofs.Common.{ℕ, ◌+◌, ◌≤◌, ◌==◌, fold, Option, None, Some, Bool, false, true, List, [], ◌++◌, ◌∷◌, refl}
+use Rattle.yaml_base.proofs.Common.{ℕ, ◌+◌, ◌≤◌, ◌==◌, if◌then◌else◌, fold, Option, None, Some, Bool, false, true, List, [], ◌++◌, ◌∷◌, refl}
 use Rattle.yaml_base.proofs.Common.{◌≡◌, true≢false, append_assoc, ap, subst, sym, ◌∙◌, arith, Text, space, Cursor, Rendered, render_nothing}
 use Rattle.yaml_base.proofs.Common.{new_line, Tree, Trees, no_trees, sequence_tree, TreePairs, no_tree_pairs, mapping_tree, Line, lines_of, spaces}
 use Rattle.yaml_base.proofs.Common.{LinesReader, NodeKind, begins_sequence, begins_mapping, kind_of_node, node_read, Rules}
 use Rattle.yaml_base.proofs.Common.{marker_of, ends_indicator, belongs_to_entry, is_in_mapping, entry_place, Role, not, ◌&&◌, and_from, nat_tests}
 use Rattle.yaml_base.proofs.stream_lines.StreamClosed.{closing, closed, Settled, new_line_closes, closed_both, rank, inside_both}
-use Rattle.yaml_base.proofs.stream_lines.StreamInside.{AllInside, Splits, splits_none, splits_both, splits_one, begins_entry, outside}
+use Rattle.yaml_base.proofs.stream_lines.StreamInside.{AllInside, Splits, splits_none, splits_both, splits_one, begins_entry, outside, entry_uncommented}
 use Rattle.yaml_base.proofs.stream_lines.StreamLineLaws.{is_closed, OneLine, lines_after_break}
 use Rattle.yaml_base.proofs.stream_lines.StreamSections.{is_markerless, AllMarkerless}
 use Rattle.yaml_base.proofs.stream_lines.StreamMarkerless.{all_markerless, markerless_both}
 use Rattle.yaml_base.proofs.stream_nodes.StreamFits.{Fits, indicated_lines, indicated_ends}
-use Rattle.yaml_base.specs.streams.StreamNodes.{HeldPairs, item_read, with_item, entry_read}
+use Rattle.yaml_base.specs.streams.StreamNodes.{HeldPairs, item_read, with_item, with_item_or_comment, entry_read, between_pairs, pair_or_comment}
+use Rattle.yaml_base.specs.streams.StreamLines.{all_blank, is_comment_at}
 
 -- Kinds of collections
 
@@ -38,10 +39,23 @@ abbrev pub held : (in_sequence : Bool) → Content in_sequence → Held in_seque
 held true trees = trees
 held false pairs = record { pairs = pairs; key = None }
 
--- an entry is read
+-- an entry is read, be it a comment or not
 abbrev pub entry_step : (in_sequence : Bool) → Rules → LinesReader → ℕ → Option (Held in_sequence) → List Line → Option (Held in_sequence)
-entry_step true rules reads e before entry = with_item before (item_read reads e entry)
-entry_step false rules reads e before entry = entry_read rules reads e before entry
+entry_step true rules reads e before entry = with_item_or_comment reads e before entry
+entry_step false rules reads e before entry = pair_or_comment rules reads e before entry
+
+-- an entry that is no comment is read
+abbrev pub part_step : (in_sequence : Bool) → Rules → LinesReader → ℕ → Option (Held in_sequence) → List Line → Option (Held in_sequence)
+part_step true rules reads e before entry = with_item before (item_read reads e entry)
+part_step false rules reads e before entry = entry_read rules reads e before entry
+
+-- an entry is none if its first line is none at the column
+step_of_part : (q : Bool) (rules : Rules) (reads : LinesReader) (e : ℕ) (before : Option (Held q)) (line : Line) (rest : List Line)
+    → is_comment_at e line.text ≡ false → entry_step q rules reads e before (line ∷ rest) ≡ part_step q rules reads e before (line ∷ rest)
+step_of_part true rules reads e before line rest h =
+    ap (λ b. if b && all_blank rest then before else with_item before (item_read reads e (line ∷ rest))) h
+step_of_part false rules reads e before line rest h =
+    ap (λ b. if b && all_blank rest then between_pairs before else entry_read rules reads e before (line ∷ rest)) h
 
 abbrev pub entries_kind : (in_sequence : Bool) → NodeKind
 entries_kind true = begins_sequence
@@ -62,6 +76,7 @@ pub record Opened (rules : Rules) (e : ℕ) (lines : List Line) (kind : NodeKind
   pub rest : List Line
   pub is : lines ≡ record { text = spaces e ++ (head ∷ tail); ending = ending } ∷ rest
   pub shows : (head == space) ≡ false
+  pub uncommented : (head == 0x23) ≡ false
   pub begins : kind_of_node rules (head ∷ tail) ≡ kind
 
 -- more lines after them
@@ -130,17 +145,22 @@ pub reads_one : (q : Bool) (rules : Rules) (e : ℕ) (t text ending : Text) (res
     → begins_entry q t ≡ true → is_markerless (marker_of t) ≡ true
     → ((r : Bool) (d : ℕ) → d + margin q r ≤ e → belongs_to_entry r d (spaces e ++ t) ≡ true)
     → ((r : Bool) (d : ℕ) → d + rank (r && not q) ≤ e → AllInside r d rest)
-    → ((depth : ℕ) → size ≤ depth → entry_step q rules (node_read depth rules) e (Some before) (lines_of rules.breaks12 text) ≡ Some after)
+    → ((depth : ℕ) → size ≤ depth → part_step q rules (node_read depth rules) e (Some before) (lines_of rules.breaks12 text) ≡ Some after)
     → Reads q rules e text size before after
 reads_one q rules e t text ending rest size before after is ends begins markerless first later step =
     record {
       entries = lines_of rules.breaks12 text ∷ [];
       ends = ends;
-      splits = subst (λ ls. Splits q e ls (ls ∷ [])) (sym is) (splits_one q e _ rest (outside q e t begins) (later q e (own_rank q e)));
+      splits = subst (λ ls. Splits q e ls (ls ∷ [])) (sym is)
+          (splits_one q e _ rest (outside q e t begins) (entry_uncommented q e t begins) (later q e (own_rank q e)));
       inside = λ r d h. subst (AllInside r d) (sym is) (and_from _ _ (first r d h) (later r d (later_rank q r d e h)));
       markerless = λ h. subst AllMarkerless (sym is)
           (and_from _ _ (ap (λ (n : ℕ). is_markerless (marker_of (spaces n ++ t))) h ∙ markerless) (all_markerless false rest (later false 0 (omega arith))));
-      reads = λ depth deep others. ap (λ state. fold (entry_step q rules (node_read depth rules) e) state others) (step depth deep);
+      reads = λ depth deep others.
+          ap (λ state. fold (entry_step q rules (node_read depth rules) e) state others)
+          (ap (entry_step q rules (node_read depth rules) e (Some before)) is
+          ∙ step_of_part q rules (node_read depth rules) e (Some before) _ rest (entry_uncommented q e t begins)
+          ∙ ap (part_step q rules (node_read depth rules) e (Some before)) (sym is) ∙ step depth deep);
     }
 
 -- an indicator of entries
@@ -160,7 +180,7 @@ rest_inside rules n own tree role cursor e fit w r d h = grind (arith, nat_tests
 pub indicated_reads : (q : Bool) (c : ℕ) (rules : Rules) (n : ℕ) (own : Rendered) (tree : Tree) (role : Role) (cursor : Cursor) (e : ℕ) (before after : Held q)
     → Indicates q c → is_in_mapping role ≡ not q → Fits rules n own tree (entry_place false role e) cursor → cursor.whitespace ≡ false
     → ((depth : ℕ) → n ≤ depth
-    → entry_step q rules (node_read depth rules) e (Some before) (lines_of rules.breaks12 (spaces e ++ (c ∷ closed own))) ≡ Some after)
+    → part_step q rules (node_read depth rules) e (Some before) (lines_of rules.breaks12 (spaces e ++ (c ∷ closed own))) ≡ Some after)
     → Reads q rules e (spaces e ++ (c ∷ closed own)) n before after
 indicated_reads q c rules n own tree role cursor e before after indicates mapping fit w step =
     let o = fit.opens w in

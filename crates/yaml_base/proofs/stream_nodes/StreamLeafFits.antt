@@ -3,12 +3,13 @@ use Rattle.yaml_base.proofs.Common.{nat_tests}
 use Rattle.yaml_base.proofs.Common.{or_from, or_parts}
 use Rattle.yaml_base.proofs.Common.{suc, zero, ℕ, ◌+◌, ◌<◌, ◌≤◌, if◌then◌else◌, ◌==◌, Option, None, Some, Bool, false, not, true, ◌&&◌, ◌||◌, List, [], ◌++◌}
 use Rattle.yaml_base.proofs.Common.{◌∷◌, refl, ◌≡◌, ap, ◌∙◌, arith, and_parts, and_from, list_all, Text, space, Cursor, Rendered, Place, is_in_mapping, Tree}
-use Rattle.yaml_base.proofs.Common.{Line, lines_of, without_blank_lines, ends_indicator, belongs_to_entry, Indented, spaces, LinesReader, begins_text}
+use Rattle.yaml_base.proofs.Common.{Line, lines_of, without_skipped_lines, ends_indicator, belongs_to_entry, Indented, spaces, LinesReader, begins_text}
 use Rattle.yaml_base.proofs.{stream_lines.StreamLineLaws.is_closed, stream_lines.StreamTidyLaws.lines_after_first, stream_nodes.StreamBlocks.spaces_both}
 use Rattle.yaml_base.proofs.{stream_nodes.StreamFits.WithinColumn, stream_nodes.StreamFits.Fits, AllPass.all_pass}
 use Rattle.yaml_base.proofs.Common.{kind_of_node, ReadsText, node_by_kind, node_at, begins_properties, text_or_properties, node_read, Rules, no_properties}
 use Rattle.yaml_base.proofs.stream_lines.StreamClosed.{closed, Settled, spaces_line, lines_behind, rank}
-use Rattle.yaml_base.proofs.stream_lines.StreamInside.{indented_spaces, not_blank, AllInside, inside_mapping}
+use Rattle.yaml_base.proofs.stream_lines.StreamInside.{indented_spaces, not_skipped, AllInside, inside_mapping}
+use Rattle.yaml_base.proofs.{stream_documents.StreamNoComment.no_text, stream_lines.StreamCuts.none_not_some, Common.eqb-true, Common.sym}
 
 -- Inside
 
@@ -39,6 +40,20 @@ pub record TextReads (rules : Rules) (column : Option ℕ) (text : Text) (tree :
   pub deeper : (c : ℕ) → column ≡ Some c → AllInside true c rest
   pub read : (reads : LinesReader) (at : ℕ) → text_or_properties (begins_properties (head ∷ first)) rules reads column at (head ∷ first) ending rest ≡ Some tree
 
+-- it begins no comment
+text_uncommented : (rules : Rules) (column : Option ℕ) (text : Text) (tree : Tree) (t : TextReads rules column text tree) → (t.head == 0x23) ≡ false
+text_uncommented rules column text tree t = by (t.head == 0x23) refl
+  where
+    reads : LinesReader
+    reads = node_read 0 rules
+
+    by : (x : Bool) → (t.head == 0x23) ≡ x → x ≡ false
+    by false e = refl
+    by true e =
+        absurd (none_not_some (sym (no_text rules column no_properties t.first t.ending t.rest)
+        ∙ ap (λ c. text_or_properties (begins_properties (c ∷ t.first)) rules reads column 0 (c ∷ t.first) t.ending t.rest) (sym (eqb-true t.head 0x23 e))
+        ∙ t.read reads 0))
+
 -- it reads after spaces
 text_lines : (rules : Rules) (column : Option ℕ) (text : Text) (tree : Tree) → TextReads rules column text tree → (depth : ℕ) → 1 ≤ depth
     → (here : Bool) (k : ℕ)
@@ -49,8 +64,8 @@ text_lines rules column text tree t (suc depth) deep here k =
     let by : ReadsText = λ at text. text_or_properties (begins_properties text) rules (node_read depth rules) column at text in
     let begun : Indented = record { column = k; text = t.head ∷ t.first } in
     ap (node_read (suc depth) rules here column) (lines_behind rules.breaks12 (spaces k) text (t.head ∷ t.first) t.ending t.rest (spaces_line _ k) t.is)
-    ∙ ap (λ x. node_at rules (node_read depth rules) by no_properties (here || x) (not x) (if x then without_blank_lines t.rest else line ∷ t.rest))
-    (not_blank k _ _ t.shows)
+    ∙ ap (λ x. node_at rules (node_read depth rules) by no_properties (here || x) (not x) (if x then without_skipped_lines t.rest else line ∷ t.rest))
+    (not_skipped k t.head t.first t.shows (text_uncommented rules column text tree t))
     ∙ ap (λ (i : Indented). node_by_kind (kind_of_node rules i.text) rules (node_read depth rules) by no_properties (here || false) true i t.ending t.rest
     (line ∷ t.rest)) (indented_spaces k _ _ t.shows)
     ∙ ap (λ x. node_by_kind x rules (node_read depth rules) by no_properties (here || false) true begun t.ending t.rest (line ∷ t.rest)) t.kind

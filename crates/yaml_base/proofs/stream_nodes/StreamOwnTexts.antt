@@ -10,7 +10,9 @@ use Rattle.yaml_base.proofs.{stream_nodes.StreamLeads.lead_spaces, stream_nodes.
 use Rattle.yaml_base.proofs.{stream_nodes.StreamStands.tag_meant, stream_keys.StreamNoKeys.KeyNowhere, stream_keys.StreamNoKeys.lead_nowhere}
 use Rattle.yaml_base.proofs.stream_flow.StreamFlowWords.{Given, tagging_meant, scalar_in}
 use Rattle.yaml_base.proofs.stream_lines.StreamTidyLaws.{first_text, lines_after_first}
-use Rattle.yaml_base.proofs.stream_lines.StreamInside.{indented_spaces, not_blank, AllInside, deeper_inside}
+use Rattle.yaml_base.proofs.stream_lines.StreamInside.{indented_spaces, not_skipped, AllInside, deeper_inside}
+use Rattle.yaml_base.proofs.{stream_documents.StreamNoComment.no_text_by_kind, stream_lines.StreamCuts.none_not_some, Common.eqb-true}
+use Rattle.yaml_base.proofs.Common.{Indented, ReadsText, node_at, node_by_kind, no_properties, without_skipped_lines}
 use Rattle.yaml_base.proofs.stream_nodes.StreamProperties.{properties_text, has_properties, begins_content, properties_parsed}
 
 -- Lines
@@ -78,11 +80,18 @@ own_kind rules anchor tag parsed c f given no_item no_key keyless = grind (arith
 
 -- the text after spaces in the place of properties is read with them
 behind_reads : (rules : Rules) (reads : LinesReader) (column : Option ℕ) (properties : Properties) (k c : ℕ) (f ending : Text) (rest : List Line)
-    → (c == space) ≡ false
+    → (c == space) ≡ false → (c == 0x23) ≡ false
     → kind_of_node rules (c ∷ f) ≡ begins_text
     → node_lines rules reads (λ at. text_read rules column properties) properties false (record { text = spaces k ++ (c ∷ f); ending = ending } ∷ rest)
     ≡ text_read rules column properties (c ∷ f) ending rest
-behind_reads rules reads column properties k c f ending rest shows kind = grind (arith, not_blank, indented_spaces)
+behind_reads rules reads column properties k c f ending rest shows uncommented kind =
+    let line : Line = record { text = spaces k ++ (c ∷ f); ending = ending } in
+    let texts : ReadsText = λ at. text_read rules column properties in
+    ap (λ x. node_at rules reads texts properties x (not x) (if x then without_skipped_lines rest else line ∷ rest))
+    (not_skipped k c f shows uncommented)
+    ∙ ap (λ (i : Indented). node_by_kind (kind_of_node rules i.text) rules reads texts properties false true i ending rest (line ∷ rest))
+    (indented_spaces k c f shows)
+    ∙ ap (λ x. node_by_kind x rules reads texts properties false true (record { column = k; text = c ∷ f }) ending rest (line ∷ rest)) kind
 
 -- the first character of a node's own text is no space and no indicator of a property
 pub own_shows : (c : ℕ) → begins_content (c ∷ []) ≡ true → ((c == space) ≡ false) × ((c == 0x26 || c == 0x21) ≡ false)
@@ -92,10 +101,10 @@ own_shows c h = grind (arith, false≢true)
 pub parsed_reads : (rules : Rules) (reads : LinesReader) (column : Option ℕ) (at : ℕ) (anchor tag : Option Text) (parsed : Option ParsedTag) (c : ℕ)
     (f ending : Text)
     (rest : List Line)
-    → Given rules anchor tag parsed → begins_content (c ∷ f) ≡ true → kind_of_node rules (c ∷ f) ≡ begins_text
+    → Given rules anchor tag parsed → begins_content (c ∷ f) ≡ true → (c == 0x23) ≡ false → kind_of_node rules (c ∷ f) ≡ begins_text
     → text_or_properties (begins_properties (lead anchor tag ++ (c ∷ f))) rules reads column at (lead anchor tag ++ (c ∷ f)) ending rest
     ≡ text_read rules column (record { anchor = anchor; tag = parsed }) (c ∷ f) ending rest
-parsed_reads rules reads column at anchor tag parsed c f ending rest given content kind = by anchor tag parsed given
+parsed_reads rules reads column at anchor tag parsed c f ending rest given content uncommented kind = by anchor tag parsed given
   where
     shown : ((c == space) ≡ false) × ((c == 0x26 || c == 0x21) ≡ false)
     shown = own_shows c content
@@ -110,7 +119,7 @@ parsed_reads rules reads column at anchor tag parsed c f ending rest given conte
         ∙ ap (after_properties rules reads column at ending rest) (properties_parsed _ anchor tag parsed _ (c ∷ f) given.named given.tagged content
         (λ h. ap (λ x. ends_indicator (spaces (if x then 1 else 0) ++ (c ∷ f))) has))
         ∙ ap (λ t. node_lines rules reads (λ at. text_read rules column properties) properties false (record { text = t; ending = ending } ∷ rest))
-        (spaces_both at count _ (c ∷ f) refl) ∙ behind_reads rules reads column properties (at + count) c f ending rest shown.0 kind
+        (spaces_both at count _ (c ∷ f) refl) ∙ behind_reads rules reads column properties (at + count) c f ending rest shown.0 uncommented kind
 
     by : (anchor tag : Option Text) (parsed : Option ParsedTag) → Given rules anchor tag parsed
         → text_or_properties (begins_properties (lead anchor tag ++ (c ∷ f))) rules reads column at (lead anchor tag ++ (c ∷ f)) ending rest
@@ -139,6 +148,18 @@ headed rules (Some name) (Some tag) parsed c f given h =
     record { head = 0x26; tail = ((name ++ (space ∷ tag)) ++ (space ∷ [])) ++ (c ∷ f); is = refl; shows = refl }
 headed rules None (Some tag) (Some parsed) c f given h = grind (arith)
 headed rules None (Some tag) None c f given h = absurd given.tagged
+
+-- such a text begins no comment
+own_uncommented : (rules : Rules) (column : Option ℕ) (text value : Text) (style : ScalarStyle) (own : OwnText rules column text style value)
+    → (own.head == 0x23) ≡ false
+own_uncommented rules column text value style own = by (own.head == 0x23) refl
+  where
+    by : (x : Bool) → (own.head == 0x23) ≡ x → x ≡ false
+    by false e = refl
+    by true e =
+        absurd (none_not_some (sym (no_text_by_kind rules column no_properties own.tail)
+        ∙ ap (λ c. text_by_kind (kind_of_text (c ∷ [])) rules column no_properties (c ∷ own.tail)) (sym (eqb-true own.head 0x23 e))
+        ∙ own.read no_properties))
 
 -- such a text reads on its lines after its properties
 pub own_reads : (rules : Rules) (column : Option ℕ) (text value : Text) (style : ScalarStyle) (anchor tag given_tag : Option Text) (bare : Bool)
@@ -169,6 +190,7 @@ own_reads rules column text value style anchor tag given_tag bare own given mean
       read = λ reads at.
           ap (λ t. text_or_properties (begins_properties t) rules reads column at t (first_ending lines) (lines_after_first lines)) (sym h.is)
           ∙ parsed_reads rules reads column at anchor tag parsed own.head f (first_ending lines) (lines_after_first lines) given own.content
+          (own_uncommented rules column text value style own)
           (own_kind rules None None None own.head f alone own.no_item own.no_key (own.keyless None None None alone))
           ∙ own_read rules column properties own.head own.tail own.goes_on (deeper_all column (lines_after_first lines) own.deeper)
           ∙ own.read properties

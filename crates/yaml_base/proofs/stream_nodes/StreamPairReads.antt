@@ -6,7 +6,7 @@ use Rattle.yaml_base.proofs.Common.{TagDirective, Node, Pairs, pairs_and, entry_
 use Rattle.yaml_base.proofs.Common.{Effective, Tree, TreePairs, tree_pairs_and, lines_of, spaces, SimpleKey, key_entry, value_entry, simple_entry}
 use Rattle.yaml_base.proofs.Common.{begins_sequence, begins_mapping, begins_text, kind_of_node, begins_with_indicator, key_of_line, node_read, Rules}
 use Rattle.yaml_base.proofs.stream_nodes.StreamPairs.{KeyFits, key_place, value_place, colon_cursor, simple_key, indicated_key, simple_value, indicated_value}
-use Rattle.yaml_base.proofs.stream_nodes.StreamPairs.{pair_text, PairFits, keyed_lines, keyed_begins}
+use Rattle.yaml_base.proofs.stream_nodes.StreamPairs.{pair_text, PairFits, keyed_lines, key_uncommented, keyed_begins}
 use Rattle.yaml_base.proofs.stream_lines.{StreamInside.past_spaces, StreamInside.inside_deeper, StreamMarkerless.question_markerless}
 use Rattle.yaml_base.proofs.stream_lines.{StreamMarkerless.colon_markerless, StreamLineLaws.is_closed, StreamLineLaws.lines_after_break}
 use Rattle.yaml_base.proofs.stream_nodes.{StreamAgrees.node_tree, StreamAgrees.pairs_tree, StreamItems.regrouped, StreamTexts.placed_own}
@@ -161,6 +161,7 @@ pair_opens true rules s directives pairs key value e fit =
           keyed_lines rules k (closed (simple_value pairs key value s directives e)) (node_tree key s directives (key_place pairs e)) e fit.0 o
           ∙ ap (λ t. record { text = spaces e ++ (t ++ (0x3A ∷ o.head)); ending = o.ending } ∷ o.rest) fit.0.is;
       shows = fit.0.shows;
+      uncommented = key_uncommented rules k (node_tree key s directives (key_place pairs e)) fit.0;
       begins =
           ap (kind_of_node rules) (ap (λ t. t ++ (0x3A ∷ o.head)) (sym fit.0.is))
           ∙ key_begins rules line (begins_with_indicator 0x2D (k ++ (0x3A ∷ o.head))) (begins_with_indicator 0x3F (k ++ (0x3A ∷ o.head)))
@@ -182,6 +183,7 @@ pair_opens false rules s directives pairs key value e fit =
           (indicated_ends rules.breaks12 e 0x3F k o fit.0.ends)
           ∙ ap (λ ls. ls ++ more) (indicated_lines rules.breaks12 e 0x3F k o (unbroken_line rules.breaks12 (0x3F ∷ []) refl));
       shows = refl;
+      uncommented = refl;
       begins = ap (λ x. if x || is_some (key_of_line rules (0x3F ∷ o.head)) then begins_mapping else begins_text) o.symbol;
     }
 

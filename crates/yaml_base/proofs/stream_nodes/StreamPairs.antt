@@ -1,7 +1,8 @@
 -- The pairs of a mapping in a block, if each of them fits: their lines split into one entry for a pair with a simple key and two for another, lie
 -- inside the columns around, and read as their trees.
 use Rattle.yaml_base.proofs.Common.{ℕ, ◌==◌, Some, codes, length, Bool, false, not, true, List, [], ◌++◌, ◌∷◌, refl, ◌≡◌, ap}
-use Rattle.yaml_base.proofs.Common.{sym, ◌∙◌, and_from, Text, space, Cursor, Rendered, indicator, TagDirective, Node, Pairs}
+use Rattle.yaml_base.proofs.{stream_documents.StreamNoComment.no_key, stream_lines.StreamCuts.none_not_some}
+use Rattle.yaml_base.proofs.Common.{sym, ◌∙◌, eqb-true, and_from, Text, space, Cursor, Rendered, indicator, TagDirective, Node, Pairs}
 use Rattle.yaml_base.proofs.Common.{entry_place, as_key, as_value, Place, has_no_pairs, Effective, Tree, marker_of}
 use Rattle.yaml_base.proofs.stream_lines.StreamClosed.{closed, indicator_cursor, margin_cursor, spaces_line, lines_behind}
 use Rattle.yaml_base.{proofs.stream_lines.StreamSections.is_markerless, proofs.stream_nodes.StreamAgrees.node_tree, proofs.stream_nodes.StreamTexts.node_own}
@@ -76,9 +77,21 @@ keyed_lines rules text t tree e key o =
     lines_behind _ _ _ _ o.ending o.rest (spaces_line rules.breaks12 e) (lines_behind _ text _ _ o.ending o.rest key.one_line
     (lines_behind rules.breaks12 (0x3A ∷ []) t o.head o.ending o.rest (unbroken_line rules.breaks12 (0x3A ∷ []) refl) o.is))
 
+-- no key begins with `#`
+pub key_uncommented : (rules : Rules) (text : Text) (tree : Tree) (key : KeyFits rules text tree) → (key.first == 0x23) ≡ false
+key_uncommented rules text tree key = by (key.first == 0x23) refl
+  where
+    by : (x : Bool) → (key.first == 0x23) ≡ x → x ≡ false
+    by false e = refl
+    by true e =
+        absurd (none_not_some (sym (no_key rules [] (key.tail ++ (0x3A ∷ [])))
+        ∙ ap (λ c. key_of_line rules (c ∷ (key.tail ++ (0x3A ∷ [])))) (sym (eqb-true key.first 0x23 e))
+        ∙ ap (λ t. key_of_line rules (t ++ (0x3A ∷ []))) (sym key.is) ∙ key.cut [] refl))
+
 -- a key begins an entry
 pub keyed_begins : (rules : Rules) (text after : Text) (tree : Tree) → KeyFits rules text tree → ends_indicator after ≡ true
     → begins_entry false (text ++ (0x3A ∷ after)) ≡ true
 keyed_begins rules text after tree key h =
     ap (λ t. begins_entry false (t ++ (0x3A ∷ after))) key.is
-    ∙ and_from _ _ (ap not key.shows) (ap not (ap (λ t. begins_with_indicator 0x2D (t ++ (0x3A ∷ after))) (sym key.is) ∙ key.no_dash after h))
+    ∙ and_from _ _ (ap not key.shows) (and_from _ _ (ap not (key_uncommented rules text tree key))
+    (ap not (ap (λ t. begins_with_indicator 0x2D (t ++ (0x3A ∷ after))) (sym key.is) ∙ key.no_dash after h)))

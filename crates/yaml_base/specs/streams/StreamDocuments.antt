@@ -8,7 +8,7 @@ use Rattle.yaml_base.specs.Characters.{Text, is_space}
 use Rattle.yaml_base.specs.Event.{Version, TagDirective}
 use Rattle.yaml_base.specs.reading.ReadTags.{is_handle_text, prefix_parsed, is_handle_given}
 use Rattle.yaml_base.specs.streams.StreamContent.{Tree, DocumentTree}
-use Rattle.yaml_base.specs.streams.StreamLines.{Line, lines_of, is_spaces, without_blank_lines, all_blank, ends_indicator, blanked}
+use Rattle.yaml_base.specs.streams.StreamLines.{Line, lines_of, begins_comment, is_skipped, without_skipped_lines, all_blank, ends_indicator, blanked}
 use Rattle.yaml_base.specs.streams.StreamScalars.{Rules}
 use Rattle.yaml_base.specs.streams.StreamNodes.{node_read}
 
@@ -107,19 +107,20 @@ prologue_read lines = fold directive_line (Some no_prologue) lines
 
 -- Documents. Source: YAML 1.1, section 7.3 Documents, l-explicit-document.
 
--- true if a line begins with a character that is no space (this project)
+-- true if a line begins with a character that is no space and no `#` (this project)
 abbrev pub stands_at_margin : List Line → Bool
 stands_at_margin [] = true
-stands_at_margin (line ∷ rest) = not (ends_indicator line.text)
+stands_at_margin (line ∷ rest) = not (ends_indicator line.text) && not (begins_comment line.text)
 
 -- a root on lines of its own, the first of which begins at column 0; without lines it is the empty scalar (this project, for YAML 1.1,
 -- section 7.3 Documents, l-implicit-document)
 abbrev pub root_below : ℕ → Rules → List Line → Option Tree
 root_below depth rules lines = if stands_at_margin lines then node_read depth rules true None lines else None
 
--- a root on the line of `---` or below it; no block begins on that line (libyaml's scanner, for YAML 1.1, section 7.3 Documents, l-explicit-document)
-abbrev pub root_after_marker : (exclamation_alone : Bool) → ℕ → Rules → Line → List Line → Option Tree
-root_after_marker true depth rules line rest = root_below depth rules (without_blank_lines rest)
+-- a root on the line of `---` or, if the line holds nothing or a comment alone, below it; no block begins on that line
+-- (libyaml's scanner, for YAML 1.1, section 7.3 Documents, l-explicit-document)
+abbrev pub root_after_marker : (marker_alone : Bool) → ℕ → Rules → Line → List Line → Option Tree
+root_after_marker true depth rules line rest = root_below depth rules (without_skipped_lines rest)
 root_after_marker false depth rules line rest = node_read depth rules false None (line ∷ rest)
 
 -- the text after a marker (YAML 1.1, section 7.2 Document Boundary Markers, c-document-start)
@@ -130,7 +131,7 @@ after_marker _ = []
 -- the root of a document that begins with `---` (YAML 1.1, section 7.3 Documents, l-explicit-document)
 abbrev pub root_with_marker : ℕ → Rules → Line → List Line → Option Tree
 root_with_marker depth rules line rest =
-    root_after_marker (is_spaces (after_marker line.text)) depth rules (blanked 3 (after_marker line.text) line.ending) rest
+    root_after_marker (is_skipped (after_marker line.text)) depth rules (blanked 3 (after_marker line.text) line.ending) rest
 
 -- Streams. Source: helpers of this project's reader for l-yaml-stream (YAML 1.1, section 7.4 Complete Stream).
 
@@ -164,13 +165,13 @@ document_read depth breaks12 documents prologue section =
 abbrev pub with_prologue : List DocumentTree → Option Prologue → Option StreamRead
 with_prologue documents prologue = option_map (λ parsed. record { documents = documents; place = after_prologue parsed }) prologue
 
--- one section more: `...` is alone on its line, blank lines may follow it, and then directives (YAML 1.1, sections 7.2 Document Boundary
--- Markers and 7.3 Documents, l-document-suffix, l-explicit-document; `...` alone on its line is this project's rule)
+-- one section more: `...` is alone on its line, blank lines and comment lines may follow it, and then directives (YAML 1.1, sections
+-- 7.2 Document Boundary Markers and 7.3 Documents, l-document-suffix, l-explicit-document; `...` alone on its line is this project's rule)
 abbrev pub section_by_kind : MarkerKind → ℕ → Bool → List DocumentTree → StreamPlace → Section → Option StreamRead
 section_by_kind start_marker depth breaks12 documents after_root section = document_read depth breaks12 documents no_prologue section
 section_by_kind start_marker depth breaks12 documents (after_prologue prologue) section = document_read depth breaks12 documents prologue section
 section_by_kind end_marker depth breaks12 documents after_root section =
-    if length section.line.text == 3 then with_prologue documents (prologue_read (without_blank_lines section.rest)) else None
+    if length section.line.text == 3 then with_prologue documents (prologue_read (without_skipped_lines section.rest)) else None
 section_by_kind _ depth breaks12 documents place section = None
 
 -- one section more of a stream

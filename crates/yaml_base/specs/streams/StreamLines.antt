@@ -1,7 +1,8 @@
 -- A text by lines and columns: which lines belong to an entry above them, and a block's lines cut into its entries. The part of a line
 -- that a collection has read becomes spaces, so that each entry is again a text of its own, with the columns it had.
 -- Source, unless a definition names its own: helpers of this project's reader for s-indent(n) (YAML 1.1, section 6.1 Indentation Spaces).
-use Rattle.std.specs.Prelude.{ℕ, zero, suc, Bool, true, false, Option, None, Some, List, [], ◌∷◌, ◌++◌, ◌==◌, ◌||◌, ◌&&◌, not, replicate, if◌then◌else◌}
+use Rattle.std.specs.Prelude.{ℕ, zero, suc, Bool, true, false, Option, None, Some, List, [], ◌∷◌, ◌++◌, ◌==◌, ◌||◌, ◌&&◌, not, replicate, option_map, unwrap_or}
+use Rattle.std.specs.Prelude.{if◌then◌else◌}
 use Rattle.yaml_base.specs.Characters.{Text, space}
 use Rattle.yaml_base.specs.LineBreaks.{is_read_break}
 
@@ -35,15 +36,29 @@ abbrev pub is_spaces : Text → Bool
 is_spaces [] = true
 is_spaces (c ∷ rest) = c == space && is_spaces rest
 
--- the lines after blank ones (YAML 1.1, section 6.4 Ignored Line Prefix, l-empty(n,s))
-abbrev pub without_blank_lines : List Line → List Line
-without_blank_lines [] = []
-without_blank_lines (line ∷ rest) = if is_spaces line.text then without_blank_lines rest else line ∷ rest
+-- true if a text begins with `#`, as a comment does (YAML 1.1, section 5.3 Indicator Characters, c-comment)
+abbrev pub begins_comment : Text → Bool
+begins_comment [] = false
+begins_comment (c ∷ rest) = c == 0x23
 
--- true if the first of some lines is blank (YAML 1.1, section 6.4 Ignored Line Prefix, l-empty(n,s))
-abbrev pub first_line_is_blank : List Line → Bool
-first_line_is_blank [] = false
-first_line_is_blank (line ∷ rest) = is_spaces line.text
+-- true of a comment line: a `#` after spaces alone (YAML 1.1, section 6.2 Comments, c-nb-comment-text, l-comment)
+abbrev pub is_comment : Text → Bool
+is_comment [] = false
+is_comment (c ∷ rest) = c == 0x23 || (c == space && is_comment rest)
+
+-- true of a line that is skipped before a node: it is blank or a comment
+abbrev pub is_skipped : Text → Bool
+is_skipped text = is_spaces text || is_comment text
+
+-- the lines after blank lines and comment lines (YAML 1.1, sections 6.2 Comments and 6.4 Ignored Line Prefix, l-comment, l-empty(n,s))
+abbrev pub without_skipped_lines : List Line → List Line
+without_skipped_lines [] = []
+without_skipped_lines (line ∷ rest) = if is_skipped line.text then without_skipped_lines rest else line ∷ rest
+
+-- true if the first of some lines is blank or a comment (YAML 1.1, sections 6.2 Comments and 6.4 Ignored Line Prefix, l-comment, l-empty(n,s))
+abbrev pub first_line_is_skipped : List Line → Bool
+first_line_is_skipped [] = false
+first_line_is_skipped (line ∷ rest) = is_skipped line.text
 
 -- true if all lines are blank (YAML 1.1, section 6.4 Ignored Line Prefix, l-empty(n,s))
 abbrev pub all_blank : List Line → Bool
@@ -68,6 +83,27 @@ belongs_to_entry in_sequence column [] = true
 belongs_to_entry in_sequence zero (c ∷ rest) = c == space || (not in_sequence && begins_with_indicator 0x2D (c ∷ rest))
 belongs_to_entry in_sequence (suc column) (c ∷ rest) = c == space && belongs_to_entry in_sequence column rest
 
+-- the text at a column, after spaces alone (YAML 1.1, section 6.1 Indentation Spaces, s-indent(n))
+abbrev pub past_column : ℕ → Text → Option Text
+past_column zero text = Some text
+past_column (suc column) [] = None
+past_column (suc column) (c ∷ rest) = if c == space then past_column column rest else None
+
+-- true if a line has a comment at a column, after spaces alone (YAML 1.1, section 6.2 Comments, l-comment)
+abbrev pub is_comment_at : ℕ → Text → Bool
+is_comment_at column text = unwrap_or (option_map begins_comment (past_column column text)) false
+
+-- true if the first of some lines that is neither blank nor a comment is an item at a column
+abbrev pub item_follows : ℕ → List Line → Bool
+item_follows column [] = false
+item_follows column (line ∷ rest) =
+    if is_skipped line.text then item_follows column rest
+    else unwrap_or (option_map (begins_with_indicator 0x2D) (past_column column line.text)) false
+
+-- true if a comment line belongs to the entry above it, whose sequence goes on after it at the column of its mapping
+abbrev pub goes_on_after_comment : (in_sequence : Bool) → ℕ → Text → List Line → Bool
+goes_on_after_comment in_sequence column text rest = not in_sequence && is_comment_at column text && item_follows column rest
+
 -- the entries of a collection, each with the lines that belong to it, and the lines before them
 pub record Entries : Type 0 where
   pub before : List Line
@@ -78,12 +114,13 @@ abbrev pub prepend_line : (inside : Bool) → Line → Entries → Entries
 prepend_line true line after = record { before = line ∷ after.before; entries = after.entries }
 prepend_line false line after = record { before = []; entries = (line ∷ after.before) ∷ after.entries }
 
--- the lines of a collection at a column, cut into its entries
--- (YAML 1.1, sections 10.1.2 Block Sequences and 10.2.2 Block Mappings, c-l-block-sequence(n,c), c-l-block-mapping(n))
+-- the lines of a collection at a column, cut into its entries; a comment line there is an entry of its own, or it belongs to the entry above
+-- (YAML 1.1, sections 6.2 Comments, 10.1.2 Block Sequences and 10.2.2 Block Mappings, l-comment, c-l-block-sequence(n,c), c-l-block-mapping(n))
 abbrev pub entries_at : (in_sequence : Bool) → ℕ → List Line → Entries
 entries_at in_sequence column [] = record { before = []; entries = [] }
 entries_at in_sequence column (line ∷ rest) =
-    prepend_line (belongs_to_entry in_sequence column line.text) line (entries_at in_sequence column rest)
+    prepend_line (belongs_to_entry in_sequence column line.text || goes_on_after_comment in_sequence column line.text rest) line
+    (entries_at in_sequence column rest)
 
 -- true if each line is blank or deeper than the column; at the root any line is
 abbrev pub all_deeper : Option ℕ → List Line → Bool
@@ -106,12 +143,6 @@ indented_step false text after = record { column = 0; text = text }
 abbrev pub past_indentation : Text → Indented
 past_indentation [] = record { column = 0; text = [] }
 past_indentation (c ∷ rest) = indented_step (c == space) (c ∷ rest) (past_indentation rest)
-
--- the text at a column, after spaces alone (YAML 1.1, section 6.1 Indentation Spaces, s-indent(n))
-abbrev pub past_column : ℕ → Text → Option Text
-past_column zero text = Some text
-past_column (suc column) [] = None
-past_column (suc column) (c ∷ rest) = if c == space then past_column column rest else None
 
 -- some spaces (YAML 1.1, section 6.1 Indentation Spaces, s-indent(n))
 abbrev pub spaces : ℕ → Text

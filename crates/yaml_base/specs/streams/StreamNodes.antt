@@ -7,8 +7,8 @@ use Rattle.std.specs.Option.{option_or}
 use Rattle.yaml_base.specs.Characters.{Text, space}
 use Rattle.yaml_base.specs.LineBreaks.{is_read_break}
 use Rattle.yaml_base.specs.streams.StreamContent.{Tree, sequence_tree, mapping_tree, Trees, no_trees, trees_and, TreePairs, no_tree_pairs, tree_pairs_and}
-use Rattle.yaml_base.specs.streams.StreamLines.{Line, text_of_lines, without_blank_lines, first_line_is_blank, ends_indicator, begins_with_indicator}
-use Rattle.yaml_base.specs.streams.StreamLines.{Entries, entries_at}
+use Rattle.yaml_base.specs.streams.StreamLines.{Line, text_of_lines, all_blank, without_skipped_lines, first_line_is_skipped}
+use Rattle.yaml_base.specs.streams.StreamLines.{ends_indicator, begins_with_indicator, is_comment_at, Entries, entries_at}
 use Rattle.yaml_base.specs.streams.StreamLines.{all_deeper, Indented, past_indentation, past_column, blanked}
 use Rattle.yaml_base.specs.streams.StreamScalars.{Rules, Properties, no_properties, PropertiesRead, properties_read, collection_tag_parsed}
 use Rattle.yaml_base.specs.streams.StreamScalars.{style_of_first_character}
@@ -82,9 +82,18 @@ abbrev pub with_item : Option Trees → Option Tree → Option Trees
 with_item (Some trees) (Some tree) = Some (trees_and trees tree)
 with_item _ _ = None
 
+-- true of an entry that is a comment at the column, and blank lines after it (YAML 1.1, section 6.2 Comments, l-comment)
+abbrev pub is_comment_entry : ℕ → List Line → Bool
+is_comment_entry column [] = false
+is_comment_entry column (line ∷ rest) = is_comment_at column line.text && all_blank rest
+
+-- an entry of a sequence: a comment, which adds nothing, or one more item
+abbrev pub with_item_or_comment : LinesReader → ℕ → Option Trees → List Line → Option Trees
+with_item_or_comment reads column before entry = if is_comment_entry column entry then before else with_item before (item_read reads column entry)
+
 -- the items of a sequence at a column (YAML 1.1, section 10.1.2 Block Sequences, c-l-block-sequence(n,c))
 abbrev pub items_read : LinesReader → ℕ → List (List Line) → Option Trees
-items_read reads column entries = fold (λ before entry. with_item before (item_read reads column entry)) (Some no_trees) entries
+items_read reads column entries = fold (with_item_or_comment reads column) (Some no_trees) entries
 
 -- the pairs so far, and a key whose value is due
 pub record HeldPairs : Type 0 where
@@ -140,6 +149,15 @@ abbrev pub entry_read : Rules → LinesReader → ℕ → Option HeldPairs → L
 entry_read rules reads column (Some held) (line ∷ rest) = entry_at rules reads column line.ending rest held (past_column column line.text)
 entry_read rules reads column _ _ = None
 
+-- a comment comes between pairs, not between a key and its value
+abbrev pub between_pairs : Option HeldPairs → Option HeldPairs
+between_pairs before = option_and_then (λ held. if is_some held.key then None else Some held) before
+
+-- an entry of a mapping: a comment, which adds nothing, or a part of a pair
+abbrev pub pair_or_comment : Rules → LinesReader → ℕ → Option HeldPairs → List Line → Option HeldPairs
+pair_or_comment rules reads column before entry =
+    if is_comment_entry column entry then between_pairs before else entry_read rules reads column before entry
+
 -- no pair, no key
 abbrev pub no_pairs_held : HeldPairs
 no_pairs_held = record { pairs = no_tree_pairs; key = None }
@@ -150,7 +168,7 @@ pairs_held held = if is_some held.key then None else Some held.pairs
 
 -- the pairs of a mapping at a column (YAML 1.1, section 10.2.2 Block Mappings, c-l-block-mapping(n))
 abbrev pub pairs_read : Rules → LinesReader → ℕ → List (List Line) → Option TreePairs
-pairs_read rules reads column entries = option_and_then pairs_held (fold (entry_read rules reads column) (Some no_pairs_held) entries)
+pairs_read rules reads column entries = option_and_then pairs_held (fold (pair_or_comment rules reads column) (Some no_pairs_held) entries)
 
 -- the entries of a collection, if no line precedes them
 abbrev pub entries_whole : Entries → Option (List (List Line))
@@ -214,7 +232,7 @@ text_read rules column properties text ending rest =
 
 -- Nodes. Source: helpers of this project's reader for s-l+block-node(n,c) (YAML 1.1, section 8.5.2 Block Nodes).
 
--- the kind of a node, by its first line that isn't blank
+-- the kind of a node, by its first line that is neither blank nor a comment
 pub data NodeKind : Type 0 where
   begins_sequence : NodeKind
   begins_mapping : NodeKind
@@ -245,17 +263,17 @@ node_by_kind begins_mapping rules reads reads_text properties here first line en
 node_by_kind begins_text rules reads reads_text properties here first line ending rest lines =
     tree_if first (reads_text line.column line.text ending rest)
 
--- a node's lines from one that isn't blank on; none are the empty scalar
+-- a node's lines from one that is neither blank nor a comment on; none are the empty scalar
 abbrev pub node_at : Rules → LinesReader → ReadsText → Properties → (here first : Bool) → List Line → Option Tree
 node_at rules reads reads_text properties here first [] = empty_parsed properties
 node_at rules reads reads_text properties here first (line ∷ rest) =
     let begun = past_indentation line.text in
     node_by_kind (kind_of_node rules begun.text) rules reads reads_text properties here first begun line.ending rest (line ∷ rest)
 
--- blank lines before a node are skipped; after one a block may begin, and no text (this project)
+-- blank lines and comment lines before a node are skipped; after one a block may begin, and no text (this project)
 abbrev pub node_lines : Rules → LinesReader → ReadsText → Properties → (here : Bool) → List Line → Option Tree
 node_lines rules reads reads_text properties here lines =
-    node_at rules reads reads_text properties (here || first_line_is_blank lines) (not (first_line_is_blank lines)) (without_blank_lines lines)
+    node_at rules reads reads_text properties (here || first_line_is_skipped lines) (not (first_line_is_skipped lines)) (without_skipped_lines lines)
 
 -- true if a text begins with an anchor or a tag (YAML 1.1, section 5.3 Indicator Characters, c-anchor, c-tag)
 abbrev pub begins_properties : Text → Bool

@@ -1,7 +1,7 @@
 -- Reading whole streams back, in every mode, independently of the definitions that write them: bytes to documents, or nothing. The reader
--- drops a heading: the lines at a stream's front that begin with `#`. It is strict: it refuses all that readers of YAML 1.1 disagree on,
--- and also other comments, tabs outside literal text and a heading, and characters that aren't printable, so that all of them give a text
--- that it reads the same meaning.
+-- drops a heading: the lines at a stream's front that begin with `#`; and it skips comment lines before blocks and between entries. It is
+-- strict: it refuses all that readers of YAML 1.1 disagree on, and also comments on the line of a text, tabs outside literal text and
+-- comments, and characters that aren't printable, so that all of them give a text that it reads the same meaning.
 --     stream_trees breaks12 bytes      the documents in some bytes, or nothing
 -- Source, unless a definition names its own: YAML 1.1, section 7.4 Complete Stream, l-yaml-stream, as this project narrows it.
 use Rattle.std.specs.Prelude.{ℕ, Bool, true, false, Option, None, List, [], ◌∷◌, ◌==◌, ◌||◌, not, option_and_then, if◌then◌else◌}
@@ -12,7 +12,7 @@ use Rattle.yaml_base.specs.reading.ReadBytes.{characters_read}
 use Rattle.yaml_base.specs.streams.StreamContent.{DocumentTree}
 use Rattle.yaml_base.specs.streams.StreamDocuments.{documents_of}
 
--- true of a character that a stream may hold as itself, tabs in literal text and a heading alone; CR and LF break its lines (YAML 1.1,
+-- true of a character that a stream may hold as itself, tabs in literal text and comments alone; CR and LF break its lines (YAML 1.1,
 -- section 5.1 Character Set, c-printable; without U+0085 and U+FEFF by this project)
 abbrev pub may_stand_raw : ℕ → Bool
 may_stand_raw c = c == carriage_return || c == tab || is_printable c

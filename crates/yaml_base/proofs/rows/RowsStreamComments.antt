@@ -1,0 +1,92 @@
+-- Streams with comments on lines of their own, computed: where they are skipped, where they are content, and where they are refused.
+use Rattle.yaml_base.proofs.Common.{Some, codes, false, true, [], ◌∷◌, refl, ◌≡◌, None, stream_trees, no_tree_pairs, mapping_tree}
+use Rattle.std.specs.{Char.encode_utf8, Str.chars, Str.is_utf8}
+use Rattle.yaml_base.proofs.rows.StreamTrees.{document, only, bare_word, in_quotes, items, pair, pairs, pairs_after}
+use Rattle.yaml_base.proofs.rows.Cases.{Gives, reads_none}
+
+-- comments before entries, between them and after the last, also with blank lines
+between_entries : Gives (stream_trees false) ((
+  codes "# a\n- b\n# c\n#d\n- e\n# f\n",
+  only (items (bare_word (codes "b") ∷ bare_word (codes "e") ∷ [])),
+)
+    ∷ (
+      codes "a: b\n# c\n\n# d\n\ne: f\n#\n",
+      only (pairs (pair (bare_word (codes "a")) (bare_word (codes "b")) ∷ pair (bare_word (codes "e")) (bare_word (codes "f")) ∷ [])),
+    )
+    ∷ (
+      codes "a:\n  # c\n  b: d\n  # e\n  f: g\n# h\ni: j\n",
+      only (pairs (pair (bare_word (codes "a"))
+          (pairs (pair (bare_word (codes "b")) (bare_word (codes "d")) ∷ pair (bare_word (codes "f")) (bare_word (codes "g")) ∷ []))
+          ∷ pair (bare_word (codes "i")) (bare_word (codes "j")) ∷ [])),
+    )
+    ∷ (
+      codes "-\n  - a\n  # b\n  - c\n  # d\n# e\n- f\n",
+      only (items (items (bare_word (codes "a") ∷ bare_word (codes "c") ∷ []) ∷ bare_word (codes "f") ∷ [])),
+    )
+    ∷ [])
+unfolding chars is_utf8 encode_utf8
+between_entries = refl
+
+-- after an indicator, a key's `:` and properties, before a block on the lines below
+after_indicators : Gives (stream_trees false) ((
+  codes "- # c\n  a: b\n",
+  only (items (pairs (pair (bare_word (codes "a")) (bare_word (codes "b")) ∷ []) ∷ [])),
+)
+    ∷ (codes "-\n # c\n\n    # d\n   - a\n", only (items (items (bare_word (codes "a") ∷ []) ∷ [])))
+    ∷ (
+      codes "a: # c\n  b: d\n",
+      only (pairs (pair (bare_word (codes "a")) (pairs (pair (bare_word (codes "b")) (bare_word (codes "d")) ∷ [])) ∷ [])),
+    )
+    ∷ (
+      codes "? # c\n  a: b\n: # d\n  - e\n",
+      only (pairs (pair (pairs (pair (bare_word (codes "a")) (bare_word (codes "b")) ∷ [])) (items (bare_word (codes "e") ∷ [])) ∷ [])),
+    )
+    ∷ (
+      codes "&x # c\na: b\n",
+      only (mapping_tree (Some (codes "x")) None (pairs_after no_tree_pairs (pair (bare_word (codes "a")) (bare_word (codes "b")) ∷ []))),
+    )
+    ∷ (codes "- # c\n- a\n", only (items (bare_word [] ∷ bare_word (codes "a") ∷ [])))  -- no node before the next item
+    ∷ [])
+unfolding chars is_utf8 encode_utf8
+after_indicators = refl
+
+-- at the column of a mapping: before and between the items of a sequence there, and before the next key
+in_undented_sequences : Gives (stream_trees false) ((
+  codes "a:\n# c\n- b\n# d\n\n# e\n- f\n# g\nh: i\n",
+  only (pairs (pair (bare_word (codes "a")) (items (bare_word (codes "b") ∷ bare_word (codes "f") ∷ []))
+      ∷ pair (bare_word (codes "h")) (bare_word (codes "i")) ∷ [])),
+)
+    ∷ (
+      codes "? a\n: # c\n# d\n- b\n# e\n",
+      only (pairs (pair (bare_word (codes "a")) (items (bare_word (codes "b") ∷ [])) ∷ [])),
+    )
+    ∷ [])
+unfolding chars is_utf8 encode_utf8
+in_undented_sequences = refl
+
+-- below `---` and after `...`
+around_markers : Gives (stream_trees false) ((codes "---\n# c\n\n# d\n- a\n", only (items (bare_word (codes "a") ∷ [])))
+    ∷ (codes "--- # c\n- a\n", only (items (bare_word (codes "a") ∷ [])))
+    ∷ (codes "--- # c\n", only (bare_word []))
+    ∷ (codes "--- a\n...\n\n# c\n\n---\n- b\n", Some (document (bare_word (codes "a")) ∷ document (items (bare_word (codes "b") ∷ [])) ∷ []))
+    ∷ (codes "--- a\n...\n# c\n", only (bare_word (codes "a")))
+    ∷ [])
+unfolding chars is_utf8 encode_utf8
+around_markers = refl
+
+-- content: within a literal, within quotes, and without a space before it
+content : Gives (stream_trees false) ((codes "- |\n  # x\n  a\n", only (items (in_quotes (codes "# x\na\n") ∷ [])))
+    ∷ (codes "- >-\n  a\n\n  # b\n- c\n", only (items (in_quotes (codes "a\n# b") ∷ bare_word (codes "c") ∷ [])))
+    ∷ (codes "\"a\n  # b\"\n", only (in_quotes (codes "a # b")))
+    ∷ (codes "- a#b\n", only (items (bare_word (codes "a#b") ∷ [])))
+    ∷ [])
+unfolding chars is_utf8 encode_utf8
+content = refl
+
+-- a comment between a key after `?` and its `:`, a text after a comment, a comment after a text on its line or deeper than its entry, a
+-- comment less deep than the entries around it, a deeper line after a comment, and an item after a pair that has its value
+refused : reads_none (stream_trees false) (codes "? k\n# c\n: v\n" ∷ codes "- # c\n  a\n" ∷ codes "a:\n  # c\n  b\n" ∷ codes "- &x # c\n  a\n"
+    ∷ codes "- a #b\n" ∷ codes "- a\n  # c\n" ∷ codes "a: b\n # c\nd: e\n" ∷ codes "- - a\n # c\n  - b\n" ∷ codes "- a\n# c\n  d\n"
+    ∷ codes "a: b\n# c\n- d\n" ∷ codes "- a\n#c\n d: e\n" ∷ codes "--- # c\n  a: b\n" ∷ codes "--- a\n...\n# c\nb\n" ∷ []) ≡ true
+unfolding chars is_utf8 encode_utf8
+refused = refl
