@@ -1,5 +1,5 @@
 -- Streams with comments on lines of their own, computed: where they are skipped, where they are content, and where they are refused.
-use Rattle.yaml_base.proofs.Common.{Some, codes, false, true, [], ◌∷◌, refl, ◌≡◌, None, stream_trees, no_tree_pairs, mapping_tree}
+use Rattle.yaml_base.proofs.Common.{Some, pos, codes, false, true, [], ◌∷◌, refl, ◌≡◌, None, stream_trees, no_tree_pairs, mapping_tree}
 use Rattle.std.specs.{Char.encode_utf8, Str.chars, Str.is_utf8}
 use Rattle.yaml_base.proofs.rows.StreamTrees.{document, only, bare_word, in_quotes, items, pair, pairs, pairs_after}
 use Rattle.yaml_base.proofs.rows.Cases.{Gives, reads_none}
@@ -74,6 +74,32 @@ around_markers : Gives (stream_trees false) ((codes "---\n# c\n\n# d\n- a\n", on
 unfolding chars is_utf8 encode_utf8
 around_markers = refl
 
+-- at a stream's start, with empty lines before, between and after
+at_the_start : Gives (stream_trees false) ((codes "\n# a\n\n# b\n\nc\n", only (bare_word (codes "c")))
+    ∷ (codes "\n# a\n\n", Some [])
+    ∷ (codes "# a\n\n--- b\n", only (bare_word (codes "b")))
+    ∷ (
+      codes "# a\n\n%YAML 1.1\n# b\n\n--- c\n",
+      Some (record { version = Some (record { major = pos 1; minor = pos 1 }); directives = []; root = bare_word (codes "c") } ∷ []),
+    )
+    ∷ [])
+unfolding chars is_utf8 encode_utf8
+at_the_start = refl
+
+-- after a document's last line: before `---`, before `...`, and at a stream's end; a blank line before them may belong to a scalar
+after_last_lines : Gives (stream_trees false) ((
+  codes "a\n# c\n\n# d\n--- b\n# e\n---\n# f\n",
+  Some (document (bare_word (codes "a")) ∷ document (bare_word (codes "b")) ∷ document (bare_word []) ∷ []),
+)
+    ∷ (codes "--- |+\n  a\n\n# c\n\n...\n# d\n---\nb\n# e\n", Some (document (in_quotes (codes "a\n\n")) ∷ document (bare_word (codes "b")) ∷ []))
+    ∷ (codes "--- \"a\n  b\"\n#\n", only (in_quotes (codes "a b")))
+    ∷ (codes "--- |2+\n\n# c\n", only (in_quotes (codes "\n")))
+    ∷ (codes "--- a |\n# c\n", only (bare_word (codes "a |")))
+    ∷ (codes "- [a,\n  b]\n# c\n", only (items (items (bare_word (codes "a") ∷ bare_word (codes "b") ∷ []) ∷ [])))
+    ∷ [])
+unfolding chars is_utf8 encode_utf8
+after_last_lines = refl
+
 -- content: within a literal, within quotes, and without a space before it
 content : Gives (stream_trees false) ((codes "- |\n  # x\n  a\n", only (items (in_quotes (codes "# x\na\n") ∷ [])))
     ∷ (codes "- >-\n  a\n\n  # b\n- c\n", only (items (in_quotes (codes "a\n# b") ∷ bare_word (codes "c") ∷ [])))
@@ -84,9 +110,12 @@ unfolding chars is_utf8 encode_utf8
 content = refl
 
 -- a comment between a key after `?` and its `:`, a text after a comment, a comment after a text on its line or deeper than its entry, a
--- comment less deep than the entries around it, a deeper line after a comment, and an item after a pair that has its value
+-- comment less deep than the entries around it, a deeper line after a comment, an item after a pair that has its value, and a comment at column 0 that
+-- may be the first line of a block scalar, or that precedes more of a text
 refused : reads_none (stream_trees false) (codes "? k\n# c\n: v\n" ∷ codes "- # c\n  a\n" ∷ codes "a:\n  # c\n  b\n" ∷ codes "- &x # c\n  a\n"
     ∷ codes "- a #b\n" ∷ codes "- a\n  # c\n" ∷ codes "a: b\n # c\nd: e\n" ∷ codes "- - a\n # c\n  - b\n" ∷ codes "- a\n# c\n  d\n"
-    ∷ codes "a: b\n# c\n- d\n" ∷ codes "- a\n#c\n d: e\n" ∷ codes "--- # c\n  a: b\n" ∷ codes "--- a\n...\n# c\nb\n" ∷ []) ≡ true
+    ∷ codes "a: b\n# c\n- d\n" ∷ codes "- a\n#c\n d: e\n" ∷ codes "--- # c\n  a: b\n" ∷ codes "--- a\n...\n# c\nb\n"
+    ∷ codes "--- |\n# c\n" ∷ codes "--- &a !t >+\n\n# c\n" ∷ codes "|1\n# c\n" ∷ codes "---\n|-\n\n# c\n" ∷ codes "--- a\n# c\n  b\n"
+    ∷ codes "a\n # c\n" ∷ []) ≡ true
 unfolding chars is_utf8 encode_utf8
 refused = refl

@@ -62,7 +62,7 @@ flow = refl
 
 -- scalars: tabs, comments, characters that aren't printable, a quote without its end, text after it, a fold without its
 -- backslash loses the space, a break alone in single quotes is a space, a blank before a break, a line that isn't deep
-scalars : (reads_none (stream_trees false) (codes "a\tb\n" ∷ codes "a # b\n" ∷ codes "a\n# b\n" ∷ codes "\"\u{7}\"\n" ∷ codes "\"a\n" ∷ codes "\"a\" b\n"
+scalars : (reads_none (stream_trees false) (codes "a\tb\n" ∷ codes "a # b\n" ∷ codes "a\n# b\n  c\n" ∷ codes "\"\u{7}\"\n" ∷ codes "\"a\n" ∷ codes "\"a\" b\n"
     ∷ codes "\"a \n  b\"\n" ∷ codes "- 'a\n\nb'\n" ∷ codes "\"a\nb\"\n" ∷ codes "[\"a\nb\"]\n" ∷ []) ≡ true)
     × (stream_trees false (codes "\"a\n   b\"\n") ≡ only (in_quotes (codes "a b")))
     × (stream_trees false (codes "'a\n  b'\n") ≡ only (in_quotes (codes "a b")))
@@ -75,16 +75,16 @@ block_scalars : (reads_none (stream_trees false) (codes "|*\n  a\n" ∷ codes "-
 unfolding chars is_utf8 encode_utf8
 block_scalars = (refl, refl)
 
--- streams: a root of nothing without `---`, a break at the start, two roots, bytes that aren't UTF-8, a marker in UTF-8
-streams : (reads_none (stream_trees false) (codes "\na\n" ∷ codes " a\n" ∷ codes "a\nb\n" ∷ (0xFF ∷ []) ∷ (0xEF ∷ 0xBB ∷ 0xBF ∷ codes "a\n") ∷ []) ≡ true)
+-- streams: a root of nothing without `---`, spaces at the start, two roots, bytes that aren't UTF-8, a marker in UTF-8
+streams : (reads_none (stream_trees false) (codes "  \na\n" ∷ codes " a\n" ∷ codes "a\nb\n" ∷ (0xFF ∷ []) ∷ (0xEF ∷ 0xBB ∷ 0xBF ∷ codes "a\n") ∷ []) ≡ true)
     × (stream_trees false (codes "\n") ≡ Some [])
 unfolding chars is_utf8 encode_utf8
 streams = (refl, refl)
 
--- comments: indented or after an empty line at a stream's start, after a directive, an empty line after a heading; in a heading a character that isn't
--- printable, a marker before or after it
-comments : reads_none (stream_trees false) (codes " # a\nb\n" ∷ codes "\n# a\n" ∷ codes "# a\n\n# b\nc\n" ∷ codes "%YAML 1.1\n# a\n--- b\n"
-    ∷ codes "# a\n\nb\n" ∷ codes "# \u{7}\na\n" ∷ (0xEF ∷ 0xBB ∷ 0xBF ∷ codes "# a\nb\n") ∷ (codes "# a\n" ++ 0xEF ∷ 0xBB ∷ 0xBF ∷ codes "b\n")
-    ∷ []) ≡ true
+-- comments: indented at a stream's start, also after a line of spaces; one between directives; in a heading a character that isn't printable, a marker
+-- before or after it
+comments : reads_none (stream_trees false) (codes " # a\nb\n" ∷ codes "  \n# a\nb\n" ∷ codes "# a\n # b\nc\n"
+    ∷ codes "%YAML 1.1\n# a\n%TAG !e! x\n--- b\n" ∷ codes "# \u{7}\na\n" ∷ (0xEF ∷ 0xBB ∷ 0xBF ∷ codes "# a\nb\n")
+    ∷ (codes "# a\n" ++ 0xEF ∷ 0xBB ∷ 0xBF ∷ codes "b\n") ∷ []) ≡ true
 unfolding chars is_utf8 encode_utf8
 comments = refl

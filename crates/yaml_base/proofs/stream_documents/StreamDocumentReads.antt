@@ -4,6 +4,7 @@ use Rattle.yaml_base.proofs.Common.{eqb-true, append-nil, append_assoc, ap, subs
 use Rattle.yaml_base.proofs.Common.{TagDirective, DocumentStart, has_directives, Effective, DocumentTree, start_marker, Section, Prologue, no_prologue}
 use Rattle.yaml_base.proofs.stream_lines.{StreamClosed.lines_broken, StreamClosed.closed_both, StreamLineLaws.is_closed, StreamLineLaws.unbroken_line}
 use Rattle.yaml_base.proofs.Common.{prologue_read, and-false, after_prologue, with_prologue, section_by_kind, lines_of}
+use Rattle.yaml_base.proofs.{Common.without_skipped_lines, stream_lines.StreamSections.all_kept}
 use Rattle.yaml_base.proofs.stream_documents.StreamRootsStand.{prologue_text, PrologueStands}
 use Rattle.yaml_base.proofs.stream_documents.StreamSoFar.{WalkProgress, prefix_alone, one_more, Percents, percents_markerless, percents_shown, prefix_prologue}
 use Rattle.yaml_base.specs.streams.StreamDocuments.{StreamPlace, after_root, document_read}
@@ -35,7 +36,9 @@ awaits_ended breaks12 depth text documents so = λ lines parsed ends percents re
     subst (λ t. WalkProgress breaks12 depth t (record { documents = documents; place = after_prologue parsed })) (sym (append_assoc text dots lines))
     (one_more breaks12 depth text _ _ _ _ _ so (closed_both breaks12 dots lines refl ends)
     (lines_broken breaks12 (codes "...") lines (unbroken_line breaks12 (codes "...") refl)) refl (percents_markerless (lines_of breaks12 lines) percents)
-    (ap (λ ls. with_prologue documents (prologue_read ls)) (percents_shown (lines_of breaks12 lines) percents) ∙ ap (with_prologue documents) reads))
+    (ap (λ ls. with_prologue documents (prologue_read (without_skipped_lines ls)))
+    (all_kept (lines_of breaks12 lines) (percents_markerless (lines_of breaks12 lines) percents))
+    ∙ ap (λ ls. with_prologue documents (prologue_read ls)) (percents_shown (lines_of breaks12 lines) percents) ∙ ap (with_prologue documents) reads))
 
 -- Directives
 

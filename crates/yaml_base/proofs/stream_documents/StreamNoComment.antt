@@ -1,15 +1,15 @@
--- No scalar, alias, key or text begins with `#`, and no documents do. So nothing is dropped of a text that has some.
+-- No scalar, alias, key or text begins with `#`, and no documents do. So a text that has some has the same without its heading.
 use Rattle.yaml_base.proofs.Common.{arith, nat_tests}
 use Rattle.yaml_base.proofs.Common.{ℕ, suc, ◌==◌, if◌then◌else◌, nat_le, length, fold, option_and_then, option_map, option_or, Option, None}
 use Rattle.yaml_base.proofs.Common.{Some, Bool, false, true, List, [], ◌++◌, ◌∷◌, refl, ◌≡◌, ap, eqb-true, sym, ◌∙◌, Text, documents_of}
 use Rattle.yaml_base.proofs.Common.{documents_at_end, Line, lines_of, Section, sections_of, sections_read, DocumentTree, Rules, Tree, marker_of}
 use Rattle.std.proofs.lemmas.Option.{none-some}
-use Rattle.yaml_base.specs.Event.{plain}
+use Rattle.yaml_base.specs.{Event.plain, LineBreaks.is_read_break}
 use Rattle.yaml_base.specs.reading.{ReadPlain.read_plain, TidyText.is_tidy}
 use Rattle.yaml_base.specs.streams.StreamContent.{stood_plain}
 use Rattle.yaml_base.specs.streams.StreamDocuments.{MarkerKind, no_exclamation, prepend_section, section_read}
 use Rattle.yaml_base.specs.streams.StreamFlow.{is_alias, longest_key}
-use Rattle.yaml_base.specs.streams.StreamLines.{all_blank, all_deeper, prepend_to_first_line, text_of_lines}
+use Rattle.yaml_base.specs.streams.StreamLines.{all_blank, all_deeper, prepend_character, prepend_to_first_line, text_of_lines}
 use Rattle.yaml_base.specs.streams.StreamNodes.{key_ends, key_from, key_of_text, kind_of_text, text_by_kind, text_read, trimmed, without_last_space}
 use Rattle.yaml_base.specs.streams.StreamNodes.{word_of_alias, word_but_alias}
 use Rattle.yaml_base.specs.streams.StreamReader.{after_comments, without_heading}
@@ -120,14 +120,47 @@ pub no_documents_behind : (breaks12 : Bool) (rest : Text) → documents_of break
 no_documents_behind true rest = no_lines (length (0x23 ∷ rest)) true (lines_of true rest)
 no_documents_behind false rest = no_lines (length (0x23 ∷ rest)) false (lines_of false rest)
 
--- so one that has some has no heading
-pub no_heading_dropped : (breaks12 : Bool) (text : Text) (documents : List DocumentTree) → documents_of breaks12 text ≡ Some documents
-    → without_heading breaks12 text ≡ text
-no_heading_dropped breaks12 [] documents is = refl
-no_heading_dropped breaks12 (c ∷ rest) documents is = by (c == 0x23) refl
+-- an empty line begins none either
+no_blank_sections : (depth : ℕ) (breaks12 : Bool) (ending : Text) (rest : List Line)
+    → sections_read depth breaks12 (sections_of (record { text = []; ending = ending } ∷ rest)) ≡ None
+no_blank_sections depth breaks12 ending rest = ap (option_and_then documents_at_end) (none_goes_on depth breaks12 (sections_of rest).sections)
+
+-- so a text that has some has the same after such a line
+break_dropped : (breaks12 : Bool) (c : ℕ) (rest : Text) (documents : List DocumentTree) → is_read_break breaks12 c ≡ true
+    → documents_of breaks12 (c ∷ rest) ≡ Some documents → documents_of breaks12 rest ≡ Some documents
+break_dropped breaks12 c rest documents breaks is = by (all_blank lines) refl (sym (ap (λ x. whole (prepend_character x c lines)) breaks) ∙ is)
   where
-    by : (x : Bool) → (c == 0x23) ≡ x → (if x then after_comments breaks12 true rest else c ∷ rest) ≡ c ∷ rest
-    by true e =
+    lines : List Line
+    lines = lines_of breaks12 rest
+
+    whole : List Line → Option (List DocumentTree)
+    whole all = if all_blank all then Some [] else sections_read (suc (length (c ∷ rest))) breaks12 (sections_of all)
+
+    by : (x : Bool) → all_blank lines ≡ x
+        → (if x then Some [] else sections_read (suc (length (c ∷ rest))) breaks12 (sections_of (record { text = []; ending = c ∷ [] } ∷ lines)))
+        ≡ Some documents
+        → documents_of breaks12 rest ≡ Some documents
+    by true blank h = ap (λ y. if y then Some [] else sections_read (suc (length rest)) breaks12 (sections_of lines)) blank ∙ h
+    by false blank h = absurd (none-some documents (sym (no_blank_sections (suc (length (c ∷ rest))) breaks12 (c ∷ []) lines) ∙ h))
+
+-- and the same without its heading
+pub heading_dropped : (breaks12 : Bool) (text : Text) (documents : List DocumentTree) → documents_of breaks12 text ≡ Some documents
+    → documents_of breaks12 (without_heading breaks12 text) ≡ Some documents
+heading_dropped breaks12 [] documents is = is
+heading_dropped breaks12 (c ∷ rest) documents is = by (c == 0x23) refl (λ h. heading_dropped breaks12 rest documents h)
+  where
+    after_break : (x : Bool) → is_read_break breaks12 c ≡ x
+        → (documents_of breaks12 rest ≡ Some documents → documents_of breaks12 (after_comments breaks12 false rest) ≡ Some documents)
+        → documents_of breaks12 (if x then after_comments breaks12 false rest else c ∷ rest) ≡ Some documents
+    after_break true breaks more = more (break_dropped breaks12 c rest documents breaks is)
+    after_break false breaks more = is
+
+    by : (x : Bool) → (c == 0x23) ≡ x
+        → (documents_of breaks12 rest ≡ Some documents → documents_of breaks12 (after_comments breaks12 false rest) ≡ Some documents)
+        → documents_of breaks12 (if x then after_comments breaks12 true rest
+        else (if is_read_break breaks12 c then after_comments breaks12 false rest else c ∷ rest))
+        ≡ Some documents
+    by true e more =
         absurd (none-some documents (sym (no_documents_behind breaks12 rest)
         ∙ ap (λ first. documents_of breaks12 (first ∷ rest)) (sym (eqb-true c 0x23 e)) ∙ is))
-    by false e = refl
+    by false e more = after_break (is_read_break breaks12 c) refl more

@@ -11,7 +11,8 @@ use Rattle.yaml_base.proofs.stream_documents.{StreamDocumentReads.BehindPrologue
 use Rattle.yaml_base.proofs.stream_documents.{StreamRootLines.begins_shown, StreamRootLines.stands_below, StreamRootLines.Stood, StreamRootStood.root_tree}
 use Rattle.yaml_base.proofs.stream_documents.{StreamRoots.root_reads, StreamRoots.root_with_marker_reads, StreamRootsStand.rules_of, StreamSoFar.WalkProgress}
 use Rattle.yaml_base.proofs.stream_documents.{StreamRootsStand.root_cursor, StreamRootsStand.render_root, StreamSoFar.prefix_alone, StreamSoFar.one_more}
-use Rattle.yaml_base.proofs.stream_lines.{StreamSections.is_markerless, StreamSections.AllMarkerless, StreamTidyLaws.lines_after_first}
+use Rattle.yaml_base.proofs.stream_lines.StreamSections.{is_markerless, is_content, AllMarkerless}
+use Rattle.yaml_base.proofs.stream_lines.{StreamTidyLaws.lines_after_first}
 use Rattle.yaml_base.proofs.stream_lines.{StreamUnread.read_markerless, StreamUnread.read_no_percent}
 use Rattle.yaml_base.proofs.stream_lines.StreamClosed.{closed, lines_behind, lines_broken, closed_behind, closed_both}
 use Rattle.yaml_base.proofs.stream_nodes.StreamFits.{size, Opens, Fits, indicated_ends}
@@ -35,11 +36,14 @@ shown_whole : (lines : List Line) → begins_shown lines ≡ true → without_sk
 shown_whole [] h = refl
 shown_whole (line ∷ rest) h = ap (λ x. if x then without_skipped_lines rest else line ∷ rest) (shown_line line.text h)
 
--- no line of a text that reads as a node is a marker, if none after its first is
+-- no line of a text that begins so and reads as a node is a marker or a comment at column 0, if none after its first is
 markerless_whole : (lines : List Line) (depth : ℕ) (rules : Rules) (here : Bool) (column : Option ℕ) (tree : Tree)
     → node_read depth rules here column lines ≡ Some tree
-    → AllMarkerless (lines_after_first lines) → AllMarkerless lines
-markerless_whole lines depth rules here column tree reads after = grind (arith, nat_tests, and_from, read_markerless)
+    → begins_shown lines ≡ true → AllMarkerless (lines_after_first lines) → AllMarkerless lines
+markerless_whole [] depth rules here column tree reads shown after = refl
+markerless_whole (line ∷ rest) depth rules here column tree reads shown after =
+    and_from _ _ (and_from _ _ (read_markerless line rest depth rules here column tree reads)
+    (and_parts (not (ends_indicator line.text)) (not (begins_comment line.text)) shown).1) after
 
 -- Documents after `---`
 
@@ -65,16 +69,19 @@ on_marker_added s depth text documents document behind fit deep stood =
     one_more _ depth text _ _ _ line o.rest behind.so_far
     (closed_behind _ (codes "--") 0x2D own (indicated_ends _ 0 0x2D own o fit.ends))
     (lines_behind s.breaks12 (codes "---") own o.head o.ending o.rest (unbroken_line s.breaks12 (codes "---") refl) o.is)
-    (ap is_markerless markers) (ap (λ ls. list_all (λ line. is_markerless (marker_of line.text)) (lines_after_first ls)) (sym o.is) ∙ stood.0)
+    (ap is_markerless markers) later
     (ap (λ m. section_by_kind m depth s.breaks12 documents behind.place (record { marker = m; line = line; rest = o.rest })) markers
     ∙ behind.opens (record { marker = start_marker; line = line; rest = o.rest })
-    ∙ ap (with_read_document documents (prologue_parsed document.start)) (root_with_marker_reads _ _ _ _ fit margin depth deep))
+    ∙ ap (with_read_document documents (prologue_parsed document.start)) (root_with_marker_reads _ _ _ _ fit margin later depth deep))
   where
     own : Text
     own = closed (render_root true s document)
 
     o : Opens s.breaks12 own
     o = fit.opens refl
+
+    later : AllMarkerless o.rest
+    later = ap (λ ls. list_all (λ line. is_content line.text) (lines_after_first ls)) (sym o.is) ∙ stood.0
 
     margin : is_skipped o.head ≡ true → stands_at_margin (without_skipped_lines o.rest) ≡ true
     margin e = ap (λ x. not x || stands_at_margin (without_skipped_lines o.rest)) (sym e) ∙ ap stands_below (sym o.is) ∙ stood.1
@@ -91,14 +98,15 @@ below_marker_added s depth text documents document behind fit deep stood =
     let rules : Rules = rules_of s document in
     let lines : List Line = lines_of s.breaks12 own in
     let line : Line = record { text = codes "---"; ending = line_feed ∷ [] } in
+    let markerless = markerless_whole lines depth rules true None _ (fit.reads depth deep true 0 (λ h. (refl, refl))) stood.1 stood.0 in
     one_more _ depth text _ _ _ line lines behind.so_far
     (closed_both s.breaks12 (codes "---" ++ (line_feed ∷ [])) own refl fit.ends)
     (lines_broken _ _ own (unbroken_line s.breaks12 (codes "---") refl)) refl
-    (markerless_whole lines depth rules true None (root_tree s document) (fit.reads depth deep true 0 (λ h. (refl, refl))) stood.0)
+    markerless
     (behind.opens (record { marker = start_marker; line = line; rest = lines })
     ∙ ap (λ ls. with_read_document documents (prologue_parsed document.start) (root_below depth rules ls)) (shown_whole lines stood.1)
     ∙ ap (with_read_document documents (prologue_parsed document.start))
-    (root_reads rules (size document.root) (render_root false s document) (root_tree s document) fit (shown_margin lines stood.1) depth deep))
+    (root_reads rules (size document.root) (render_root false s document) (root_tree s document) fit (shown_margin lines stood.1) markerless depth deep))
 
 -- either
 pub added_with_marker : (on_marker : Bool) (s : Effective) (depth : ℕ) (text : Text) (documents : List DocumentTree) (document : Document)
@@ -130,8 +138,9 @@ markerless_added s depth document none fit deep stood =
     let rules : Rules = rules_of s document in
     let lines : List Line = lines_of s.breaks12 own in
     let reads : node_read depth rules true None lines ≡ Some (root_tree s document) = fit.reads depth deep true 0 (λ h. (refl, refl)) in
-    prefix_alone _ depth own _ fit.ends (markerless_whole lines depth rules true None _ reads stood.0)
+    let markerless = markerless_whole lines depth rules true None _ reads stood.1 stood.0 in
+    prefix_alone _ depth own _ fit.ends markerless
     (ap (λ k. lines_before_marker_read k depth s.breaks12 lines) (prefix_document lines depth rules true None _ reads stood.1)
     ∙ ap (λ (h : Prologue). with_read_document [] h (root_below depth (record { breaks12 = s.breaks12; directives = h.directives }) lines))
     (nothing_parsed document.start none)
-    ∙ ap (with_read_document [] (prologue_parsed document.start)) (root_reads rules _ _ _ fit (shown_margin lines stood.1) depth deep))
+    ∙ ap (with_read_document [] (prologue_parsed document.start)) (root_reads rules _ _ _ fit (shown_margin lines stood.1) markerless depth deep))

@@ -5,7 +5,7 @@ use Rattle.yaml_base.proofs.Common.{ap, subst, sym, ◌∙◌, and_parts, list_a
 use Rattle.yaml_base.proofs.Common.{stands_at_margin, Line, prepend_to_first_line, prepend_character, lines_of, without_skipped_lines, ends_indicator}
 use Rattle.yaml_base.proofs.Common.{spaces, NodeKind, Rules}
 use Rattle.yaml_base.{specs.streams.StreamLines.begins_comment, specs.streams.StreamLines.is_skipped, proofs.Common.and_from, proofs.Common.◌&&◌}
-use Rattle.yaml_base.proofs.{stream_lines.StreamInside.not_skipped, stream_lines.StreamLineLaws.one_line_both, stream_lines.StreamSections.is_markerless}
+use Rattle.yaml_base.proofs.{stream_lines.StreamInside.not_skipped, stream_lines.StreamLineLaws.one_line_both, stream_lines.StreamSections.is_content}
 use Rattle.yaml_base.proofs.{stream_lines.StreamSections.AllMarkerless, stream_lines.StreamTidyLaws.lines_after_first, stream_nodes.StreamLaid.Lays}
 use Rattle.yaml_base.proofs.{stream_nodes.StreamLaid.Opened}
 use Rattle.yaml_base.proofs.stream_documents.StreamRootsStand.{root_cursor, Begins}
@@ -90,7 +90,7 @@ begins_stands breaks12 on_marker own b =
 -- the lines after the first are among all
 later_markerless : (lines : List Line) → AllMarkerless lines → AllMarkerless (lines_after_first lines)
 later_markerless [] h = refl
-later_markerless (line ∷ rest) h = (and_parts (is_markerless (marker_of line.text)) (list_all (λ line. is_markerless (marker_of line.text)) rest) h).1
+later_markerless (line ∷ rest) h = (and_parts (is_content line.text) (list_all (λ line. is_content line.text) rest) h).1
 
 -- lines that begin a node at column 0 are at the margin
 opened_margin : (rules : Rules) (lines : List Line) (kind : NodeKind) → Opened rules 0 lines kind → begins_shown lines ≡ true

@@ -3,10 +3,11 @@ use Rattle.yaml_base.proofs.Common.{arith, ℕ, if◌then◌else◌, fold, optio
 use Rattle.yaml_base.proofs.Common.{append-nil, append_assoc, ap, sym, ◌∙◌, and_parts, false≢true, list_all, Text, marker_of, Section, sections_of}
 use Rattle.yaml_base.proofs.Common.{Prologue, prologue_read, after_prologue, with_prologue, begins_with_percent, prefix_kind, lines_before_marker_read}
 use Rattle.yaml_base.proofs.Common.{documents_at_end, sections_read, Line, lines_of, without_skipped_lines}
-use Rattle.yaml_base.specs.streams.StreamLines.{is_skipped}
+use Rattle.yaml_base.specs.streams.StreamLines.{is_skipped, begins_comment}
 use Rattle.std.proofs.lemmas.Grind.{fold-append}
 use Rattle.yaml_base.proofs.stream_lines.{StreamClosed.closed_both, StreamLineLaws.is_closed, StreamLineLaws.lines_after_break}
-use Rattle.yaml_base.proofs.stream_lines.StreamSections.{is_markerless, AllMarkerless, markerless_before, IsMarker, markers_one}
+use Rattle.yaml_base.proofs.stream_lines.StreamSections.{is_markerless, is_content, AllMarkerless, content_kept, markerless_before, IsMarker, markers_one}
+use Rattle.yaml_base.proofs.Common.{and_from, not, directive_lines, document_lines}
 use Rattle.yaml_base.specs.streams.StreamDocuments.{StreamRead, section_read, may_end}
 use Rattle.yaml_base.proofs.AllPass.{all_pass}
 
@@ -78,10 +79,16 @@ Percents lines = list_all (λ line. begins_with_percent line.text) lines ≡ tru
 percent_markerless : (t : Text) → begins_with_percent t ≡ true → is_markerless (marker_of t) ≡ true
 percent_markerless t h = grind (false≢true, arith, eqb-true)
 
+-- and no comment
+percent_uncommented : (t : Text) → begins_with_percent t ≡ true → begins_comment t ≡ false
+percent_uncommented [] h = refl
+percent_uncommented (c ∷ t) h = ap (λ d. begins_comment (d ∷ t)) (eqb-true c 0x25 h)
+
 -- none of them is
 pub percents_markerless : (lines : List Line) → Percents lines → AllMarkerless lines
 percents_markerless lines h =
-    all_pass (λ line. begins_with_percent line.text) (λ line. is_markerless (marker_of line.text)) (λ line e. percent_markerless line.text e) lines h
+    all_pass (λ line. begins_with_percent line.text) (λ line. is_content line.text)
+    (λ line e. and_from _ _ (percent_markerless line.text e) (ap not (percent_uncommented line.text e))) lines h
 
 -- nor is such a line skipped
 percent_shows : (t : Text) → begins_with_percent t ≡ true → is_skipped t ≡ false
@@ -97,4 +104,8 @@ percents_shown (line ∷ rest) h = grind (arith, and_parts, percent_shows)
 pub prefix_prologue : (breaks12 : Bool) (depth : ℕ) (lines : List Line) (parsed : Prologue) → Percents lines → prologue_read lines ≡ Some parsed
     → lines_before_marker_read (prefix_kind lines) depth breaks12 lines ≡ Some (record { documents = []; place = after_prologue parsed })
 prefix_prologue breaks12 depth [] parsed percents reads = ap (with_prologue []) reads
-prefix_prologue breaks12 depth (line ∷ rest) parsed percents reads = grind (arith, and_parts)
+prefix_prologue breaks12 depth (line ∷ rest) parsed percents reads =
+    ap (λ x. lines_before_marker_read (if x then directive_lines else document_lines) depth breaks12 (line ∷ rest))
+    (and_parts (begins_with_percent line.text) (list_all (λ line. begins_with_percent line.text) rest) percents).0
+    ∙ ap (λ ls. with_prologue [] (prologue_read ls)) (content_kept (line ∷ rest) (percents_markerless (line ∷ rest) percents))
+    ∙ ap (with_prologue []) reads

@@ -11,10 +11,10 @@ use Rattle.yaml_base.proofs.Common.{documents_at_end, sections_read, documents_o
 use Rattle.yaml_base.{proofs.stream_documents.StreamRootAdded.with_document, proofs.stream_documents.StreamRootStood.root_fits}
 use Rattle.yaml_base.{proofs.stream_documents.StreamSizes.block_node, proofs.stream_documents.StreamSoFar.documents_so_far}
 use Rattle.yaml_base.{proofs.stream_lines.StreamCuts.none_not_some, proofs.stream_nodes.StreamFits.size, specs.streams.StreamLines.all_blank}
-use Rattle.yaml_base.specs.streams.StreamLines.{begins_comment}
+use Rattle.yaml_base.specs.streams.{StreamDocuments.content_lines, StreamLines.begins_comment}
 use Rattle.yaml_base.proofs.stream_documents.StreamDocumentsRead.{later_more, first_more}
 use Rattle.yaml_base.proofs.stream_lines.StreamClosed.{closing, margin_cursor}
-use Rattle.yaml_base.proofs.stream_lines.StreamSections.{is_markerless, AllMarkerless, markerless_before}
+use Rattle.yaml_base.proofs.stream_lines.StreamSections.{is_content, AllMarkerless, markerless_before}
 use Rattle.yaml_base.proofs.stream_documents.StreamDocumentReads.{Awaits, awaits_first, awaits_ended, dots_if}
 use Rattle.yaml_base.proofs.stream_documents.StreamDocumentTexts.{before_root, dots_rendered, root_part, document_text, RenderedDocument, document_joined}
 use Rattle.yaml_base.proofs.stream_documents.StreamRootsStand.{rules_of, root_cursor, render_root, RootStands, is_on_marker, DocumentStands, DocumentsStand}
@@ -149,8 +149,8 @@ ended_read breaks12 depth text documents marker awaits = by (marker == 0) refl (
 
 -- Blank lines
 
--- a blank line is no marker, and begins no text
-blank_markerless : (t : Text) → is_spaces t ≡ true → is_markerless (marker_of t) ≡ true
+-- a blank line is no marker and no comment, and begins no text
+blank_markerless : (t : Text) → is_spaces t ≡ true → is_content t ≡ true
 blank_markerless t h = grind (arith, and_parts, eqb-true)
 
 blank_lines_markerless : (lines : List Line) → all_blank lines ≡ true → AllMarkerless lines
@@ -183,7 +183,7 @@ blank_read breaks12 depth lines documents blank reads =
         (lines_before_marker_read (if x then directive_lines else document_lines) depth breaks12 (line ∷ rest))) text.0
         ∙ ap (λ x. option_and_then documents_at_end
         (with_read_document [] no_prologue (if not x && not (begins_comment line.text)
-        then node_read depth (record { breaks12 = breaks12; directives = [] }) true None (line ∷ rest) else None)))
+        then node_read depth (record { breaks12 = breaks12; directives = [] }) true None (content_lines (line ∷ rest)) else None)))
         text.1) ∙ reads))
 
 -- Streams

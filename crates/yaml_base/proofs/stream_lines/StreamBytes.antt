@@ -5,7 +5,7 @@ use Rattle.yaml_base.proofs.Common.{◌∙◌, and_parts, and_from, list_all-app
 use Rattle.yaml_base.{proofs.AllPass.all_pass, proofs.BreakLaws.breaks-round, specs.streams.StreamReader.may_stand_raw, specs.streams.StreamReader.text_trees}
 use Rattle.yaml_base.proofs.Common.{with_line_breaks_read, is_rendered_text, LineBreak, characters_read, documents_of, stream_trees, or_left, ScalarStyle}
 use Rattle.yaml_base.proofs.Common.{literal, DocumentTree}
-use Rattle.yaml_base.{proofs.stream_documents.StreamNoComment.no_heading_dropped, specs.streams.StreamReader.without_heading}
+use Rattle.yaml_base.{proofs.stream_documents.StreamNoComment.heading_dropped, specs.streams.StreamReader.without_heading}
 
 -- printable characters and tabs, which are those of literal text
 abbrev pub is_shown : ℕ → Bool
@@ -35,7 +35,7 @@ pub trees_of_text : (breaks12 : Bool) (setting : LineBreak) (text : Text) (docum
 trees_of_text breaks12 setting text documents h is =
     let read = λ (t : Text). documents_of breaks12 (without_heading breaks12 t) in
     ap (λ (raw : Bool). if raw then read (with_line_breaks_read (with_breaks_written setting text)) else None) (printable_raw setting text h)
-    ∙ ap read (breaks-round setting text (printable_rendered text h)) ∙ ap (documents_of breaks12) (no_heading_dropped breaks12 text documents is) ∙ is
+    ∙ ap read (breaks-round setting text (printable_rendered text h)) ∙ heading_dropped breaks12 text documents is
 
 -- so do its bytes, from which its characters are read
 pub trees_of_bytes : (breaks12 : Bool) (setting : LineBreak) (text : Text) (bytes : List ℕ) (documents : List DocumentTree) → list_all is_shown text ≡ true

@@ -63,14 +63,16 @@ not_skipped e c t shows uncommented =
 pub skipped_blank : (t : Text) → is_spaces t ≡ true → is_skipped t ≡ true
 skipped_blank t h = ap (λ b. b || is_comment t) h
 
+-- no entry begins with a comment
+pub begins_uncommented : (s : Bool) (t : Text) → begins_entry s t ≡ true → begins_comment t ≡ false
+begins_uncommented s [] h = refl
+begins_uncommented s (c ∷ t) h = grind (arith, and_parts, false≢true)
+
 -- an entry's first line is no comment at its column
 pub entry_uncommented : (s : Bool) (e : ℕ) (t : Text) → begins_entry s t ≡ true → is_comment_at e (spaces e ++ t) ≡ false
 entry_uncommented s e [] h = absurd (false≢true h)
 entry_uncommented s e (c ∷ t) h =
-    ap (λ found. unwrap_or (option_map begins_comment found) false) (past_spaces e (c ∷ t)) ∙ begins s c t h
-  where
-    begins : (s : Bool) (c : ℕ) (t : Text) → begins_entry s (c ∷ t) ≡ true → (c == 0x23) ≡ false
-    begins s c t h = grind (arith, and_parts, false≢true)
+    ap (λ found. unwrap_or (option_map begins_comment found) false) (past_spaces e (c ∷ t)) ∙ begins_uncommented s (c ∷ t) h
 
 -- each of some lines is inside a column
 abbrev pub AllInside : Bool → ℕ → List Line → Type 0

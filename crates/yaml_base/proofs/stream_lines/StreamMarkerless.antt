@@ -2,7 +2,9 @@
 use Rattle.yaml_base.proofs.Common.{or_from, or_parts}
 use Rattle.yaml_base.proofs.Common.{Bool, true, List, [], ◌++◌, ◌∷◌, ◌≡◌, eqb-true, arith, and_parts, and_from, false≢true}
 use Rattle.yaml_base.proofs.Common.{Text, space, marker_of, Line, ends_indicator, belongs_to_entry, nat_tests}
-use Rattle.yaml_base.proofs.{stream_lines.StreamInside.AllInside, stream_lines.StreamSections.is_markerless, stream_lines.StreamSections.AllMarkerless}
+use Rattle.yaml_base.{specs.streams.StreamLines.begins_comment, proofs.stream_lines.StreamInside.AllInside}
+use Rattle.yaml_base.proofs.Common.{refl, ap, not, false}
+use Rattle.yaml_base.proofs.stream_lines.StreamSections.{is_markerless, is_content, AllMarkerless}
 use Rattle.yaml_base.proofs.AllPass.{all_pass}
 
 -- a line that begins with a space is no marker
@@ -25,10 +27,18 @@ colon_markerless t = grind (arith, nat_tests)
 pub inside_markerless : (s : Bool) (t : Text) → belongs_to_entry s 0 t ≡ true → is_markerless (marker_of t) ≡ true
 inside_markerless s t h = grind (arith, nat_tests, eqb-true, space_markerless, false≢true, and_parts, dash_markerless)
 
+-- and no comment at column 0
+inside_uncommented : (s : Bool) (t : Text) → belongs_to_entry s 0 t ≡ true → begins_comment t ≡ false
+inside_uncommented s [] h = refl
+inside_uncommented s (c ∷ t) h = grind (arith, nat_tests, eqb-true, false≢true, and_parts)
+
+pub inside_content : (s : Bool) (t : Text) → belongs_to_entry s 0 t ≡ true → is_content t ≡ true
+inside_content s t h = and_from _ _ (inside_markerless s t h) (ap not (inside_uncommented s t h))
+
 -- nor is any of some lines there
 pub all_markerless : (s : Bool) (lines : List Line) → AllInside s 0 lines → AllMarkerless lines
 all_markerless s lines h =
-    all_pass (λ line. belongs_to_entry s 0 line.text) (λ line. is_markerless (marker_of line.text)) (λ line e. inside_markerless s line.text e) lines h
+    all_pass (λ line. belongs_to_entry s 0 line.text) (λ line. is_content line.text) (λ line e. inside_content s line.text e) lines h
 
 -- lines, and then others
 pub markerless_both : (a b : List Line) → AllMarkerless a → AllMarkerless b → AllMarkerless (a ++ b)

@@ -6,9 +6,10 @@ use Rattle.yaml_base.proofs.Common.{new_line, Tree, Trees, no_trees, sequence_tr
 use Rattle.yaml_base.proofs.Common.{LinesReader, NodeKind, begins_sequence, begins_mapping, kind_of_node, node_read, Rules}
 use Rattle.yaml_base.proofs.Common.{marker_of, ends_indicator, belongs_to_entry, is_in_mapping, entry_place, Role, not, ◌&&◌, and_from, nat_tests}
 use Rattle.yaml_base.proofs.stream_lines.StreamClosed.{closing, closed, Settled, new_line_closes, closed_both, rank, inside_both}
-use Rattle.yaml_base.proofs.stream_lines.StreamInside.{AllInside, Splits, splits_none, splits_both, splits_one, begins_entry, outside, entry_uncommented}
+use Rattle.yaml_base.proofs.stream_lines.StreamInside.{AllInside, Splits, splits_none, splits_both, splits_one, begins_entry, outside}
+use Rattle.yaml_base.proofs.stream_lines.StreamInside.{begins_uncommented, entry_uncommented}
 use Rattle.yaml_base.proofs.stream_lines.StreamLineLaws.{is_closed, OneLine, lines_after_break}
-use Rattle.yaml_base.proofs.stream_lines.StreamSections.{is_markerless, AllMarkerless}
+use Rattle.yaml_base.proofs.stream_lines.StreamSections.{is_markerless, is_content, AllMarkerless}
 use Rattle.yaml_base.proofs.stream_lines.StreamMarkerless.{all_markerless, markerless_both}
 use Rattle.yaml_base.proofs.stream_nodes.StreamFits.{Fits, indicated_lines, indicated_ends}
 use Rattle.yaml_base.specs.streams.StreamNodes.{HeldPairs, item_read, with_item, with_item_or_comment, entry_read, between_pairs, pair_or_comment}
@@ -155,7 +156,8 @@ reads_one q rules e t text ending rest size before after is ends begins markerle
           (splits_one q e _ rest (outside q e t begins) (entry_uncommented q e t begins) (later q e (own_rank q e)));
       inside = λ r d h. subst (AllInside r d) (sym is) (and_from _ _ (first r d h) (later r d (later_rank q r d e h)));
       markerless = λ h. subst AllMarkerless (sym is)
-          (and_from _ _ (ap (λ (n : ℕ). is_markerless (marker_of (spaces n ++ t))) h ∙ markerless) (all_markerless false rest (later false 0 (omega arith))));
+          (and_from _ _ (ap (λ (n : ℕ). is_content (spaces n ++ t)) h ∙ and_from _ _ markerless (ap not (begins_uncommented q t begins)))
+          (all_markerless false rest (later false 0 (omega arith))));
       reads = λ depth deep others.
           ap (λ state. fold (entry_step q rules (node_read depth rules) e) state others)
           (ap (entry_step q rules (node_read depth rules) e (Some before)) is

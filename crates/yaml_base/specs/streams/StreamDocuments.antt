@@ -1,16 +1,16 @@
 -- The documents of a stream: its lines are cut at the markers `---` and `...`; the lines before the first marker are the first document or
 -- its directives.
 -- Source, unless a definition names its own: that of its part.
-use Rattle.std.specs.Prelude.{ℕ, suc, pos, Bool, true, false, Option, None, Some, List, [], ◌∷◌, ◌++◌, ◌==◌, ◌&&◌, not, length, fold, codes, bytes_eq}
-use Rattle.std.specs.Prelude.{option_map, option_and_then, is_some, if◌then◌else◌}
-use Rattle.std.specs.List.{slice_split}
-use Rattle.yaml_base.specs.Characters.{Text, is_space}
+use Rattle.std.specs.Prelude.{ℕ, suc, pos, Bool, true, false, Option, None, Some, List, [], ◌∷◌, ◌++◌, ◌==◌, ◌||◌, ◌&&◌, not, length, fold, codes}
+use Rattle.std.specs.Prelude.{bytes_eq, option_map, option_and_then, is_some, if◌then◌else◌}
+use Rattle.std.specs.List.{slice_split, list_any}
+use Rattle.yaml_base.specs.Characters.{Text, is_space, is_among}
 use Rattle.yaml_base.specs.Event.{Version, TagDirective}
 use Rattle.yaml_base.specs.reading.ReadTags.{is_handle_text, prefix_parsed, is_handle_given}
 use Rattle.yaml_base.specs.streams.StreamContent.{Tree, DocumentTree}
 use Rattle.yaml_base.specs.streams.StreamLines.{Line, lines_of, begins_comment, is_skipped, without_skipped_lines, all_blank, ends_indicator, blanked}
 use Rattle.yaml_base.specs.streams.StreamScalars.{Rules}
-use Rattle.yaml_base.specs.streams.StreamNodes.{node_read}
+use Rattle.yaml_base.specs.streams.StreamNodes.{begins_properties, node_read}
 
 -- Markers. Source: helpers of this project's reader for c-document-start, c-document-end (YAML 1.1, section 7.2 Document Boundary Markers).
 
@@ -52,6 +52,40 @@ prepend_section marker line after =
 abbrev pub sections_of : List Line → Sections
 sections_of [] = record { before = []; sections = [] }
 sections_of (line ∷ rest) = prepend_section (marker_of line.text) line (sections_of rest)
+
+-- Comments. Source: helpers of this project's reader for l-comment (YAML 1.1, section 6.2 Comments).
+
+-- a line before others of its section, if these are without the comments at their end; a comment at column 0 that precedes blank lines alone
+-- is at the end, too
+abbrev pub prepend_content : Line → List Line → List Line
+prepend_content line rest = if begins_comment line.text && all_blank rest then [] else line ∷ rest
+
+-- lines without the comments at column 0 after their last other line, and without the blank lines after these comments; blank lines before
+-- them may belong to a block scalar
+abbrev pub without_last_comments : List Line → List Line
+without_last_comments [] = []
+without_last_comments (line ∷ rest) = prepend_content line (without_last_comments rest)
+
+-- true of a word that opens a block scalar, if it says no indentation past 1 (YAML 1.1, section 9.2.1 Block Scalar Header, c-b-block-header(s,t))
+abbrev pub opens_block_scalar : Text → Bool
+opens_block_scalar [] = false
+opens_block_scalar (c ∷ rest) = (c == 0x7C || c == 0x3E) && not (list_any (is_among (codes "23456789")) rest)
+
+-- true of words that are properties and then such a word
+abbrev pub are_block_header : List Text → Bool
+are_block_header [] = false
+are_block_header (word ∷ rest) = opens_block_scalar word || ((length word == 0 || begins_properties word) && are_block_header rest)
+
+-- the lines after a text without the comments at their end; if the text opens a block scalar and has no other line, readers disagree on
+-- whether such a comment is the scalar's first line, so it stays, and is refused (this project)
+abbrev pub content_after : Text → List Line → List Line
+content_after text lines =
+    if are_block_header (slice_split is_space text) && all_blank (without_last_comments lines) then lines else without_last_comments lines
+
+-- the lines of a root or of directives without the comments at their end; the first line, which is none, stays
+abbrev pub content_lines : List Line → List Line
+content_lines [] = []
+content_lines (line ∷ rest) = line ∷ content_after line.text rest
 
 -- Directives. Source: helpers of this project's reader for l-directive (YAML 1.1, section 7.1 Directives).
 
@@ -115,13 +149,13 @@ stands_at_margin (line ∷ rest) = not (ends_indicator line.text) && not (begins
 -- a root on lines of its own, the first of which begins at column 0; without lines it is the empty scalar (this project, for YAML 1.1,
 -- section 7.3 Documents, l-implicit-document)
 abbrev pub root_below : ℕ → Rules → List Line → Option Tree
-root_below depth rules lines = if stands_at_margin lines then node_read depth rules true None lines else None
+root_below depth rules lines = if stands_at_margin lines then node_read depth rules true None (content_lines lines) else None
 
 -- a root on the line of `---` or, if the line holds nothing or a comment alone, below it; no block begins on that line
 -- (libyaml's scanner, for YAML 1.1, section 7.3 Documents, l-explicit-document)
 abbrev pub root_after_marker : (marker_alone : Bool) → ℕ → Rules → Line → List Line → Option Tree
 root_after_marker true depth rules line rest = root_below depth rules (without_skipped_lines rest)
-root_after_marker false depth rules line rest = node_read depth rules false None (line ∷ rest)
+root_after_marker false depth rules line rest = node_read depth rules false None (content_lines (line ∷ rest))
 
 -- the text after a marker (YAML 1.1, section 7.2 Document Boundary Markers, c-document-start)
 abbrev pub after_marker : Text → Text
@@ -171,7 +205,8 @@ abbrev pub section_by_kind : MarkerKind → ℕ → Bool → List DocumentTree �
 section_by_kind start_marker depth breaks12 documents after_root section = document_read depth breaks12 documents no_prologue section
 section_by_kind start_marker depth breaks12 documents (after_prologue prologue) section = document_read depth breaks12 documents prologue section
 section_by_kind end_marker depth breaks12 documents after_root section =
-    if length section.line.text == 3 then with_prologue documents (prologue_read (without_skipped_lines section.rest)) else None
+    if length section.line.text == 3
+    then with_prologue documents (prologue_read (without_skipped_lines (without_last_comments section.rest))) else None
 section_by_kind _ depth breaks12 documents place section = None
 
 -- one section more of a stream
@@ -199,7 +234,7 @@ prefix_kind (line ∷ rest) = if begins_with_percent line.text then directive_li
 -- (YAML 1.1, sections 7.1 Directives and 7.3 Documents, l-directive, l-implicit-document)
 abbrev pub lines_before_marker_read : PrefixKind → ℕ → Bool → List Line → Option StreamRead
 lines_before_marker_read no_lines depth breaks12 lines = Some (record { documents = []; place = after_prologue no_prologue })
-lines_before_marker_read directive_lines depth breaks12 lines = with_prologue [] (prologue_read lines)
+lines_before_marker_read directive_lines depth breaks12 lines = with_prologue [] (prologue_read (content_lines lines))
 lines_before_marker_read document_lines depth breaks12 lines =
     with_read_document [] no_prologue (root_below depth (record { breaks12 = breaks12; directives = [] }) lines)
 

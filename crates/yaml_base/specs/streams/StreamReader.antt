@@ -1,7 +1,8 @@
 -- Reading whole streams back, in every mode, independently of the definitions that write them: bytes to documents, or nothing. The reader
--- drops a heading: the lines at a stream's front that begin with `#`; and it skips comment lines before blocks and between entries. It is
--- strict: it refuses all that readers of YAML 1.1 disagree on, and also comments on the line of a text, tabs outside literal text and
--- comments, and characters that aren't printable, so that all of them give a text that it reads the same meaning.
+-- skips comment lines: those that begin at column 0 before, after and between documents, of which the first are the heading, and any before
+-- blocks and between entries. It is strict: it refuses all that readers of YAML 1.1 disagree on, and also comments on the line of a text,
+-- tabs outside literal text and comments, and characters that aren't printable, so that all of them give a text that it reads the same
+-- meaning.
 --     stream_trees breaks12 bytes      the documents in some bytes, or nothing
 -- Source, unless a definition names its own: YAML 1.1, section 7.4 Complete Stream, l-yaml-stream, as this project narrows it.
 use Rattle.std.specs.Prelude.{ℕ, Bool, true, false, Option, None, List, [], ◌∷◌, ◌==◌, ◌||◌, not, option_and_then, if◌then◌else◌}
@@ -17,14 +18,16 @@ use Rattle.yaml_base.specs.streams.StreamDocuments.{documents_of}
 abbrev pub may_stand_raw : ℕ → Bool
 may_stand_raw c = c == carriage_return || c == tab || is_printable c
 
--- the text after the lines that begin with `#`, from within such a line or from the start of any (YAML 1.1, section 6.2 Comments,
--- c-nb-comment-text, l-comment; without white space before the `#` by this project)
+-- the text after empty lines and lines that begin with `#`, from within such a comment or from the start of any line (YAML 1.1, section
+-- 6.2 Comments, c-nb-comment-text, l-comment; without white space before the `#` by this project)
 abbrev pub after_comments : Bool → (within : Bool) → Text → Text
 after_comments breaks12 within [] = []
 after_comments breaks12 true (c ∷ rest) = after_comments breaks12 (not (is_read_break breaks12 c)) rest
-after_comments breaks12 false (c ∷ rest) = if c == 0x23 then after_comments breaks12 true rest else c ∷ rest
+after_comments breaks12 false (c ∷ rest) =
+    if c == 0x23 then after_comments breaks12 true rest
+    else (if is_read_break breaks12 c then after_comments breaks12 false rest else c ∷ rest)
 
--- a stream's characters without its heading (YAML 1.1, section 7.4 Complete Stream, l-yaml-stream)
+-- a stream's characters without its heading: the comments and empty lines at its front (YAML 1.1, section 7.4 Complete Stream, l-yaml-stream)
 abbrev pub without_heading : Bool → Text → Text
 without_heading breaks12 text = after_comments breaks12 false text
 
