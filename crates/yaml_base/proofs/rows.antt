@@ -38,3 +38,4 @@ mod RowsSchema
 mod RowsSurelyText
 mod RowsJsonNumbers
 mod RowsLinesAndColumns
+mod RowsComments

@@ -26,6 +26,8 @@ pub mod NodeLayout
 pub mod Layout
 pub mod Steps
 pub mod Pieces
+pub mod Comments
+pub mod CommentedSteps
 pub mod Output
 pub mod Meaning
 pub mod graphs
