@@ -8,6 +8,10 @@ pub mod Accepted
 pub mod OpenCounts
 pub mod ReadyLaws
 pub mod PieceLaws
+pub mod CommentTexts
+pub mod CommentedPieces
+pub mod CommentedHeads
+pub mod CommentedStages
 pub mod Completions
 pub mod Pushes
 pub mod StepLaws

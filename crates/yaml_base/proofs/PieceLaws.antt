@@ -66,7 +66,7 @@ not_closed_next : (event : Event) (rest : List Event) (p q : Partial) (made : Op
     → option_and_then (λ r. pushed r rest) made ≡ Some q → ((r : Partial) → NotClosed rest r q) → last_closes_at_once (event ∷ rest) (missing q) ≡ false
 not_closed_next event rest p q made h h2 h3 = grind (arith, nat_tests)
 
-completion_not_closed : (events : List Event) (p q : Partial) → NotClosed events p q
+pub completion_not_closed : (events : List Event) (p q : Partial) → NotClosed events p q
 completion_not_closed [] p q given = refl
 completion_not_closed (event ∷ rest) p q given =
     not_closed_next event rest p q (push p event) refl given (λ r. completion_not_closed rest r q)

@@ -34,7 +34,7 @@ abbrev Follows : Partial → Stage → Event → Type 0
 Follows p stage event = (q : Partial) (s : Effective) (empty : Bool) (standing : Standing) → push p event ≡ Some q
     → StandsFor q (step s stage event empty standing).stage
 
-stands_as : (p q : Partial) (stage : Stage) → Some p ≡ Some q → StandsFor p stage → StandsFor q stage
+pub stands_as : (p q : Partial) (stage : Stage) → Some p ≡ Some q → StandsFor p stage → StandsFor q stage
 stands_as p q stage given h = let same : p ≡ q = cc in subst (λ r. StandsFor r stage) same h
 
 end_follows : (e : Option Encoding) (d : Documents) (s : DocumentStart) (level : Level) (levels : List Level) (t : List TagDirective) (frame : Frame)
