@@ -1,5 +1,5 @@
 -- Texts of comments: each is a comment, and each line of a head is blank or spaces and a comment.
-use Rattle.yaml_base.proofs.Common.{ℕ, zero, suc, Bool, false, true, List, [], ◌∷◌, ◌++◌, ◌≡◌, ◌==◌, ◌||◌, refl, ap, sym, ◌∙◌, append_assoc, replicate}
+use Rattle.yaml_base.proofs.Common.{ℕ, zero, suc, Bool, false, true, List, [], ◌∷◌, ◌++◌, ◌≡◌, ◌==◌, ◌||◌, ◌&&◌, refl, ap, sym, ◌∙◌, append_assoc, replicate}
 use Rattle.yaml_base.proofs.Common.{if◌then◌else◌, and_parts, and_from, or_right, list_all, list_all-append, flat_map, not-true, Text, line_feed, space}
 use Rattle.yaml_base.proofs.Common.{is_break, is_printable, not, Cursor}
 use Rattle.std.proofs.lemmas.List.Splits.{slice_split_at}
@@ -109,7 +109,7 @@ ended_pass text false pass = pass
 rendered_pass : (column : ℕ) (lines : List HeadLine) (cursor : Cursor) → AllLinesPass (render_lines column lines cursor).text
 rendered_pass column [] cursor = refl
 rendered_pass column (line ∷ rest) cursor =
-    ended_pass (flat_map (line_text column) (line ∷ rest)) (cursor.column == 0) (lines_pass column (line ∷ rest))
+    ended_pass (flat_map (line_text column) (line ∷ rest)) (cursor.indention && cursor.column == 0) (lines_pass column (line ∷ rest))
 
 pub heads_are_comments : HeadsAreComments
 heads_are_comments column keeps_breaks lines cursor =

@@ -169,7 +169,7 @@ first_is_next : (rest : List Event) → ends_next rest false ≡ first_ends_coll
 first_is_next [] = refl
 first_is_next (event ∷ rest) = refl
 
-open_commented : (prefix : List Commented) (rest : List Event) (s : Effective) (b c : Bool) → last_begins_collection (events_of prefix) ≡ b
+pub open_commented : (prefix : List Commented) (rest : List Event) (s : Effective) (b c : Bool) → last_begins_collection (events_of prefix) ≡ b
     → first_ends_collection rest ≡ c → b && c ≡ false
     → (commented_steps s (ends_next rest false) prefix at_stream first_commented).pieces
     ≡ (commented_steps s false prefix at_stream first_commented).pieces
@@ -207,7 +207,7 @@ completed_events all =
     map-append (λ (commented : Commented). commented.event) all (map without_comments missed)
     ∙ ap (λ others. events_of all ++ others) (events_bare missed)
 
-begun_commented : (prefix : List Commented) (p : Partial) (s : Effective) → partial_of (events_of prefix) ≡ Some p
+pub begun_commented : (prefix : List Commented) (p : Partial) (s : Effective) → partial_of (events_of prefix) ≡ Some p
     → take (length prefix) (commented_layout s (commented_completion prefix)) ≡ (commented_steps s false prefix at_stream first_commented).pieces
 begun_commented prefix p s begins =
     let missed = map without_comments (missing_after (partial_of (events_of prefix))) in

@@ -12,6 +12,8 @@ pub mod CommentTexts
 pub mod CommentedPieces
 pub mod CommentedHeads
 pub mod CommentedStages
+pub mod CommentedProgress
+pub mod LineComments
 pub mod Completions
 pub mod Pushes
 pub mod StepLaws

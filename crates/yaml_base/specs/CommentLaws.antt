@@ -9,14 +9,15 @@ use Rattle.yaml_base.specs.Event.{Event}
 use Rattle.yaml_base.specs.Grammar.{Partial, Stream, partial_of, stream_events}
 use Rattle.yaml_base.specs.Refusal.{IsAccepted, refusal}
 use Rattle.yaml_base.specs.Ready.{written}
-use Rattle.yaml_base.specs.scalars.Analysis.{is_empty}
+use Rattle.yaml_base.specs.Prefix.{IsPrefix}
+use Rattle.yaml_base.specs.scalars.Analysis.{begins_with, is_empty}
 use Rattle.yaml_base.specs.NodeLayout.{Piece, Standing, piece_text, text_of}
 use Rattle.yaml_base.specs.Steps.{Stage, at_stream, stage_refusal, step}
 use Rattle.yaml_base.specs.Pieces.{last_closes_at_once, list_layout}
 use Rattle.yaml_base.specs.Comments.{Commented, HeadLine, comment_written, commented_text, commented_text_of, events_of, fits_comment, hash, piece_alone}
-use Rattle.yaml_base.specs.Comments.{render_head, text_lines, without_comments}
+use Rattle.yaml_base.specs.Comments.{render_head, text_lines, text_with_line, without_comments}
 use Rattle.yaml_base.specs.CommentedSteps.{CommentedStanding, CommentedStep, commented_layout, commented_pieces, commented_step, commented_steps}
-use Rattle.yaml_base.specs.CommentedSteps.{first_commented, ready_commented}
+use Rattle.yaml_base.specs.CommentedSteps.{commented_progress, first_commented, ready_commented}
 
 -- Without comments
 
@@ -58,6 +59,18 @@ abbrev pub PieceFollowsHead : Type 0
 PieceFollowsHead =
     (s : Effective) (stage : Stage) (commented : Commented) (empty : Bool) (before : CommentedStanding)
     → WritesAfterHead s stage commented.event empty before.standing (commented_step s stage commented empty before)
+
+-- a text is inserted into another one at a line's end
+pub record InsertsAtLineEnd (text added result : Text) : Type 0 where
+  pub front : Text
+  pub rest : Text
+  pub text_parts : front ++ rest ≡ text
+  pub result_parts : front ++ (added ++ rest) ≡ result
+  pub ends : (is_empty rest || begins_with (λ c. c == line_feed) rest) ≡ true
+
+-- so a line comment is inserted into its piece
+abbrev pub LineCommentsEndLines : Type 0
+LineCommentsEndLines = (comment : Text) (piece : Piece) → InsertsAtLineEnd (piece_text piece) comment (text_with_line comment piece)
 
 -- Comments are no content
 
@@ -106,3 +119,14 @@ CommentedPiecesStand =
     (s : Effective) (all rest : List Commented) (k : ℕ) → k ≤ length all → IsAccepted s.canonical (events_of (take k all ++ rest))
     → last_closes_at_once (events_of (take k all)) (events_of rest) ≡ false
     → take k (commented_layout s (take k all ++ rest)) ≡ commented_pieces s all k
+
+-- the first pieces of the events that are ready are those of their steps
+abbrev pub ReadyPiecesAreFirst : Type 0
+ReadyPiecesAreFirst =
+    (s : Effective) (all : List Commented) (partial : Partial) → partial_of (events_of (ready_commented all)) ≡ Some partial
+    → commented_pieces s all (written (events_of all)) ≡ (commented_progress s all).pieces
+
+-- as a list grows, its pieces stay, and others follow
+abbrev pub ReadyPiecesStay : Type 0
+ReadyPiecesStay =
+    (s : Effective) (all more : List Commented) → IsPrefix (commented_progress s all).pieces (commented_progress s (all ++ more)).pieces

@@ -104,9 +104,9 @@ abbrev pub line_text : (column : ℕ) → HeadLine → Text
 line_text column blank_line = line_feed ∷ []
 line_text column (comment_line text) = replicate column space ++ (comment_written text ++ line_feed ∷ [])
 
--- the break that ends the line before the cursor; none at a line's start
+-- the break that ends the line before the cursor; none at a line's start, where not even a scalar without text precedes it
 abbrev pub line_end : Cursor → Text
-line_end cursor = if cursor.column == 0 then [] else line_feed ∷ []
+line_end cursor = if cursor.indention && cursor.column == 0 then [] else line_feed ∷ []
 
 -- lines at a column; after them the cursor is at a line's start
 abbrev pub render_lines : (column : ℕ) → List HeadLine → Cursor → Rendered

@@ -119,6 +119,13 @@ key_in_item =
 before_items : GivesOfTwo commented_under (
     -- undented: the sequence's end is at the column of the mapping
     (plain_settings, items_and_key, codes "a:\n# one\n- x\n# two\n- y\n# end\n# next\nb: 1\n")
+    -- blank lines at its end and after it are one
+    ∷ (
+      plain_settings,
+      only (bare mapping ∷ text (codes "a") ∷ bare sequence ∷ text (codes "x") ∷ below (comment_line (codes "end") ∷ blank_line ∷ []) sequence_end
+          ∷ below (blank_line ∷ comment_line (codes "next") ∷ []) (leaf (codes "b")) ∷ text (codes "1") ∷ bare mapping_end ∷ []),
+      codes "a:\n- x\n# end\n\n# next\nb: 1\n",
+    )
     -- indented
     ∷ (
       record plain_settings { indented_sequences = true },
@@ -196,6 +203,11 @@ at_documents : Gives written (
     )
     -- before a document without `---`
     ∷ (document (below (comments (codes "head" ∷ [])) implicit_start) (text (codes "a") ∷ []) (bare (document_end true)), codes "# head\na\n")
+    -- after a root that is written as nothing
+    ∷ (
+      document (bare implicit_start) (text [] ∷ []) (below (comments (codes "foot" ∷ [])) (document_end true)),
+      codes "\n# foot\n",
+    )
     -- the lines of a stream's start are the document's
     ∷ (
       below (comments (codes "start" ∷ [])) (stream_start None) ∷ below (comments (codes "head" ∷ [])) implicit_start ∷ text (codes "a")
@@ -212,6 +224,13 @@ at_documents : Gives written (
 unfolding encode_utf8
 at_documents = refl
 
+-- a sequence with an anchor, a mapping with one
+abbrev anchored_sequence : Event
+anchored_sequence = sequence_start (record { anchor = Some (codes "y"); tag = None; implicit = true; style = any_layout })
+
+abbrev anchored_mapping : Event
+anchored_mapping = mapping_start (record { anchor = Some (codes "x"); tag = None; implicit = true; style = any_layout })
+
 -- no place: before a value that is no collection in a block, in flow, in canonical mode
 left_out : GivesOfTwo commented_under ((
   plain_settings,
@@ -225,6 +244,21 @@ left_out : GivesOfTwo commented_under ((
           (bare sequence ∷ between (comments (codes "lost" ∷ [])) (codes "lost") (leaf (codes "x")) ∷ bare sequence_end ∷ [])
           (bare (document_end true)),
       codes "---\n[\n  \"x\",\n]\n",
+    )
+    -- a root in canonical mode
+    ∷ (canonical_settings, only (beside (codes "lost") (leaf (codes "a")) ∷ []), codes "---\n\"a\"\n")
+    -- the end of a collection in flow that is in another one
+    ∷ (
+      plain_settings,
+      only (bare flow_sequence ∷ bare flow_sequence ∷ text (codes "x") ∷ beside (codes "lost") sequence_end ∷ beside (codes "c") sequence_end ∷ []),
+      codes "[[x]]  # c\n",
+    )
+    -- before `:`, the lines of the end of an undented sequence that is a key
+    ∷ (
+      plain_settings,
+      only (bare mapping ∷ bare anchored_sequence ∷ text (codes "b") ∷ below (comments (codes "lost" ∷ [])) sequence_end ∷ text (codes "v")
+          ∷ bare mapping_end ∷ []),
+      codes "? &y\n- b\n: v\n",
     )
     -- no line comment follows a key
     ∷ (
@@ -259,13 +293,6 @@ after_values : written
     ≡ codes "&x a: v  # plain\nb: 'it''s'  # quoted\nc: *x  # alias\nd: [1]  # flow\ne: []  # empty list\nf:  # nothing\n"
 unfolding encode_utf8
 after_values = refl
-
--- a sequence with an anchor, a mapping with one
-abbrev anchored_sequence : Event
-anchored_sequence = sequence_start (record { anchor = Some (codes "y"); tag = None; implicit = true; style = any_layout })
-
-abbrev anchored_mapping : Event
-anchored_mapping = mapping_start (record { anchor = Some (codes "x"); tag = None; implicit = true; style = any_layout })
 
 line_comments : Gives written (
     -- after a block scalar's header
