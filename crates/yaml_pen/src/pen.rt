@@ -12,6 +12,7 @@ use std::marker::Model;
 use yaml_base::{yaml_break_t, yaml_encoding_t, yaml_error_t};
 
 mod characters;
+mod copies;
 mod indicators;
 mod new_lines;
 

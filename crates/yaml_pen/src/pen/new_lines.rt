@@ -1,18 +1,15 @@
 //! New lines, and the spaces that they begin with.
-ghost use Rattle.std.specs.Prelude.{◌≡◌, pos, ◌≤ℤ◌, ◌<◌, ◌≤◌, false, true, replicate};
-ghost use Rattle.yaml_base.specs.Characters.{space};
-ghost use Rattle.yaml_base.specs.Cursor.{render_text, breaks_line, new_line};
+ghost use Rattle.std.specs.Prelude.{◌≡◌, pos, ◌≤ℤ◌, ◌<◌, ◌≤◌, false, true};
+ghost use Rattle.yaml_base.specs.Cursor.{breaks_line, new_line};
 ghost use Rattle.yaml_base.specs.Settings.{line_feed_break};
 ghost use Rattle.yaml_pen.specs.Page.{IsReady, has_bom, natural};
 ghost use Rattle.yaml_pen.specs.Wrote.{Wrote};
 ghost use Rattle.yaml_pen.specs.Lines.{line_begun, spaces_to};
 
-use crate::pen::{Pen, has_bom};
+use crate::pen::Pen;
 use std::alloc::Allocator;
-use yaml_base::{yaml_break_t, yaml_error_t};
+use yaml_base::yaml_error_t;
 
-/// The maximum number of spaces that are written in one call.
-const MOST_SPACES: u32 = 64;
 /// The maximum number of spaces that are written in one call with the break before them.
 const MOST_SPACES_AFTER_BREAK: u32 = 31;
 /// LF, and that many spaces.
@@ -39,7 +36,7 @@ impl<A: Allocator> Pen<A> {
         Ok(())
     }
 
-    // Whether a break is needed here and is LF, one byte as the spaces are. A setting of ANY counts as LF.
+    // Whether a break is needed here, and is one byte as the spaces are.
     fn starts_at_once(&self, at: u32) -> bool
         requires { at < 2147483648 }
         ensures breaks { result ≡ true → breaks_line at self.now.cursor ≡ true }
@@ -47,13 +44,7 @@ impl<A: Allocator> Pen<A> {
         ensures no_bom { result ≡ true → has_bom self.now.encoding ≡ false }
         ensures line_feed { result ≡ true → self.now.line_break ≡ line_feed_break }
     {
-        at <= MOST_SPACES_AFTER_BREAK
-            && self.breaks_line(at)
-            && !has_bom(self.encoding)
-            && match self.line_break {
-                yaml_break_t::YAML_CR_BREAK | yaml_break_t::YAML_CRLN_BREAK => false,
-                _ => true,
-            }
+        at <= MOST_SPACES_AFTER_BREAK && self.breaks_line(at) && self.has_plain_breaks()
     }
 
     // Most lines begin at few columns. A start of known length is copied without a call.
@@ -112,30 +103,6 @@ impl<A: Allocator> Pen<A> {
         ensures written { Wrote (spaces_to at) self.old self.new result }
     {
         let missing = at.saturating_sub(self.column);
-        self.write_spaces(missing)
-    }
-
-    fn write_spaces(&mut self, count: u32) -> Result<(), yaml_error_t>
-        requires ready { IsReady self.old }
-        ensures written { Wrote (render_text (replicate count space)) self.old self.new result }
-    {
-        if count <= MOST_SPACES {
-            let spaces = [b' '; 64];
-            self.write_ascii(&spaces[..count as usize])
-        } else {
-            self.write_many_spaces(count)
-        }
-    }
-
-    // One space after another.
-    fn write_many_spaces(&mut self, count: u32) -> Result<(), yaml_error_t>
-        requires ready { IsReady self.old }
-        ensures written { Wrote (render_text (replicate count space)) self.old self.new result }
-    {
-        self.write_nothing()?;
-        for written in 0..count {
-            self.write_character(' ')?;
-        }
-        Ok(())
+        self.write_copies(b' ', missing as usize)
     }
 }
