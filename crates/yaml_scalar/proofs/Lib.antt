@@ -1,6 +1,7 @@
 pub mod Common
 pub mod blocks
 pub mod LineRuns
+pub mod Repeated
 pub mod EscapesRead
 pub mod EscapeBytes
 pub mod EscapedBytes

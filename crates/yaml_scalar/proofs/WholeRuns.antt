@@ -5,7 +5,7 @@ use Rattle.yaml_scalar.proofs.Common.{is_break, has_limit, last_from, IsRun}
 use Rattle.std.{proofs.lemmas.List.take-take, proofs.lemmas.Str.IsCharBoundary-from_take, proofs.lemmas.Str.IsCharBoundary-start, specs.Str.chars}
 
 -- a run holds no break if no character that passes is one
-all_unbroken : (test : ℕ → Bool) → ((c : ℕ) → test c ≡ true → is_break c ≡ false) → (text : Text) → list_all test text ≡ true → list_any is_break text ≡ false
+pub all_unbroken : (test : ℕ → Bool) → ((c : ℕ) → test c ≡ true → is_break c ≡ false) → (text : Text) → list_all test text ≡ true → list_any is_break text ≡ false
 all_unbroken test none [] h = refl
 all_unbroken test none (c ∷ rest) h =
     let p = and_parts (test c) (list_all test rest) h in

@@ -64,9 +64,9 @@ abbrev pub render_step : (limit : Option ℕ) (indent : ℕ) → Place → ℕ �
 render_step limit indent place c rest cursor =
     if is_break c then render_block_break (is_doubled place c rest) c cursor else render_inner limit indent place c rest cursor
 
--- true for a character that is written as itself: not at the start of a line, and no space that may become a fold
+-- true for a character that is written as itself: LF at the start of a line, and in it no space that may become a fold
 abbrev pub stays_at : (limit : Option ℕ) → Place → ℕ → Bool
-stays_at limit LineStart c = false
+stays_at limit LineStart c = c == line_feed
 stays_at limit Folding c = stays_in_line (has_limit limit) false c
 stays_at limit Fixed c = stays_in_line false false c
 

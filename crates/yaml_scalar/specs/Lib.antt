@@ -3,6 +3,7 @@ pub mod Barred
 pub mod Width
 pub mod ReadsBack
 pub mod LineSteps
+pub mod Repeats
 pub mod BlockCode
 pub mod BlockSteps
 pub mod WholeRuns

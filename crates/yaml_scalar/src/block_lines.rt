@@ -1,7 +1,9 @@
 //! The lines of literal and folded scalars (YAML 1.1, section 9.3), one character after another.
+ghost use Rattle.std.specs.List.{list_all};
 ghost use Rattle.std.specs.Prelude.{◌≡◌, ◌≤ℤ◌, pos, true, false};
 ghost use Rattle.std.specs.Str.{chars};
 ghost use Rattle.yaml_base.specs.Characters as class;
+ghost use Rattle.yaml_base.specs.Cursor.{render_text};
 ghost use Rattle.yaml_base.specs.scalars.Folded as layout;
 ghost use Rattle.yaml_base.specs.scalars.Lines.{parts};
 ghost use Rattle.yaml_pen.specs.Page.{IsReady, natural};
@@ -14,6 +16,7 @@ ghost use Rattle.yaml_scalar.specs.Width.{limit_of};
 
 use crate::analysis::begins_with_space;
 use crate::block_header::BlockStyle;
+use crate::repeats::line_feeds_after;
 use crate::runs::{Run, RunEnds, line_run_after};
 use crate::shared::{has_limit_where, may_fold_here};
 use std::alloc::Allocator;
@@ -55,7 +58,7 @@ pub(crate) fn write_lines<A: Allocator>(
         place = place_after(lines.style, place, character);
         let run = leading_verbatim_run(character, rest, place, lines);
         let (prefix, after) = rest.split_at(run.length);
-        pen.write_run(prefix)?;
+        write_verbatim(pen, lines, place, prefix)?;
         characters = after.chars();
     }
     pen.write_nothing()
@@ -136,16 +139,12 @@ fn place_after(style: BlockStyle, place: Place, character: char) -> Place
     }
 }
 
-/// Returns the run after a character, by its place: none at the start of a line; a space ends it if it may become a
-/// fold.
+/// Returns the run after a character, by its place: LF at the start of a line; a space ends it if it may become a fold.
 fn leading_verbatim_run(character: char, rest: &str, place: Place, lines: BlockLines) -> Run
     ensures { IsRun (step.stays_at (limit_of lines.width) place) character rest.now result.length result.last }
 {
     match place {
-        Place::LineStart => Run {
-            length: 0,
-            last: character,
-        },
+        Place::LineStart => line_feeds_after(character, rest),
         Place::Folding => {
             let ends = RunEnds {
                 space: has_limit_where(true, lines.width),
@@ -160,6 +159,24 @@ fn leading_verbatim_run(character: char, rest: &str, place: Place, lines: BlockL
             };
             line_run_after(character, rest, ends)
         }
+    }
+}
+
+/// Writes a run as it is: LF at the start of a line, or characters of a line.
+fn write_verbatim<A: Allocator>(
+    pen: &mut Pen<A>,
+    lines: BlockLines,
+    place: Place,
+    run: &str,
+) -> Result<(), yaml_error_t>
+    requires ready { IsReady pen.old }
+    requires stays { list_all (step.stays_at (limit_of lines.width) place) (chars run.now) ≡ true }
+    ensures { Wrote (render_text (chars run.now)) pen.old pen.new result }
+{
+    match place {
+        Place::LineStart => pen.write_line_feeds(run.len()),
+        Place::Folding => pen.write_run(run),
+        Place::Fixed => pen.write_run(run),
     }
 }
 

@@ -15,6 +15,7 @@ mod folded;
 mod lines;
 mod literal;
 mod plain;
+mod repeats;
 mod runs;
 mod shared;
 mod short_runs;

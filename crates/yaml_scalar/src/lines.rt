@@ -14,6 +14,7 @@ ghost use Rattle.yaml_scalar.specs.WholeRuns.{HasRoom, IsLineRun};
 ghost use Rattle.yaml_scalar.specs.Width.{limit_where};
 
 use crate::analysis::is_at_end;
+use crate::repeats::{repeats_after, write_repeats};
 use crate::runs::{Run, RunEnds, ending_classes, line_run_after, run_up_to, short_classes};
 use crate::shared::may_fold_here;
 use crate::short_runs::{is_short_run, write_short_run};
@@ -75,11 +76,7 @@ fn write_indentation<A: Allocator>(pen: &mut Pen<A>, indent: u32) -> Result<(), 
     requires { IsReady pen.old }
     ensures { Wrote (render_text (layout.indentation indent)) pen.old pen.new result }
 {
-    pen.write_nothing()?;
-    for written in 0..indent {
-        pen.put(b' ')?;
-    }
-    Ok(())
+    pen.write_copies(b' ', indent as usize)
 }
 
 fn write_extra_break<A: Allocator>(pen: &mut Pen<A>, needed: bool) -> Result<(), yaml_error_t>
@@ -258,7 +255,7 @@ fn write_runs<A: Allocator>(pen: &mut Pen<A>, value: &str, lines: Lines) -> Resu
     write_from(pen, before, rest, lines)
 }
 
-/// Writes the rest after a character of a kind: a character and the run after it, in turn.
+/// Writes the rest after a character of a kind: a character, its repeats and the run after them, in turn.
 fn write_from<A: Allocator>(
     pen: &mut Pen<A>,
     start: CharacterKind,
@@ -274,8 +271,11 @@ fn write_from<A: Allocator>(
     while let Some(character) = characters.next() {
         let rest = characters.as_str();
         write_step(pen, lines, before, character, rest)?;
-        let run = leading_verbatim_run(pen, character, rest, lines);
-        let (prefix, after) = rest.split_at(run.length);
+        let repeats = repeats_after(character, rest, lines.quoted);
+        write_repeats(pen, repeats)?;
+        let (_, others) = rest.split_at(repeats.length());
+        let run = leading_verbatim_run(pen, character, others, lines);
+        let (prefix, after) = others.split_at(run.length);
         pen.write_run(prefix)?;
         before = kind_of(run.last);
         characters = after.chars();

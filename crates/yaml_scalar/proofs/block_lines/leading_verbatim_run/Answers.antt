@@ -1,9 +1,8 @@
 use Rattle.yaml_scalar.proofs.Common.{rules, w32, to_z-of_z, FitsSigned}
-use Rattle.yaml_scalar.{proofs.WholeRuns.no_run, specs.BlockSteps.stays_at, specs.Width.limit_of}
 use Rattle.yaml_scalar.proofs.block_lines.leading_verbatim_run.Goals as goal
 
 pub returns-in-LineStart : goal.returns-in-LineStart
-returns-in-LineStart c = no_run (stays_at (limit_of c.args.lines.width) c.args.place) c.args.character c.args.rest.now c.utf8.rest
+returns-in-LineStart c = rw c.in-LineStart.is c.line_feeds_after.ensures
 
 pub returns-in-Folding : goal.returns-in-Folding
 returns-in-Folding c =

@@ -1,6 +1,6 @@
 use Rattle.yaml_scalar.proofs.Common.{ℕ, chars, IsUtf8, List, ap, subst, sym, ◌∙◌, IsUtf8-drop, IsUtf8-past_char, chars_rest, Text, Cursor, Rendered}
-use Rattle.yaml_scalar.proofs.Common.{wrote_exit, natural, is_folded, place_after, render_step, lines_from, limit_of}
-use Rattle.yaml_scalar.proofs.{WholeRuns.run_unbroken, blocks.BlockStays.stays_unbroken, blocks.BlockStays.block_alone, blocks.BlockWrites.LinesLeft}
+use Rattle.yaml_scalar.proofs.Common.{wrote_exit, natural, is_folded, list_all, stays_at, place_after, render_step, lines_from, limit_of}
+use Rattle.yaml_scalar.proofs.{blocks.BlockStays.block_alone, blocks.BlockWrites.LinesLeft}
 use Rattle.yaml_pen.proofs.StillToWrite.{still_all, still_rest, still_failed, still_same, end_still}
 use Rattle.yaml_scalar.proofs.RunsWritten.{character_still, run_more, run_failed}
 use Rattle.yaml_scalar.specs.declared.block_lines.{Place.Place, Place.TheVariants.LineStart}
@@ -11,9 +11,10 @@ use Rattle.yaml_scalar.proofs.block_lines.write_lines.Goals as goal
 pub split_at-requires : goal.split_at-requires
 split_at-requires g c = c.leading_verbatim_run-run.ensures.boundary
 
-pub write_run-requires-clause-no_break : goal.write_run-requires-clause-no_break
-write_run-requires-clause-no_break g c =
-    run_unbroken _ (stays_unbroken (limit_of c.args.lines.width) c.place_after-place.result) c.leading_verbatim_run-run.ensures c.split_at.ensures.front
+pub write_verbatim-requires-clause-stays : goal.write_verbatim-requires-clause-stays
+write_verbatim-requires-clause-stays g c =
+    ap (λ l. list_all (stays_at (limit_of c.args.lines.width) c.place_after-place.result) (chars l)) c.split_at.ensures.front
+    ∙ c.leading_verbatim_run-run.ensures.all
 
 pub returns-in_err-write_step : goal.returns-in_err-write_step
 returns-in_err-write_step g c =
@@ -27,8 +28,8 @@ returns-in_err-write_step g c =
     {whole = lines LineStart (chars c.args.value.now)}
     (lines (place_after folded c.loop-character.place c.in-Some.character) (chars rest)) first c.in_err-write_step.ensures)
 
-pub returns-in_err-write_run : goal.returns-in_err-write_run
-returns-in_err-write_run g c =
+pub returns-in_err-write_verbatim : goal.returns-in_err-write_verbatim
+returns-in_err-write_verbatim g c =
     let folded = is_folded c.args.lines.style in
     let limit = limit_of c.args.lines.width in
     let n = natural c.args.lines.indent in
@@ -40,10 +41,10 @@ returns-in_err-write_run g c =
     c.in-Some.ensures.steps.0 c.as_str-rest.ensures c.loop-character.invariant.0 in
     let still = subst (λ (p : Place). LinesLeft folded limit n (chars c.args.value.now) (chars rest) p c.args.pen.now c.write_step.new.pen)
     (sym c.place_after-place.ensures) (still_rest first step) in
-    wrote_exit c.from_residual-in_err-write_run.ensures
+    wrote_exit c.from_residual-in_err-write_verbatim.ensures
     (run_failed (λ before. lines_from folded limit n placed) c.split_at.result.1.now
     (block_alone folded limit n c.loop-character.place placed c.in-Some.character (chars rest) c.place_after-place.ensures step)
-    is_text c.leading_verbatim_run-run.ensures c.split_at.ensures.front c.split_at.ensures.back still c.in_err-write_run.ensures.written)
+    is_text c.leading_verbatim_run-run.ensures c.split_at.ensures.front c.split_at.ensures.back still c.in_err-write_verbatim.ensures)
 
 pub loop-character-preserved : goal.loop-character-preserved
 loop-character-preserved g c =
@@ -60,10 +61,10 @@ loop-character-preserved g c =
     let still = subst (λ (p : Place). LinesLeft folded limit n (chars c.args.value.now) (chars rest) p c.args.pen.now c.write_step.new.pen)
     (sym c.place_after-place.ensures) (still_rest first step) in
     let more : LinesLeft folded limit n (chars c.args.value.now)
-    (chars (chars_rest c.chars-characters-in-Some.result)) placed c.args.pen.now c.write_run.new.self =
+    (chars (chars_rest c.chars-characters-in-Some.result)) placed c.args.pen.now c.write_verbatim.new.pen =
     run_more (λ before. lines_from folded limit n placed)
     (block_alone folded limit n c.loop-character.place placed c.in-Some.character (chars rest) c.place_after-place.ensures step)
-    is_text c.leading_verbatim_run-run.ensures c.split_at.ensures.front behind still c.in_ok-write_run.ensures.written in
+    is_text c.leading_verbatim_run-run.ensures c.split_at.ensures.front behind still c.in_ok-write_verbatim.ensures in
     (more, subst IsUtf8 (sym behind) (IsUtf8-drop _ _ is_text c.leading_verbatim_run-run.ensures.boundary))
 
 pub returns : goal.returns
@@ -93,8 +94,8 @@ write_step-requires-clause-ready g c = c.loop-character.invariant.0.ready
 pub write_step-requires-clause-not_negative : goal.write_step-requires-clause-not_negative
 write_step-requires-clause-not_negative g c = c.requires.not_negative
 
-pub write_run-requires-clause-ready : goal.write_run-requires-clause-ready
-write_run-requires-clause-ready g c = c.in_ok-write_step.ensures.ready
+pub write_verbatim-requires-clause-ready : goal.write_verbatim-requires-clause-ready
+write_verbatim-requires-clause-ready g c = c.in_ok-write_step.ensures.ready
 
 pub write_nothing-requires : goal.write_nothing-requires
 write_nothing-requires g c = c.loop-character.invariant.0.ready
