@@ -142,7 +142,6 @@ lead_at awaits found count text lead entry innermost counted is stands =
 
 -- a node's lead and the collection's end don't begin one text
 pub lead_or_end : (levels : List Pending) (a b : List ℕ) → can_end levels ≡ true → lead_text levels ++ a ≡ closing_text levels ++ b → ⊥
-lead_or_end [] a b can is = absurd (false≢true can)
 lead_or_end (item_awaited true ∷ outer) a b can is = no_word (codes "]") (lead_text (item_awaited true ∷ outer) ++ a) b refl is
 lead_or_end (item_awaited false ∷ outer) a b can is =
     no_word (codes "]") (codes "  " ++ a) b refl
@@ -154,7 +153,7 @@ lead_or_end (key_awaited false ∷ outer) a b can is =
     (append_cancel_left (line_at (length outer * 2)) (codes "  ? " ++ a) (codes "}" ++ b)
     (entry_line (length outer) (codes "? " ++ a) ∙ sym (append_assoc (line_at (suc (length outer) * 2)) (codes "? ") a) ∙ is
     ∙ append_assoc (line_at (length outer * 2)) (codes "}") b))
-lead_or_end (value_awaited ∷ outer) a b can is = absurd (false≢true can)
+lead_or_end _ a b can is = absurd (false≢true can)
 
 -- ---- after a node
 
@@ -177,9 +176,7 @@ node_stays levels outer awaited word text is word_is none = ap (λ w. past_word 
 
 line_word : (column : ℕ) (word rest : Text) → are_ascii word ≡ true
     → encode_utf8_all ((line_at column ++ word) ++ rest) ≡ (line_at column ++ word) ++ encode_utf8_all rest
-line_word column word rest ascii =
-    ap encode_utf8_all (append_assoc (line_at column) word rest) ∙ line_encoded column (word ++ rest)
-    ∙ ap (λ t. line_at column ++ t) (word_encoded word rest ascii) ∙ sym (append_assoc (line_at column) word (encode_utf8_all rest))
+line_word column word rest ascii = grind (arith, encode_utf8_all, append_assoc, line_encoded, word_encoded)
 
 pub lead_encoded : (levels : List Pending) (rest : Text) → encode_utf8_all (lead_text levels ++ rest) ≡ lead_text levels ++ encode_utf8_all rest
 lead_encoded [] rest = refl
@@ -188,15 +185,13 @@ lead_encoded (key_awaited empty ∷ outer) rest = line_word (length (key_awaited
 lead_encoded (value_awaited ∷ outer) rest = line_word (length (value_awaited ∷ outer) * 2) (codes ": ") rest refl
 
 pub closing_encoded : (levels : List Pending) (rest : Text) → encode_utf8_all (closing_text levels ++ rest) ≡ closing_text levels ++ encode_utf8_all rest
-closing_encoded [] rest = refl
 closing_encoded (item_awaited true ∷ outer) rest = word_encoded (codes "]") rest refl
 closing_encoded (item_awaited false ∷ outer) rest = line_word (length outer * 2) (codes "]") rest refl
 closing_encoded (key_awaited true ∷ outer) rest = word_encoded (codes "}") rest refl
 closing_encoded (key_awaited false ∷ outer) rest = line_word (length outer * 2) (codes "}") rest refl
-closing_encoded (value_awaited ∷ outer) rest = refl
+closing_encoded _ rest = refl
 
 pub trail_encoded : (levels : List Pending) (rest : Text) → encode_utf8_all (trail_text levels ++ rest) ≡ trail_text levels ++ encode_utf8_all rest
-trail_encoded [] rest = refl
 trail_encoded (item_awaited empty ∷ outer) rest = word_encoded (codes ",") rest refl
-trail_encoded (key_awaited empty ∷ outer) rest = refl
 trail_encoded (value_awaited ∷ outer) rest = word_encoded (codes ",") rest refl
+trail_encoded _ rest = refl

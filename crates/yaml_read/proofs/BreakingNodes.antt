@@ -80,20 +80,16 @@ no_character whole bytes error passes utf8 none reads place =
   where
     lacks : (next : List ℕ) (after : List (List ℕ)) → characters (next ∷ after) → past_word next bytes ≡ None
     lacks next after (inl ends) = subst (λ (w : List ℕ). past_word w bytes ≡ None) (sym ends.0) none
-    lacks next after (inr goes) =
-        subst (λ (w : List ℕ). past_word w bytes ≡ None) (sym goes.2)
-        (unread (character_text true goes.0) bytes utf8 (λ rest is. reads goes.0 rest goes.1 is))
+    lacks next after (inr goes) = grind (arith, unread, character_text)
 
 -- a text that is refused as a whole
 pub whole_refused : (bytes : List ℕ) (reason error : Stop) → IsWholeWord bytes reason error → IsMemory reason → IsMemory error
 whole_refused bytes stop.Memory error is reads = subst IsMemory (sym is) tt
-whole_refused bytes (stop.Refused left) error is reads = absurd reads
-whole_refused bytes (stop.TooDeep left) error is reads = absurd reads
+whole_refused bytes _ error is reads = absurd reads
 
 pub whole_placed : (bytes : List ℕ) (reason error : Stop) → IsWholeWord bytes reason error → IsHereOrMemory bytes error
 whole_placed bytes stop.Memory error is = inl is
-whole_placed bytes (stop.Refused left) error is = inr is
-whole_placed bytes (stop.TooDeep left) error is = inr is
+whole_placed bytes _ error is = inr is
 
 -- the bytes begin with no integer
 pub no_integer : (bytes : List ℕ) (error : Stop) → IsUtf8 bytes → IsHereOrMemory bytes error

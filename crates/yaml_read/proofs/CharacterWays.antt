@@ -40,21 +40,19 @@ none_some : (c : ℕ) → ◌≡◌ {A = Option ℕ} None (Some c) → ⊥
 none_some c is = cc
 
 escapes_same : (c d : ℕ) (one other more : Text) → AfterBackslash c one → AfterBackslash d other → other ≡ one ++ more → one ≡ other
-escapes_same c d _ _ more (by_letter letter means) (by_letter second also) is = cc
 escapes_same c d _ _ more (by_letter letter means) (by_two none few) is =
     absurd (none_some c (ap letter_meaning (heads 120 letter (hex_digits 2 d) more is) ∙ means))
 escapes_same c d _ _ more (by_letter letter means) (by_four none many few) is =
     absurd (none_some c (ap letter_meaning (heads 117 letter (hex_digits 4 d) more is) ∙ means))
 escapes_same c d _ _ more (by_two none few) (by_letter letter means) is =
     absurd (none_some d (ap letter_meaning (sym (heads letter 120 [] (hex_digits 2 c ++ more) is)) ∙ means))
-escapes_same c d _ _ more (by_two none few) (by_two also little) is = cc
 escapes_same c d _ _ more (by_two none few) (by_four also many little) is =
     absurd (omega (arith, heads 117 120 (hex_digits 4 d) (hex_digits 2 c ++ more) is))
 escapes_same c d _ _ more (by_four none many few) (by_letter letter means) is =
     absurd (none_some d (ap letter_meaning (sym (heads letter 117 [] (hex_digits 4 c ++ more) is)) ∙ means))
 escapes_same c d _ _ more (by_four none many few) (by_two also little) is =
     absurd (omega (arith, heads 120 117 (hex_digits 2 d) (hex_digits 4 c ++ more) is))
-escapes_same c d _ _ more (by_four none many few) (by_four also lots little) is = cc
+escapes_same c d _ _ more _ _ is = cc
 
 stand_same : (c d : ℕ) (one other more : Text) → all_scalars (c ∷ []) ≡ true → all_scalars (d ∷ []) ≡ true → Stands c one → Stands d other
     → other ≡ one ++ more → one ≡ other
@@ -159,10 +157,7 @@ inner_are (c ∷ text) scalars =
 
 inner_flat : (text : Text) → flat (inner_words text) ≡ encode_utf8_all (flat_map (character_text true) text ++ quote ∷ [])
 inner_flat [] = append-nil (codes "\"") ∙ sym (word_bytes (codes "\"") refl)
-inner_flat (c ∷ text) =
-    let inside = flat_map (character_text true) text in
-    ap (λ t. encode_utf8_all (character_text true c) ++ t) (inner_flat text) ∙ sym (encodes-append (character_text true c) (inside ++ quote ∷ []))
-    ∙ ap encode_utf8_all (sym (append_assoc (character_text true c) inside (quote ∷ [])))
+inner_flat (c ∷ text) = grind (arith, flat_map, character_text, encode_utf8_all, encodes-append, append_assoc, inner_flat text)
 
 pub words_are : (text : Text) → all_scalars text ≡ true → quoted_text (text_words text)
 words_are text scalars = (refl, inner_are text scalars)
@@ -182,11 +177,7 @@ quoted_alike one other a b scalars also is =
 
 integer_alike : (read : List (List ℕ)) (one other : List ℕ) (ones others : List (List ℕ)) (a b : List ℕ) → integer (read ++ one ∷ ones)
     → integer (read ++ other ∷ others) → one ++ a ≡ other ++ b → one ≡ other
-integer_alike [] one other ones others a b are also is =
-    are.2.0
-    ∙ quoted_alike (signed_decimal are.0) (signed_decimal also.0) a b (int_scalars are.0 are.1) (int_scalars also.0 also.1)
-    (ap (λ w. w ++ a) (sym are.2.0) ∙ is ∙ ap (λ w. w ++ b) also.2.0)
-    ∙ sym also.2.0
+integer_alike [] one other ones others a b are also is = grind (arith, quoted_alike, int_scalars)
 integer_alike (word ∷ read) one other ones others a b are also is = absurd (nothing_more read one ones are.2.1)
 
 integer_ends : (read : List (List ℕ)) (word : List ℕ) (words : List (List ℕ)) → integer read → integer (read ++ word ∷ words) → ⊥

@@ -14,10 +14,7 @@ use Rattle.yaml_read.proofs.{Encoded.word_encoded, Escapes.is_answer, Escapes.is
 
 -- the first character of a text is a Unicode scalar value
 pub scalar_of : (bytes rest : List ℕ) (c : ℕ) → IsUtf8 bytes → bytes ≡ encode_utf8 c ++ rest → all_scalars (c ∷ []) ≡ true
-scalar_of bytes rest c utf8 is =
-    let first = cons_from_encodes utf8.0 rest c (utf8.1.1 ∙ is) in
-    let both : (scalar c ≡ true) × (all_scalars first.0 ≡ true) = and_parts (scalar c) (all_scalars first.0) (ap all_scalars (sym first.1) ∙ utf8.1.0) in
-    ap (λ b. b && true) both.0
+scalar_of bytes rest c utf8 is = grind (arith, cons_from_encodes, all_scalars, and_parts)
 
 -- ---- digits
 
@@ -62,10 +59,7 @@ four_read bytes behind rest upper lower few first second =
     low = omega (arith, few)
 
     digits : hex_digits 2 upper ++ hex_digits 2 lower ≡ hex_digits 4 (upper * 256 + lower)
-    digits =
-        ap (λ n. hex_digits 2 n ++ hex_digits 2 lower) up ∙ ap (λ n. hex_digits 2 ((upper * 256 + lower) / 256) ++ hex_digits 2 n) low
-        ∙ ap (λ t. hex_digits 2 ((upper * 256 + lower) / 256) ++ t) (sym (append-nil (hex_digits 2 ((upper * 256 + lower) % 256))))
-        ∙ sym (four_text (upper * 256 + lower) []) ∙ append-nil (hex_digits 4 (upper * 256 + lower))
+    digits = grind (arith, hex_digits, up, low, append-nil, four_text)
 
 -- ---- letters
 
@@ -91,11 +85,7 @@ letter_fits (letter ∷ letters) (m ∷ meanings) c meaning fit is needs =
     first : (b : Bool) → (c == letter) ≡ b → (not (needs_escape true m) || is_answer (letter_among short_escapes m) letter) ≡ true
         → (meaning_among letters meanings c ≡ Some meaning → needs_escape true meaning ≡ true → letter_among short_escapes meaning ≡ Some c)
         → (if b then Some m else meaning_among letters meanings c) ≡ Some meaning → letter_among short_escapes meaning ≡ Some c
-    first true same fits more found =
-        let meant : m ≡ meaning = cc in
-        subst (λ k. letter_among short_escapes k ≡ Some c) meant
-        (answered (needs_escape true m) (letter_among short_escapes m) (ap (needs_escape true) meant ∙ needs) fits
-        ∙ ap (λ l. Some l) (sym (eqb-true c letter same)))
+    first true same fits more found = grind (arith, letter_among, short_escapes, answered, needs_escape, eqb-true)
     first false other fits more found = more found needs
 
 pub letter_is : (letter c : ℕ) → letter_meaning letter ≡ Some c → needs_escape true c ≡ true → letter_among short_escapes c ≡ Some letter
@@ -119,15 +109,11 @@ letter_read bytes rest letter c scalar means needs starts =
 
 behind_first : (bytes rest tail : List ℕ) (first : ℕ) (digits escape : Text) → bytes ≡ encode_utf8 first ++ tail → tail ≡ encode_utf8_all digits ++ rest
     → escape ≡ first ∷ digits → bytes ≡ encode_utf8_all escape ++ rest
-behind_first bytes rest tail first digits escape starts is same =
-    starts ∙ ap (λ b. encode_utf8 first ++ b) is ∙ sym (append_assoc (encode_utf8 first) (encode_utf8_all digits) rest)
-    ∙ ap (λ t. encode_utf8_all t ++ rest) (sym same)
+behind_first bytes rest tail first digits escape starts is same = grind (arith, encode_utf8, append_assoc, encode_utf8_all)
 
 by_tests : (c : ℕ) (two four : Bool) → nat_le c 0xFF ≡ two → nat_le c 0xFFFF ≡ four
     → escape_after_backslash None c ≡ (if two then 120 ∷ hex_digits 2 c else (if four then 117 ∷ hex_digits 4 c else 85 ∷ hex_digits 8 c))
-by_tests c two four is_two is_four =
-    ap (λ b. if b then 120 ∷ hex_digits 2 c else (if nat_le c 0xFFFF then 117 ∷ hex_digits 4 c else 85 ∷ hex_digits 8 c)) is_two
-    ∙ ap (λ b. if two then 120 ∷ hex_digits 2 c else (if b then 117 ∷ hex_digits 4 c else 85 ∷ hex_digits 8 c)) is_four
+by_tests c two four is_two is_four = grind (arith, hex_digits, nat_le)
 
 pub short_read : (bytes tail rest : List ℕ) (first c : ℕ) → IsByNumber tail 2 c rest → c < 256 → bytes ≡ encode_utf8 first ++ tail → first ≡ 120
     → IsEscape bytes c rest

@@ -103,9 +103,7 @@ module _ (bytes : List ℕ) (all events : List Event) (run : AreRunBytes bytes e
         placed = record { events = events; run = run; none = composes };
       }
   composed_answers (Err told.Memory) composes = record { read = tt; exact = tt; one = tt; complete = inl refl; placed = tt }
-  composed_answers (Err (told.NotCanonical position)) composes = absurd composes
-  composed_answers (Err (told.TooDeep position)) composes = absurd composes
-  composed_answers (Err (told.DuplicateKey position)) composes = absurd composes
+  composed_answers _ composes = absurd composes
 
 -- ---- errors
 
@@ -114,11 +112,7 @@ pub document_stopped : (bytes text : List ℕ) (why : Stop) (error : ReadError) 
     → Tells bytes why error
     → ((events : List Event) → AreRunBytes text events → IsMemory why) → NoneIsDumped bytes error
 document_stopped bytes text stop.Memory error same tells reads = inl tells
-document_stopped bytes text (stop.Refused n) error same tells reads =
-    inr (λ graph dumped.
-    let run = dumped_run graph bytes dumped in
-    reads run.0 (subst (λ (b : List ℕ). AreRunBytes b run.0) (sym same) run.1))
-document_stopped bytes text (stop.TooDeep n) error same tells reads =
+document_stopped bytes text _ error same tells reads =
     inr (λ graph dumped.
     let run = dumped_run graph bytes dumped in
     reads run.0 (subst (λ (b : List ℕ). AreRunBytes b run.0) (sym same) run.1))

@@ -29,8 +29,7 @@ opening_good _ (is_mapping anchor tag parts) = rw (anchor_good anchor parts.anch
 
 event_good : (event : Event) → IsInNode event → is_good_canonical event ≡ true
 event_good _ (begins_node event begins) = opening_good event begins
-event_good _ ends_sequence = refl
-event_good _ ends_mapping = refl
+event_good _ _ = refl
 
 node_good : (events : List Event) → All IsInNode events → list_all is_good_canonical (events ++ document_end true ∷ []) ≡ true
 node_good [] all = refl

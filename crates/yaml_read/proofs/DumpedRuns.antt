@@ -90,8 +90,7 @@ beginning_writable _ (is_mapping anchor tag parts) = (parts.tag_sound, parts.tag
 
 event_writable : (event : Event) → IsInNode event → IsWritable event
 event_writable _ (begins_node event begins) = beginning_writable event begins
-event_writable _ ends_sequence = tt
-event_writable _ ends_mapping = tt
+event_writable _ _ = tt
 
 all_writable : (events : List Event) → All IsInNode events → All IsWritable (in_document events)
 all_writable events all =

@@ -20,14 +20,12 @@ here_stops bytes error is = subst (StopsBy (λ left. left ≡ length bytes)) (sy
 pub whole_placed : (Absent : Type 0) (IsPlace : ℕ → Type 0) (bytes : List ℕ) (reason error : Stop) → (Absent → IsPlace (length bytes))
     → IsWholeWord bytes reason error → ReadOr (λ (_ : List ℕ). Unit {0}) Absent (Err reason) → StopsBy IsPlace error
 whole_placed Absent IsPlace bytes stop.Memory error place is none = subst (StopsBy IsPlace) (sym is) tt
-whole_placed Absent IsPlace bytes (stop.Refused left) error place is none = subst (StopsBy IsPlace) (sym is) (place none)
-whole_placed Absent IsPlace bytes (stop.TooDeep left) error place is none = subst (StopsBy IsPlace) (sym is) (place none)
+whole_placed Absent IsPlace bytes _ error place is none = subst (StopsBy IsPlace) (sym is) (place none)
 
 pub whole_placed_at : (IsPlace : ℕ → Type 0) (bytes : List ℕ) (reason error : Stop) → IsPlace (length bytes) → IsWholeWord bytes reason error
     → StopsBy IsPlace error
 whole_placed_at IsPlace bytes stop.Memory error place is = subst (StopsBy IsPlace) (sym is) tt
-whole_placed_at IsPlace bytes (stop.Refused left) error place is = subst (StopsBy IsPlace) (sym is) place
-whole_placed_at IsPlace bytes (stop.TooDeep left) error place is = subst (StopsBy IsPlace) (sym is) place
+whole_placed_at IsPlace bytes _ error place is = subst (StopsBy IsPlace) (sym is) place
 
 -- memory has no place
 pub memory_placed : (IsPlace : ℕ → Type 0) (error : Stop) → IsMemory error → StopsBy IsPlace error
@@ -36,18 +34,16 @@ memory_placed IsPlace error is = subst (StopsBy IsPlace) (sym (memory_only error
 -- another place has the property, too
 placed_then : {T : Type 0} (One Other : ℕ → Type 0) (answer : Result T Stop) → ((left : ℕ) → One left → Other left) → IfErr answer (StopsBy One)
     → IfErr answer (StopsBy Other)
-placed_then One Other (Ok found) then_is place = tt
 placed_then One Other (Err (stop.Refused left)) then_is place = then_is left place
 placed_then One Other (Err (stop.TooDeep left)) then_is place = absurd place
-placed_then One Other (Err stop.Memory) then_is place = tt
+placed_then One Other _ then_is place = tt
 
 -- and so it has if something is absent there
 placed_if : {T P : Type 0} (Read : T → Type 0) (One Other : ℕ → Type 0) (answer : Result T Stop) → (P → (left : ℕ) → One left → Other left)
     → ReadOr Read P answer → IfErr answer (StopsBy One) → IfErr answer (StopsBy Other)
-placed_if Read One Other (Ok found) then_is none place = tt
 placed_if Read One Other (Err (stop.Refused left)) then_is none place = then_is none left place
 placed_if Read One Other (Err (stop.TooDeep left)) then_is none place = absurd place
-placed_if Read One Other (Err stop.Memory) then_is none place = tt
+placed_if Read One Other _ then_is none place = tt
 
 -- the text after a node's beginning is missing only if it is the one after a node
 trail_missing : (levels : List Pending) (opened : Option Await) (rest : List ℕ) → past_word (trail_behind_opening levels opened) rest ≡ None

@@ -23,8 +23,7 @@ use Rattle.yaml_read.specs.declared.errors.Stop.TheVariants as stop
 
 lead_ends_name : (awaited : Pending) (outer : List Pending) (text more : Text) → ends_name ((lead_text (awaited ∷ outer) ++ text) ++ more) ≡ true
 lead_ends_name (item_awaited empty) outer text more = refl
-lead_ends_name (key_awaited empty) outer text more = refl
-lead_ends_name value_awaited outer text more = refl
+lead_ends_name _ outer text more = refl
 
 end_ends_name : (awaited : Pending) (outer : List Pending) (event : Event) (text more : Text) → event ≡ sequence_end ⊎ event ≡ mapping_end
     → may_come (awaited ∷ outer) event ≡ true → ends_name ((closing_text (awaited ∷ outer) ++ text) ++ more) ≡ true
@@ -37,24 +36,19 @@ end_ends_name value_awaited outer event text more (inr is) comes = absurd (false
 
 event_ends_name : (awaited : Pending) (outer : List Pending) (event : Event) (more : Text) → may_come (awaited ∷ outer) event ≡ true
     → ends_name (event_text (awaited ∷ outer) event ++ more) ≡ true
-event_ends_name awaited outer (alias name) more comes = lead_ends_name awaited outer _ more
-event_ends_name awaited outer (scalar content) more comes = lead_ends_name awaited outer _ more
-event_ends_name awaited outer (sequence_start start) more comes = lead_ends_name awaited outer _ more
-event_ends_name awaited outer (mapping_start start) more comes = lead_ends_name awaited outer _ more
 event_ends_name awaited outer sequence_end more comes = end_ends_name awaited outer sequence_end _ more (inl refl) comes
 event_ends_name awaited outer mapping_end more comes = end_ends_name awaited outer mapping_end _ more (inr refl) comes
 event_ends_name awaited outer (stream_start encoding) more comes = absurd (false≢true comes)
 event_ends_name awaited outer stream_end more comes = absurd (false≢true comes)
 event_ends_name awaited outer (document_start start) more comes = absurd (false≢true comes)
 event_ends_name awaited outer (document_end implicit) more comes = absurd (false≢true comes)
+event_ends_name awaited outer _ more comes = lead_ends_name awaited outer _ more
 
 run_ends_name : (awaited : Pending) (outer : List Pending) (events : List Event) (text more : Text) → HasRunText (awaited ∷ outer) events text
     → ends_name (text ++ more) ≡ true
 run_ends_name awaited outer _ _ more (root_ends _ event text comes after is) =
     ap (λ (t : Text). ends_name (t ++ more)) is ∙ event_ends_name awaited outer event more comes
-run_ends_name awaited outer _ _ more (more_come _ next event events rest text comes after is run) =
-    ap (λ (t : Text). ends_name (t ++ more)) is ∙ ap ends_name (append_assoc (event_text (awaited ∷ outer) event) rest more)
-    ∙ event_ends_name awaited outer event (rest ++ more) comes
+run_ends_name awaited outer _ _ more (more_come _ next event events rest text comes after is run) = grind (arith, append_assoc, event_ends_name)
 
 -- something is open after an event that doesn't end the root
 behind_open : (levels : List Pending) → left_open levels ≡ Some [] → ⊥
@@ -62,16 +56,11 @@ behind_open [] is = cc
 behind_open (awaited ∷ outer) is = cc
 
 after_open : (levels : List Pending) (event : Event) → next_open levels event ≡ Some [] → ⊥
-after_open levels (alias name) is = behind_open levels is
-after_open levels (scalar content) is = behind_open levels is
 after_open levels (sequence_start start) is = cc
 after_open levels (mapping_start start) is = cc
 after_open levels sequence_end is = behind_open (outside levels) is
 after_open levels mapping_end is = behind_open (outside levels) is
-after_open levels (stream_start encoding) is = behind_open levels is
-after_open levels stream_end is = behind_open levels is
-after_open levels (document_start start) is = behind_open levels is
-after_open levels (document_end implicit) is = behind_open levels is
+after_open levels _ is = behind_open levels is
 
 more_ends_name : (levels next : List Pending) (event : Event) (events : List Event) (text more : Text) → next_open levels event ≡ Some next
     → HasRunText next events text → ends_name (text ++ more) ≡ true
@@ -112,27 +101,13 @@ nothing_read whole =
 -- the bytes with one more event
 one_more_parts : (whole bytes rest : List ℕ) (text own : Text) → whole ≡ encode_utf8_all text ++ bytes → bytes ≡ encode_utf8_all own ++ rest
     → whole ≡ encode_utf8_all (text ++ own) ++ rest
-one_more_parts whole bytes rest text own is also =
-    is ∙ ap (λ t. encode_utf8_all text ++ t) also ∙ sym (append_assoc (encode_utf8_all text) (encode_utf8_all own) rest)
-    ∙ ap (λ t. t ++ rest) (sym (encodes-append text own))
+one_more_parts whole bytes rest text own is also = grind (arith, encode_utf8_all, append_assoc, encodes-append)
 
 -- an event's text isn't empty
 event_some : (levels : List Pending) (event : Event) → IsInNode event → may_come levels event ≡ true → 0 < length (event_text levels event)
-event_some levels _ (begins_node event begins) comes =
-    let known = node_event levels event begins in
-    omega (
-      arith,
-      ap length known.text,
-      length-append (lead_text levels) (text_behind_lead levels event),
-      length-append (opening_text event) (trail_behind_opening levels (await_opened event)),
-      opening_some event begins,
-    )
-event_some levels _ ends_sequence comes =
-    let less = end_shorter levels (event_text levels sequence_end) (trail_text (outside levels)) (sequence_ends levels comes).0 refl in
-    omega (arith, less)
-event_some levels _ ends_mapping comes =
-    let less = end_shorter levels (event_text levels mapping_end) (trail_text (outside levels)) (mapping_ends levels comes).0 refl in
-    omega (arith, less)
+event_some levels _ (begins_node event begins) comes = grind (arith, node_event, length-append, opening_some)
+event_some levels _ ends_sequence comes = grind (arith, end_shorter, sequence_end, sequence_ends)
+event_some levels _ ends_mapping comes = grind (arith, end_shorter, mapping_end, mapping_ends)
 
 -- one more event is read
 pub event_more : (whole : List ℕ) (found : List Event) (levels : List Pending) (bytes rest : List ℕ) (after : Option (List Pending)) (event : Event)

@@ -58,23 +58,18 @@ pub record IsEndEvent (levels : List Pending) (event : Event) : Type 0 where
   pub in_node : IsInNode event
 
 pub end_event : (levels : List Pending) → can_end levels ≡ true → IsEndEvent levels (closing_event levels)
-end_event [] can = absurd (false≢true can)
 end_event (item_awaited empty ∷ outer) can = record { text = refl; opened = refl; comes = refl; in_node = ends_sequence }
 end_event (key_awaited empty ∷ outer) can = record { text = refl; opened = refl; comes = refl; in_node = ends_mapping }
-end_event (value_awaited ∷ outer) can = absurd (false≢true can)
+end_event _ can = absurd (false≢true can)
 
 -- no other end may come
 pub sequence_ends : (levels : List Pending) → may_come levels sequence_end ≡ true → (can_end levels ≡ true) × (closing_event levels ≡ sequence_end)
-sequence_ends [] comes = absurd (false≢true comes)
 sequence_ends (item_awaited empty ∷ outer) comes = (refl, refl)
-sequence_ends (key_awaited empty ∷ outer) comes = absurd (false≢true comes)
-sequence_ends (value_awaited ∷ outer) comes = absurd (false≢true comes)
+sequence_ends _ comes = absurd (false≢true comes)
 
 pub mapping_ends : (levels : List Pending) → may_come levels mapping_end ≡ true → (can_end levels ≡ true) × (closing_event levels ≡ mapping_end)
-mapping_ends [] comes = absurd (false≢true comes)
-mapping_ends (item_awaited empty ∷ outer) comes = absurd (false≢true comes)
 mapping_ends (key_awaited empty ∷ outer) comes = (refl, refl)
-mapping_ends (value_awaited ∷ outer) comes = absurd (false≢true comes)
+mapping_ends _ comes = absurd (false≢true comes)
 
 -- ---- the part of an event's text that is read
 
@@ -176,14 +171,13 @@ end_read levels text behind rest after event can is same opened follows =
 -- less is left after a collection's end
 pub end_shorter : (levels : List Pending) (text behind : List ℕ) → can_end levels ≡ true → text ≡ closing_text levels ++ behind
     → length behind < length text
-end_shorter [] text behind can is = absurd (false≢true can)
 end_shorter (item_awaited true ∷ outer) text behind can is = omega (arith, ap length is)
 end_shorter (item_awaited false ∷ outer) text behind can is =
     omega (arith, ap length is, length-append (closing_text (item_awaited false ∷ outer)) behind)
 end_shorter (key_awaited true ∷ outer) text behind can is = omega (arith, ap length is)
 end_shorter (key_awaited false ∷ outer) text behind can is =
     omega (arith, ap length is, length-append (closing_text (key_awaited false ∷ outer)) behind)
-end_shorter (value_awaited ∷ outer) text behind can is = absurd (false≢true can)
+end_shorter _ text behind can is = absurd (false≢true can)
 
 -- ---- the text before an event that comes
 

@@ -25,11 +25,7 @@ four_text n rest =
   where
     four : (a b c d e f g h : ℕ) → a ≡ e → b ≡ f → c ≡ g → d ≡ h
         → hex_digit a ∷ hex_digit b ∷ hex_digit c ∷ hex_digit d ∷ rest ≡ hex_digit e ∷ hex_digit f ∷ hex_digit g ∷ hex_digit h ∷ rest
-    four a b c d e f g h first second third last =
-        ap (λ n. hex_digit n ∷ hex_digit b ∷ hex_digit c ∷ hex_digit d ∷ rest) first
-        ∙ ap (λ n. hex_digit e ∷ hex_digit n ∷ hex_digit c ∷ hex_digit d ∷ rest) second
-        ∙ ap (λ n. hex_digit e ∷ hex_digit f ∷ hex_digit n ∷ hex_digit d ∷ rest) third
-        ∙ ap (λ n. hex_digit e ∷ hex_digit f ∷ hex_digit g ∷ hex_digit n ∷ rest) last
+    four a b c d e f g h first second third last = grind (arith, hex_digit)
 
 -- ---- escapes
 

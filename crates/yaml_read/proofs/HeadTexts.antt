@@ -117,11 +117,7 @@ kind_of (map_value pairs) = kind.Map
 
 word_of_kind : (value : TypedValue) → value_word value ≡ tag_word (kind_of value)
 word_of_kind null_value = refl
-word_of_kind (bool_value b) = refl
-word_of_kind (int_value n) = refl
-word_of_kind (text_value text) = refl
-word_of_kind (list_value items) = refl
-word_of_kind (map_value pairs) = refl
+word_of_kind _ = refl
 
 -- a value's text begins with a tag
 pub no_tag : (column : ℕ) (value : TypedValue) (rest : Text) (bytes : List ℕ)

@@ -75,8 +75,7 @@ ended_hold whole before value levels last all (one_ended level _ inner _ ended i
 held_taken : {A : Type 0} (whole : List ℕ) (level : OpenLevel) (outer : List OpenLevel) (value : TypedValue) (held : OpenKeys A)
     → HoldsKeys whole level outer held → HeldKeys whole (with_value level value) outer held
 held_taken whole (items_open items) outer value held holds = tt
-held_taken whole (pairs_open pairs) outer value held holds = holds
-held_taken whole (value_due pairs key) outer value held holds = holds
+held_taken whole _ outer value held holds = holds
 
 held_begun : {A : Type 0} (whole : List ℕ) (level : OpenLevel) (outer : List OpenLevel) (held : OpenKeys A) → BeginsLevel level
     → ((bytes : List ℕ) → contains_text held.texts bytes ≡ false) → HeldKeys whole level outer held
@@ -131,10 +130,9 @@ off_moved whole before after outer level old new rest held (value_given value al
 
 pub ends_before : {A : Type 0} (whole : List ℕ) (level : OpenLevel) (outer : List OpenLevel) (held : OpenKeys A) (rest : List ℕ)
     → HeldKeys whole level outer held → IsOpen whole (level ∷ outer) rest → KeyEndsBefore level held.start.now rest
-ends_before whole (items_open items) outer held rest is opened = tt
-ends_before whole (pairs_open pairs) outer held rest is opened = tt
 ends_before whole (value_due pairs key) outer held rest is opened =
     (key_bytes (column_in outer + 2) key, key_between whole outer pairs key held.start.now rest is.0 opened)
+ends_before whole _ outer held rest is opened = tt
 
 pub node_held : {A : Type 0} (whole : List ℕ) (level : OpenLevel) (outer : List OpenLevel) (held more : OpenKeys A) (rest : List ℕ)
     → HeldKeys whole level outer held → IsOpen whole (level ∷ outer) rest → HeldAtNode level held rest (Ok more)
@@ -164,8 +162,6 @@ node_follows {A} whole after outer level held more rest init new innermost off o
 node_fails : {A : Type 0} (whole : List ℕ) (outer : List OpenLevel) (level : OpenLevel) (held : OpenKeys A) (rest : List ℕ) (new : List (OpenKeys A))
     (reason : KeyStop) → HeldKeys whole level outer held → IsOpen whole (level ∷ outer) rest → HeldAtNode level held rest (Err reason)
     → KeysFollowed whole (level ∷ outer) new (Err reason)
-node_fails whole outer (items_open items) held rest new reason is opened at = absurd at
-node_fails whole outer (pairs_open pairs) held rest new reason is opened at = absurd at
 node_fails whole outer (value_due pairs key) held rest new (stop.Other reason) is opened at =
     at (key_bytes (column_in outer + 2) key) (key_between whole outer pairs key held.start.now rest is.0 opened)
 node_fails whole outer (value_due pairs key) held rest new (stop.Repeats left) is opened at =
@@ -188,6 +184,7 @@ node_fails whole outer (value_due pairs key) held rest new (stop.Repeats left) i
           ∙ append_assoc (encode_utf8_all (value_text column key)) (encode_utf8_all behind) rest;
       again = sym (is.1 bytes) ∙ there.0;
     }
+node_fails whole outer _ held rest new reason is opened at = absurd at
 
 pub follows_fails : {A : Type 0} (whole : List ℕ) (after outer : List OpenLevel) (level : OpenLevel) (held : OpenKeys A) (rest : List ℕ)
     (init new : List (OpenKeys A)) (reason : KeyStop) → after ≡ level ∷ outer → IsOff whole level outer init held → IsOpen whole after rest

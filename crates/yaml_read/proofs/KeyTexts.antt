@@ -57,11 +57,7 @@ value_tells (suc depth) first second one other few same =
 -- so are keys
 key_tells : (depth : ℕ) (first second : TypedValue) → CanBeReadAt depth first → CanBeReadAt depth second → depth ≤ most_nested
     → key_bytes (depth * 2) first ≡ key_bytes (depth * 2) second → first ≡ second
-key_tells depth first second one other few same =
-    let behind = line_at (depth * 2) ++ codes ": " in
-    value_tells depth first second one other few
-    (append_cancel_right (encode_utf8_all (value_text (depth * 2) first)) (encode_utf8_all (value_text (depth * 2) second)) (encode_utf8_all behind)
-    (sym (encodes-append (value_text (depth * 2) first) behind) ∙ same ∙ encodes-append (value_text (depth * 2) second) behind))
+key_tells depth first second one other few same = grind (arith, value_tells, append_cancel_right, encode_utf8_all, encodes-append)
 
 -- ---- among the keys of pairs
 

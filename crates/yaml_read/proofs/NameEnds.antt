@@ -12,9 +12,8 @@ use Rattle.yaml_read.proofs.NameTexts.{name_letters}
 -- ---- the last character
 
 last_of : (front : Text) (c : ℕ) (back : Text) → ends_in_name (front ++ c ∷ back) ≡ ends_in_name (c ∷ back)
-last_of [] c back = refl
-last_of (a ∷ []) c back = refl
 last_of (a ∷ b ∷ front) c back = last_of (b ∷ front) c back
+last_of _ c back = refl
 
 -- it isn't of a name
 other_last : (text front : Text) (c : ℕ) (bytes : List ℕ) → is_alpha c ≡ false → text ≡ front ++ c ∷ [] → IsOver text bytes
@@ -80,10 +79,9 @@ comma_over text rest = other_last (text ++ codes ",") text 0x2C rest refl refl
 
 trail_over : (levels : List Pending) (text : Text) (middle rest : List ℕ) → middle ≡ trail_text levels ++ rest → IsOver text middle
     → IsOver (text ++ trail_text levels) rest
-trail_over [] text middle rest is over = same_over text middle rest is over
 trail_over (item_awaited empty ∷ outer) text middle rest is over = comma_over text rest
-trail_over (key_awaited empty ∷ outer) text middle rest is over = same_over text middle rest is over
 trail_over (value_awaited ∷ outer) text middle rest is over = comma_over text rest
+trail_over _ text middle rest is over = same_over text middle rest is over
 
 pub behind_over : (levels : List Pending) (opened : Option Await) (text : Text) (middle rest : List ℕ)
     → middle ≡ trail_behind_opening levels opened ++ rest → IsOver text middle → IsOver (text ++ trail_behind_opening levels opened) rest
@@ -92,10 +90,9 @@ behind_over levels (Some awaited) text middle rest is over = same_over text midd
 
 -- a bracket is no name
 bracket_over : (levels : List Pending) (bytes : List ℕ) → can_end levels ≡ true → IsOver (closing_text levels) bytes
-bracket_over [] bytes can = absurd (false≢true can)
 bracket_over (item_awaited empty ∷ outer) bytes can = other_last (closing_text (item_awaited empty ∷ outer)) _ 0x5D bytes refl refl
 bracket_over (key_awaited empty ∷ outer) bytes can = other_last (closing_text (key_awaited empty ∷ outer)) _ 0x7D bytes refl refl
-bracket_over (value_awaited ∷ outer) bytes can = absurd (false≢true can)
+bracket_over _ bytes can = absurd (false≢true can)
 
 pub end_over : (levels : List Pending) (middle rest : List ℕ) → can_end levels ≡ true → middle ≡ trail_text (outside levels) ++ rest
     → IsOver (closing_text levels ++ trail_text (outside levels)) rest

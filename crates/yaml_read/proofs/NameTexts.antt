@@ -42,9 +42,7 @@ letters_first (b ∷ bytes) = by (is_alpha b) refl (letters_first bytes)
   where
     by : (t : Bool) → is_alpha b ≡ t → list_all is_alpha (take (prefix_len is_alpha bytes) bytes) ≡ true
         → list_all is_alpha (take (cond t (1 + prefix_len is_alpha bytes) 0) (b ∷ bytes)) ≡ true
-    by true e rest =
-        let more : 1 + prefix_len is_alpha bytes ≡ suc (prefix_len is_alpha bytes) = omega arith in
-        ap (λ n. list_all is_alpha (take n (b ∷ bytes))) more ∙ and_from _ _ e rest
+    by true e rest = grind (arith, prefix_len, is_alpha, list_all, and_from)
     by false e rest = refl
 
 -- it is a whole text
@@ -73,9 +71,7 @@ name_over (c ∷ rest) h = no_letter (encode_utf8_all (c ∷ rest)) c (encode_ut
 run_is : (name behind : List ℕ) → list_all is_alpha name ≡ true → prefix_len is_alpha behind ≡ 0 → prefix_len is_alpha (name ++ behind) ≡ length name
 run_is [] behind h none = none
 run_is (c ∷ name) behind h none =
-    let both = and_parts (is_alpha c) (list_all is_alpha name) h in
-    let more = run_is name behind both.1 none in
-    ap (λ b. cond b (1 + prefix_len is_alpha (name ++ behind)) 0) both.0 ∙ omega (arith, more)
+    grind (arith, and_parts, is_alpha, list_all, prefix_len, run_is name behind (and_parts (is_alpha c) (list_all is_alpha name) h).1 none)
 
 -- ---- a name that was cut off a text
 
@@ -96,12 +92,11 @@ name_cut text name behind size is front back counted =
 -- lists of one length at the beginning of one list are the same
 same_front : (xs ys rest more : List ℕ) → xs ++ rest ≡ ys ++ more → length xs ≡ length ys → (xs ≡ ys) × (rest ≡ more)
 same_front [] [] rest more e h = (refl, e)
-same_front [] (y ∷ ys) rest more e h = absurd (omega (arith, h))
-same_front (x ∷ xs) [] rest more e h = absurd (omega (arith, h))
 same_front (x ∷ xs) (y ∷ ys) rest more e h =
     let first : x ≡ y = cc in
     let behind : xs ++ rest ≡ ys ++ more = cc in
     let both = same_front xs ys rest more behind (omega (arith, h)) in (ap (λ a. a ∷ xs) first ∙ ap (λ t. y ∷ t) both.0, both.1)
+same_front _ _ rest more e h = absurd (omega (arith, h))
 
 -- it is the name there
 pub name_found : (text name behind : List ℕ) (wanted rest : Text) → IsNameCut text name behind → alias_fault wanted ≡ None → ends_name rest ≡ true

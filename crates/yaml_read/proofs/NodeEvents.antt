@@ -1,6 +1,6 @@
 -- The events of a dump's node, without their styles, are such as are read.
 use Rattle.yaml_base.proofs.Common.{ℕ, suc, zero, numbers_in, All, Bool, true, false, Option, None, Some, List, [], ◌∷◌, ◌++◌, refl, ◌≡◌, ap, subst, ◌∙◌, map}
-use Rattle.yaml_base.proofs.Common.{flat_map, list_all, Contains, if◌then◌else◌, option_and_then, option_or, unwrap_or, is_alpha, Text, Event, alias}
+use Rattle.yaml_base.proofs.Common.{arith, flat_map, list_all, Contains, if◌then◌else◌, option_and_then, option_or, unwrap_or, is_alpha, Text, Event, alias}
 use Rattle.yaml_base.proofs.Common.{document_start, document_end, sequence_end, mapping_end, Held, scalar_held, sequence_held, mapping_held, GraphNode, Graph}
 use Rattle.yaml_base.proofs.Common.{node_numbered, Step, enters, leaves, meets_again, anchor_of, opening_event_of, opening_events, closing_event_of}
 use Rattle.yaml_base.proofs.Common.{closing_events, step_events, document_event_list, IsWholeGraph, name_fault, anchor_fault, tag_fault, All-tail}
@@ -83,8 +83,7 @@ opening_in_node anchor tag (mapping_held pairs style) anchored writable =
 
 held_anchor : (anchor : Option Text) (tag : Text) (held : Held) → HasNoFault (opening_event_of anchor tag held) → IsAnchor anchor
 held_anchor anchor tag (scalar_held value style) sound = anchor_stands anchor tag sound.named
-held_anchor anchor tag (sequence_held items style) sound = anchor_stands anchor tag sound.named
-held_anchor anchor tag (mapping_held pairs style) sound = anchor_stands anchor tag sound.named
+held_anchor anchor tag _ sound = anchor_stands anchor tag sound.named
 
 in_node : (event : Event) → IsOfWalk event → HasNoFault event → IsWritable event → IsInNode (unstyled event)
 in_node _ (opens_node anchor tag held) sound writable = opening_in_node anchor tag held (held_anchor anchor tag held sound) writable
@@ -128,9 +127,7 @@ step_bare graph walk (meets_again number) = refl
 
 events_bare : (graph : Graph) (walk part : List Step) → flat_map (step_events (bare_graph graph) walk) part ≡ flat_map (step_events graph walk) part
 events_bare graph walk [] = refl
-events_bare graph walk (step ∷ part) =
-    ap (λ (events : List Event). events ++ flat_map (step_events (bare_graph graph) walk) part) (step_bare graph walk step)
-    ∙ ap (λ (events : List Event). step_events graph walk step ++ events) (events_bare graph walk part)
+events_bare graph walk (step ∷ part) = grind (arith, flat_map, step_events, step_bare, events_bare graph walk part)
 
 root_bare : (graph : Graph) → root_events (bare_graph graph) ≡ root_events graph
 root_bare graph =

@@ -139,9 +139,7 @@ no_alias_mark (Some name) tag written rest inside sound is =
 -- the parts one after another
 pub opening_parts : (anchor : Option Text) (tag written rest : Text)
     → node_opening anchor tag written ++ rest ≡ anchor_text anchor ++ (tag_text (Some tag) false ++ (written ++ rest))
-opening_parts anchor tag written rest =
-    append_assoc (anchor_text anchor) (tag_text (Some tag) false ++ written) rest
-    ∙ ap (λ t. anchor_text anchor ++ t) (append_assoc (tag_text (Some tag) false) written rest)
+opening_parts anchor tag written rest = grind (arith, append_assoc)
 
 -- an alias begins with `*`, and nothing else does
 pub record IsAliasOf (event : Event) (rest : Text) (inside : List ℕ) : Type 0 where
@@ -198,9 +196,7 @@ at_parts _ _ rest text (of_parts anchor tag held written named sound scalars has
 
 both_read : (first second : Text) (text behind rest : List ℕ) → text ≡ encode_utf8_all first ++ behind → behind ≡ encode_utf8_all second ++ rest
     → text ≡ encode_utf8_all (first ++ second) ++ rest
-both_read first second text behind rest is also =
-    is ∙ ap (λ t. encode_utf8_all first ++ t) also ∙ sym (append_assoc (encode_utf8_all first) (encode_utf8_all second) rest)
-    ∙ ap (λ t. t ++ rest) (sym (encodes-append first second))
+both_read first second text behind rest is also = grind (arith, encode_utf8_all, append_assoc, encodes-append)
 
 -- ---- nodes that were read
 
@@ -333,14 +329,12 @@ pub read_or_then : {T P Q : Type 0} (Read More : T → Type 0) (result : Result 
     → ReadOr Read P result → ReadOr More Q result
 read_or_then Read More (Ok found) more none is = more found is
 read_or_then Read More (Err stop.Memory) more none is = tt
-read_or_then Read More (Err (stop.Refused left)) more none is = none is
-read_or_then Read More (Err (stop.TooDeep left)) more none is = none is
+read_or_then Read More _ more none is = none is
 
 -- it is absent unless memory gave out
 pub none_read : (Absent : Type 0) (error : Stop) → ((error ≡ stop.Memory → ⊥) → Absent) → ReadOr (λ (_ : List ℕ). Unit {0}) Absent (Err error)
 none_read Absent stop.Memory by = tt
-none_read Absent (stop.Refused left) by = by (λ e. cc)
-none_read Absent (stop.TooDeep left) by = by (λ e. cc)
+none_read Absent _ by = by (λ e. cc)
 
 pub memory_reads : (Absent : Type 0) (error : Stop) → IsMemory error → ReadOr (λ (_ : List ℕ). Unit {0}) Absent (Err error)
 memory_reads Absent error is = none_read Absent error (λ other. absurd (other (memory_only error is)))
@@ -354,5 +348,4 @@ pub whole_absent : (Absent : Type 0) (bytes : List ℕ) (reason error : Stop) �
     → ReadOr (λ (_ : List ℕ). Unit {0}) Absent (Err reason) → ReadOr (λ (_ : List ℕ). Unit {0}) Absent (Err error)
 whole_absent Absent bytes stop.Memory error is none =
     subst (λ (e : Stop). ReadOr (λ (_ : List ℕ). Unit {0}) Absent (Err e)) (sym is) tt
-whole_absent Absent bytes (stop.Refused left) error is none = none_read Absent error (λ _. none)
-whole_absent Absent bytes (stop.TooDeep left) error is none = none_read Absent error (λ _. none)
+whole_absent Absent bytes _ error is none = none_read Absent error (λ _. none)

@@ -36,8 +36,7 @@ same_events first second whole also_whole same =
 held_label : (tag : List ℕ) (held : Held)
     → label_of false (unstyled_node (record { tag = tag; held = held })) ≡ label_of false (record { tag = tag; held = held })
 held_label tag (scalar_held value style) = refl
-held_label tag (sequence_held items style) = refl
-held_label tag (mapping_held pairs style) = refl
+held_label tag _ = refl
 
 found_label : (found : Option GraphNode) → option_map (label_of false) (option_map unstyled_node found) ≡ option_map (label_of false) found
 found_label None = refl

@@ -135,10 +135,9 @@ stops_once _ _ _ _ _ _ (breaks _ bytes left first) (follows _ some) = absurd (no
 stops_once _ _ _ _ _ _ (breaks _ bytes left first) (too_deep levels _ words inside are none is) =
     absurd (whole_breaks (words_at (at_node levels)) bytes left words inside (way_at (at_node levels)) first are is)
 stops_once _ _ _ _ _ _ (follows bytes some) (breaks _ _ other second) = absurd (nothing_breaks bytes other second)
-stops_once _ _ _ _ _ _ (follows bytes some) (follows _ more) = (refl, refl)
 stops_once _ _ _ _ _ _ (too_deep levels bytes words inside are none is) (breaks _ _ other second) =
     absurd (whole_breaks (words_at (at_node levels)) bytes other words inside (way_at (at_node levels)) second are is)
-stops_once _ _ _ _ _ _ (too_deep levels bytes words inside are none is) (too_deep _ _ others after also nil starts) = (refl, refl)
+stops_once _ _ _ _ _ _ _ _ = (refl, refl)
 
 -- the place to which a reader comes
 record Found (whole : List ℕ) (deep : Bool) (left : ℕ) : Type 0 where

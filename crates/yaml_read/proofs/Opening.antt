@@ -17,9 +17,7 @@ use Rattle.yaml_read.proofs.{Turns.cut_is, Words.no_word}
 -- a word that is its own bytes is read
 word_read : (whole bytes rest word written : List ℕ) (text : Text) → whole ≡ encode_utf8_all text ++ bytes → bytes ≡ word ++ rest
     → encode_utf8_all written ≡ word → whole ≡ encode_utf8_all (text ++ written) ++ rest
-word_read whole bytes rest word written text is cut ascii =
-    is ∙ ap (λ b. encode_utf8_all text ++ b) (cut ∙ ap (λ w. w ++ rest) (sym ascii))
-    ∙ sym (append_assoc (encode_utf8_all text) (encode_utf8_all written) rest) ∙ ap (λ b. b ++ rest) (sym (encodes-append text written))
+word_read whole bytes rest word written text is cut ascii = grind (arith, encode_utf8_all, append_assoc, encodes-append)
 
 -- the bytes of a comma and of a line at the column of the levels
 line_bytes : (levels : List OpenLevel) (word : Text) → encode_utf8_all word ≡ word

@@ -12,14 +12,13 @@ use Rattle.yaml_read.specs.Remaining.{column_in, Completes, item_follows, value_
 
 mutual
   readable_at : (value : TypedValue) (depth : ℕ) → Has64Bits value → HasScalarTexts value → depth + nesting value ≤ most_nested → CanBeReadAt depth value
-  readable_at null_value depth bits texts fits = tt
-  readable_at (bool_value b) depth bits texts fits = tt
   readable_at (int_value n) depth bits texts fits = bits
   readable_at (text_value text) depth bits texts fits = texts
   readable_at (list_value items) depth bits texts fits =
       (omega (arith, fits), all_readable_at items (suc depth) bits texts (omega (arith, fits)))
   readable_at (map_value pairs) depth bits texts fits =
       (omega (arith, fits), pairs_readable_at pairs (suc depth) bits texts (omega (arith, fits)))
+  readable_at _ depth bits texts fits = tt
 
   all_readable_at : (items : TypedValues) (depth : ℕ) → Have64Bits items → HaveScalarTexts items → depth + values_nesting items ≤ most_nested
       → AllCanBeReadAt depth items

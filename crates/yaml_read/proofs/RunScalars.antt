@@ -80,10 +80,9 @@ end_scalars column true bracket h = h
 end_scalars column false bracket h = line_scalars column bracket h
 
 closing_scalars : (levels : List Pending) → all_scalars (closing_text levels) ≡ true
-closing_scalars [] = refl
 closing_scalars (item_awaited empty ∷ outer) = end_scalars (length outer * 2) empty (codes "]") refl
 closing_scalars (key_awaited empty ∷ outer) = end_scalars (length outer * 2) empty (codes "}") refl
-closing_scalars (value_awaited ∷ outer) = refl
+closing_scalars _ = refl
 
 between : (levels : List Pending) (text : Text) → all_scalars text ≡ true → all_scalars (lead_text levels ++ (text ++ trail_text levels)) ≡ true
 between levels text h =
@@ -110,8 +109,7 @@ opening_scalars levels event (is_mapping anchor tag parts) =
 
 event_scalars : (levels : List Pending) (event : Event) → IsInNode event → all_scalars (event_text levels event) ≡ true
 event_scalars levels event (begins_node other begins) = opening_scalars levels event begins
-event_scalars levels event ends_sequence = behind_end levels
-event_scalars levels event ends_mapping = behind_end levels
+event_scalars levels event _ = behind_end levels
 
 run_scalars : (levels : List Pending) (events : List Event) (text : Text) → HasRunText levels events text → All IsInNode events → all_scalars text ≡ true
 run_scalars levels events text (root_ends before event whole come none is) all =

@@ -12,10 +12,7 @@ run_text levels (event ∷ events) = event_text levels event ++ run_text (unwrap
 
 run_text_is : (levels : List Pending) (events : List Event) (text : Text) → HasRunText levels events text → text ≡ run_text levels events
 run_text_is _ _ _ (root_ends levels event text may after is) = is ∙ sym (append-nil (event_text levels event))
-run_text_is _ _ _ (more_come levels next event events rest text may after is run) =
-    is
-    ∙ ap (λ (t : Text). event_text levels event ++ t)
-    (run_text_is next events rest run ∙ ap (λ (found : Option (List Pending)). run_text (unwrap_or found []) events) (sym after))
+run_text_is _ _ _ (more_come levels next event events rest text may after is run) = grind (arith, unwrap_or, run_text_is next events rest run)
 
 -- two texts of a run are the same
 pub one_run_text : (levels : List Pending) (events : List Event) (one other : Text) → HasRunText levels events one → HasRunText levels events other

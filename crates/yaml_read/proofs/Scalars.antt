@@ -32,9 +32,7 @@ digit_scalar n = agree_below_at (λ d. scalar (hex_digit d)) (λ d. true) 16 (n 
 
 digits_scalars : (count n : ℕ) → all_scalars (hex_digits count n) ≡ true
 digits_scalars zero n = refl
-digits_scalars (suc count) n =
-    joined_scalars (hex_digits count (n / 16)) (hex_digit (n % 16) ∷ []) (digits_scalars count (n / 16))
-    (one (hex_digit (n % 16)) (digit_scalar n))
+digits_scalars (suc count) n = grind (arith, joined_scalars, hex_digits, hex_digit, one, digit_scalar, digits_scalars count (n / 16))
 
 meaning_scalar : (letters meanings : Text) (c meaning : ℕ) → all_scalars letters ≡ true → meaning_among letters meanings c ≡ Some meaning
     → scalar c ≡ true

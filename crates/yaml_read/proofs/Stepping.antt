@@ -44,11 +44,7 @@ next_less text rest (Node after) less is = omega (arith, less, is)
 -- less is left after a word that isn't empty
 behind_tag_less : (k : Kind) (text behind : List ℕ) → text ≡ tag_word k ++ behind → length behind < length text
 behind_tag_less kind.Null text behind is = omega (arith, ap length is)
-behind_tag_less kind.Bool text behind is = omega (arith, ap length is)
-behind_tag_less kind.Int text behind is = omega (arith, ap length is)
-behind_tag_less kind.Text text behind is = omega (arith, ap length is)
-behind_tag_less kind.List text behind is = omega (arith, ap length is)
-behind_tag_less kind.Map text behind is = omega (arith, ap length is)
+behind_tag_less _ text behind is = omega (arith, ap length is)
 
 -- ---- values on their line
 
@@ -216,20 +212,16 @@ of_kind {A} {bytes} {result} k j is read = subst (λ (k : Kind). ScalarRead k by
 
 -- the kinds that are left
 pub scalar_kind : (k : Kind) → (k ≡ kind.List → ⊥) → (k ≡ kind.Map → ⊥) → IsScalarKind k
-scalar_kind kind.Null list map = tt
-scalar_kind kind.Bool list map = tt
-scalar_kind kind.Int list map = tt
-scalar_kind kind.Text list map = tt
 scalar_kind kind.List list map = list refl
 scalar_kind kind.Map list map = map refl
+scalar_kind _ list map = tt
 
 pub text_kind : (k : Kind) → IsScalarKind k → (k ≡ kind.Null → ⊥) → (k ≡ kind.Bool → ⊥) → (k ≡ kind.Int → ⊥) → k ≡ kind.Text
 text_kind kind.Null scalar null bool int = absurd (null refl)
 text_kind kind.Bool scalar null bool int = absurd (bool refl)
 text_kind kind.Int scalar null bool int = absurd (int refl)
 text_kind kind.Text scalar null bool int = refl
-text_kind kind.List scalar null bool int = absurd scalar
-text_kind kind.Map scalar null bool int = absurd scalar
+text_kind _ scalar null bool int = absurd scalar
 
 -- ---- lists
 

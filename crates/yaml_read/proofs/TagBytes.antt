@@ -64,10 +64,7 @@ encoded_bytes (c ∷ text) h =
 -- one byte more
 pub byte_more : (text now after bytes more : List ℕ) (byte : ℕ) → more ≡ bytes ++ byte ∷ [] → text ≡ flat_map byte_in_tag bytes ++ now
     → now ≡ byte_in_tag byte ++ after → text ≡ flat_map byte_in_tag more ++ after
-byte_more text now after bytes more byte are is next =
-    is ∙ ap (λ t. flat_map byte_in_tag bytes ++ t) next ∙ sym (append_assoc (flat_map byte_in_tag bytes) (byte_in_tag byte) after)
-    ∙ ap (λ t. t ++ after) (sym (ap (flat_map byte_in_tag) are ∙ flat_map-append byte_in_tag bytes (byte ∷ [])
-    ∙ ap (λ t. flat_map byte_in_tag bytes ++ t) (append-nil (byte_in_tag byte))))
+byte_more text now after bytes more byte are is next = grind (arith, flat_map, append_assoc, flat_map-append, append-nil)
 
 pub bytes_more : (bytes more : List ℕ) (byte : ℕ) → more ≡ bytes ++ byte ∷ [] → are_bytes bytes ≡ true → byte < 256 → are_bytes more ≡ true
 bytes_more bytes more byte are small below =

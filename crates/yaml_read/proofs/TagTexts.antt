@@ -91,10 +91,7 @@ document_bytes suffix = word_bytes (handle_text (codes "!") suffix) (ends_ascii 
 -- a handle's text after its handle
 behind_handle : (handle suffix rest : Text) → are_ascii handle ≡ true
     → encode_utf8_all (handle_text handle suffix ++ rest) ≡ handle ++ encode_utf8_all (percent_escaped suffix ++ space ∷ rest)
-behind_handle handle suffix rest ascii =
-    ap encode_utf8_all (append_assoc handle (percent_escaped suffix ++ space ∷ []) rest
-    ∙ ap (λ t. handle ++ t) (append_assoc (percent_escaped suffix) (space ∷ []) rest))
-    ∙ word_encoded handle (percent_escaped suffix ++ space ∷ rest) ascii
+behind_handle handle suffix rest ascii = grind (arith, encode_utf8_all, append_assoc, percent_escaped, word_encoded)
 
 behind_verbatim : (tag rest : Text)
     → encode_utf8_all (verbatim_text tag ++ rest) ≡ codes "!<" ++ encode_utf8_all (percent_escaped tag ++ (codes "> " ++ rest))
@@ -305,13 +302,11 @@ document_sound tag suffix text inside rest cut some same read =
 -- the facts about a handle: the word that ends its tag is ASCII, and no tag goes on with that
 pub end_ascii : (text prefix end inside : List ℕ) → OpensTag text prefix end inside → are_ascii end ≡ true
 end_ascii text _ _ inside (opens_whole _ cut) = refl
-end_ascii text _ _ inside (opens_type _ none cut) = refl
-end_ascii text _ _ inside (opens_document _ none also cut) = refl
+end_ascii text _ _ inside _ = refl
 
 pub end_ends : (text prefix end inside rest : List ℕ) → OpensTag text prefix end inside → ends_tag (end ++ rest) ≡ true
 end_ends text _ _ inside rest (opens_whole _ cut) = refl
-end_ends text _ _ inside rest (opens_type _ none cut) = refl
-end_ends text _ _ inside rest (opens_document _ none also cut) = refl
+end_ends text _ _ inside rest _ = refl
 
 -- a tag that goes on from a prefix
 goes_behind : (prefix tag suffix : Text) → prefix ++ suffix ≡ tag → 0 < length suffix → is_some (behind prefix tag) ≡ true

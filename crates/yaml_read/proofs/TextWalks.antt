@@ -90,16 +90,12 @@ spaces_mark word (suc depth) = spaces_mark (codes "  ") depth
 -- a line's words, and a word in it
 line_flat : (column depth : ℕ) (word : Text) → column ≡ depth * 2 → are_ascii word ≡ true
     → encode_utf8_all (line_at column ++ word) ≡ flat (codes "\n" ∷ (replicate depth (codes "  ") ++ word ∷ []))
-line_flat column depth word same ascii =
-    line_encoded column word ∙ ap (λ t. line_at column ++ t) (word_bytes word ascii) ∙ ap (λ n. line_at n ++ word) same
-    ∙ ap (λ t. line_at (depth * 2) ++ t) (sym (append-nil word)) ∙ sym (ap (λ t. codes "\n" ++ t) (levels_flat depth (word ∷ [])))
+line_flat column depth word same ascii = grind (arith, line_encoded, word_bytes, append-nil, levels_flat)
 
 -- a line's words alone
 bare_flat : (column depth : ℕ) → column ≡ depth * 2
     → encode_utf8_all (line_at column) ≡ flat (codes "\n" ∷ (replicate depth (codes "  ") ++ []))
-bare_flat column depth same =
-    ap encode_utf8_all (sym (append-nil (line_at column))) ∙ line_encoded column [] ∙ ap (λ n. line_at n ++ []) same
-    ∙ sym (ap (λ t. codes "\n" ++ t) (levels_flat depth []))
+bare_flat column depth same = grind (arith, encode_utf8_all, append-nil, line_encoded, levels_flat)
 
 entry_flat : (column depth : ℕ) (word : Text) → column ≡ depth * 2 → are_ascii word ≡ true
     → encode_utf8_all (codes "," ++ (line_at column ++ word)) ≡ flat (codes "," ∷ codes "\n" ∷ (replicate depth (codes "  ") ++ word ∷ []))

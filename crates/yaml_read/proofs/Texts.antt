@@ -31,12 +31,10 @@ pairs_texts before texts (pair ∷ pairs) =
 
 level_texts : {A : Type 0} (level : Value-F A (Held A))
     → HasScalarTexts (seen_value_level (map-Value A (Value A) TypedValue seen_value (map-Value A (Held A) (Value A) (λ held. held.0) level)))
-level_texts Value-F.Null = tt
-level_texts (Value-F.Bool b) = tt
-level_texts (Value-F.Int n) = tt
 level_texts (Value-F.Text text) = scalars-chars (string_bytes text) (IsUtf8-string_bytes text)
 level_texts (Value-F.List items) = items_texts no_values tt items.items
 level_texts (Value-F.Map pairs) = pairs_texts no_value_pairs tt pairs.items
+level_texts _ = tt
 
 -- so are those of each value
 pub texts_of : (A : Type 0) (value : Value A) → HasScalarTexts (seen_value value)

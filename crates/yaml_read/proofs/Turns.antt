@@ -53,10 +53,9 @@ pub entry_reached : (lead end : List ℕ) (Due Read : List ℕ → Type 0) (tail
     → Leads lead end Due Read tail → EntryFound lead end tail entry → EntryReached Due Read entry
 entry_reached lead end Due Read tail (Ok (Another rest)) (leads_on next is due) found = subst Due (cut_is lead tail next rest.now is found) due
 entry_reached lead end Due Read tail (Ok (Another rest)) (leads_out next is none read) found = absurd (no_word lead tail rest.now none found)
-entry_reached lead end Due Read tail (Ok (End rest)) (leads_on next is due) found = absurd (no_word lead tail next found.0 is)
 entry_reached lead end Due Read tail (Ok (End rest)) (leads_out next is none read) found = subst Read (cut_is end tail next rest.now is found.1) read
-entry_reached lead end Due Read tail (Err stop) (leads_on next is due) found = absurd (no_word lead tail next found.0 is)
 entry_reached lead end Due Read tail (Err stop) (leads_out next is none read) found = absurd (no_word end tail next found.1 is)
+entry_reached lead end Due Read tail _ (leads_on next is due) found = absurd (no_word lead tail next found.0 is)
 
 -- the bytes after an entry: a comma, a line of the list's or map's depth, and the text there
 pub record EntryEnds (lead end : List ℕ) (Due Read : List ℕ → Type 0) (depth : ℕ) (bytes : List ℕ) : Type 0 where

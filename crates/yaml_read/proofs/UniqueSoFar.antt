@@ -12,19 +12,15 @@ use Rattle.yaml_read.specs.Settled.{BeginsLevel, Ended, Moved, begins_list, begi
 
 -- a value that can be read in any depth is a scalar
 pub scalar_unique : (value : TypedValue) → ((depth : ℕ) → CanBeReadAt depth value) → HasUniqueKeys value
-scalar_unique null_value readable = tt
-scalar_unique (bool_value b) readable = tt
-scalar_unique (int_value n) readable = tt
-scalar_unique (text_value text) readable = tt
 scalar_unique (list_value items) readable = absurd (omega (arith, (readable most_nested).0))
 scalar_unique (map_value pairs) readable = absurd (omega (arith, (readable most_nested).0))
+scalar_unique _ readable = tt
 
 -- ---- levels that end
 
 outer_unique : (level : OpenLevel) (levels : List OpenLevel) → OpenHasUniqueKeys (level ∷ levels) → OpenHasUniqueKeys levels
 outer_unique (items_open items) levels unique = unique.0
-outer_unique (pairs_open pairs) levels unique = unique.0
-outer_unique (value_due pairs key) levels unique = unique.0
+outer_unique _ levels unique = unique.0
 
 closed_unique : (level : OpenLevel) (levels : List OpenLevel) (value : TypedValue) → OpenHasUniqueKeys (level ∷ levels) → HasUniqueKeys value
     → HasUniqueKeys (closed_value (with_value level value))
@@ -75,11 +71,10 @@ moved_unique before after (value_given value also took) unique new =
 -- a map that awaits the value of a key has been there before it
 only_keys : (level : OpenLevel) (levels outer : List OpenLevel) (value key : TypedValue) (pairs : TypedPairs)
     → with_value level value ∷ levels ≡ value_due pairs key ∷ outer → OpenHasUniqueKeys (level ∷ levels) → OpenHasUniqueKeys (pairs_open pairs ∷ outer)
-only_keys (items_open items) levels outer value key pairs is unique = cc
-only_keys (value_due other first) levels outer value key pairs is unique = cc
 only_keys (pairs_open other) levels outer value key pairs is unique =
     let same : pairs_open other ∷ levels ≡ pairs_open pairs ∷ outer = cc in
     subst OpenHasUniqueKeys same unique
+only_keys _ levels outer value key pairs is unique = cc
 
 none_due : (level : OpenLevel) (levels outer : List OpenLevel) (key : TypedValue) (pairs : TypedPairs) → BeginsLevel level
     → level ∷ levels ≡ value_due pairs key ∷ outer → ⊥

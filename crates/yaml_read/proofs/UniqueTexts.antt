@@ -60,10 +60,8 @@ text_begins mode text bytes held is none =
     }
 
 new_innermost : (levels : List OpenLevel) → InnermostIsNew levels → HasNewKey levels
-new_innermost [] is = tt
-new_innermost (items_open items ∷ outer) is = tt
-new_innermost (pairs_open pairs ∷ outer) is = tt
 new_innermost (value_due pairs key ∷ outer) is = new_key (column_in outer + 2) pairs key is
+new_innermost _ is = tt
 
 hold_on : {A : Type 0} (mode : Keys) (whole : List ℕ) (before after : List OpenLevel) (new : List (OpenKeys A)) → Moved before after
     → OpenKeysAllow mode before → FollowedBy mode whole after new (Ok tt) → HoldBy mode whole after new × OpenKeysAllow mode after
@@ -168,13 +166,7 @@ pub key_stopped : (mode : Keys) (bytes text : List ℕ) (why : KeyStop) (error :
     → ((value : TypedValue) → CanBeRead value → KeysAllow mode value → text ≡ encode_utf8_all (document_text value) → why ≡ key.Other stop.Memory)
     → NoneAllowed mode bytes error
 key_stopped mode bytes text (key.Other stop.Memory) error same tells complete = inl tells
-key_stopped mode bytes text (key.Other (stop.Refused n)) error same tells complete =
-    inr (λ value readable allow is.
-    let never = complete value readable allow (same ∙ sym is ∙ text_bytes-utf8 (document_text value)) in cc)
-key_stopped mode bytes text (key.Other (stop.TooDeep n)) error same tells complete =
-    inr (λ value readable allow is.
-    let never = complete value readable allow (same ∙ sym is ∙ text_bytes-utf8 (document_text value)) in cc)
-key_stopped mode bytes text (key.Repeats n) error same tells complete =
+key_stopped mode bytes text _ error same tells complete =
     inr (λ value readable allow is.
     let never = complete value readable allow (same ∙ sym is ∙ text_bytes-utf8 (document_text value)) in cc)
 

@@ -16,8 +16,7 @@ node_unstyled graph (suc before) = slice_get-map unstyled_node graph.nodes befor
 
 held_numbers : (held : Held) → numbers_held (unstyled_held held) ≡ numbers_held held
 held_numbers (scalar_held value style) = refl
-held_numbers (sequence_held items style) = refl
-held_numbers (mapping_held pairs style) = refl
+held_numbers _ = refl
 
 found_numbers : (found : Option GraphNode) → numbers_in (option_map unstyled_node found) ≡ numbers_in found
 found_numbers None = refl
@@ -34,8 +33,7 @@ steps_unstyled graph = walks_same (unstyled_graph graph) graph (length-map graph
 held_opens : (anchor : Option Text) (tag : Text) (held : Held)
     → opening_event_of anchor tag (unstyled_held held) ∷ [] ≡ map unstyled (opening_event_of anchor tag held ∷ [])
 held_opens anchor tag (scalar_held value style) = refl
-held_opens anchor tag (sequence_held items style) = refl
-held_opens anchor tag (mapping_held pairs style) = refl
+held_opens anchor tag _ = refl
 
 opening_unstyled : (anchor : Option Text) (found : Option GraphNode)
     → opening_events anchor (option_map unstyled_node found) ≡ map unstyled (opening_events anchor found)
@@ -44,8 +42,7 @@ opening_unstyled anchor (Some node) = held_opens anchor node.tag node.held
 
 held_closes : (held : Held) → closing_event_of (unstyled_held held) ≡ map unstyled (closing_event_of held)
 held_closes (scalar_held value style) = refl
-held_closes (sequence_held items style) = refl
-held_closes (mapping_held pairs style) = refl
+held_closes _ = refl
 
 closing_unstyled : (found : Option GraphNode) → closing_events (option_map unstyled_node found) ≡ map unstyled (closing_events found)
 closing_unstyled None = refl

@@ -201,12 +201,11 @@ tail_words levels kind.Text words room are =
       rest = [];
       is = whole (in_quotes found.text) words found.is;
     }
-tail_words levels kind.List [] room are = absurd are
 tail_words levels kind.List (word ∷ words) room are =
     subst (λ (w : List ℕ). TailBegins levels kind.List (w ∷ words)) (sym are.0) (list_words levels words room are.1)
-tail_words levels kind.Map [] room are = absurd are
 tail_words levels kind.Map (word ∷ words) room are =
     subst (λ (w : List ℕ). TailBegins levels kind.Map (w ∷ words)) (sym are.0) (map_words levels words room are.1)
+tail_words levels _ [] room are = absurd are
 
 -- ---- nodes
 

@@ -96,5 +96,4 @@ memory_is error is = subst IsMemory (sym is) tt
 
 pub memory_only : (error : Stop) → IsMemory error → error ≡ stop.Memory
 memory_only stop.Memory is = refl
-memory_only (stop.Refused left) is = absurd is
-memory_only (stop.TooDeep left) is = absurd is
+memory_only _ is = absurd is

@@ -15,12 +15,10 @@ use Rattle.yaml_read.{specs.Readable.CanBeReadAt, specs.Readable.AllCanBeReadAt,
 
 mutual
   bits_of : (value : TypedValue) (depth : ℕ) → CanBeReadAt depth value → Has64Bits value
-  bits_of null_value depth readable = tt
-  bits_of (bool_value b) depth readable = tt
   bits_of (int_value n) depth readable = readable
-  bits_of (text_value text) depth readable = tt
   bits_of (list_value items) depth readable = all_bits items (suc depth) readable.1
   bits_of (map_value pairs) depth readable = pairs_bits pairs (suc depth) readable.1
+  bits_of _ depth readable = tt
 
   all_bits : (items : TypedValues) (depth : ℕ) → AllCanBeReadAt depth items → Have64Bits items
   all_bits no_values depth readable = tt
@@ -33,12 +31,9 @@ mutual
 
 mutual
   fits_of : (value : TypedValue) (depth : ℕ) → CanBeReadAt depth value → depth ≤ most_nested → depth + nesting value ≤ most_nested
-  fits_of null_value depth readable few = omega (arith, few)
-  fits_of (bool_value b) depth readable few = omega (arith, few)
-  fits_of (int_value n) depth readable few = omega (arith, few)
-  fits_of (text_value text) depth readable few = omega (arith, few)
   fits_of (list_value items) depth readable few = omega (arith, all_fit items (suc depth) readable.1 (omega (arith, readable.0)))
   fits_of (map_value pairs) depth readable few = omega (arith, pairs_fit pairs (suc depth) readable.1 (omega (arith, readable.0)))
+  fits_of _ depth readable few = omega (arith, few)
 
   all_fit : (items : TypedValues) (depth : ℕ) → AllCanBeReadAt depth items → depth ≤ most_nested → depth + values_nesting items ≤ most_nested
   all_fit no_values depth readable few = omega (arith, few)
@@ -86,9 +81,7 @@ value_document value =
 
 -- the events of a value's stream hold its texts
 stream_scalars : (value : TypedValue) → CanBeReadAt 0 value → list_all has_scalar_texts (value_events value) ≡ true
-stream_scalars value readable =
-    list_all-append has_scalar_texts (document_events (value_document value)) (stream_end ∷ []) ∙ ap (λ b. b && true)
-    (list_all-append has_scalar_texts (node_events (value_node value)) (document_end true ∷ []) ∙ ap (λ b. b && true) (events_scalars value 0 readable))
+stream_scalars value readable = grind (arith, list_all-append, has_scalar_texts, document_events, stream_end, node_events, document_end, events_scalars)
 
 -- bytes that are those of its text
 pub written_value : (value : TypedValue) (bytes : List ℕ) → CanBeReadAt 0 value → bytes ≡ encode_utf8_all (document_text value)
