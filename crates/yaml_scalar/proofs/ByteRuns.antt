@@ -63,9 +63,7 @@ first_is_free classes first rest free not_free = true≢false (sym (and_parts _ 
 
 is_other_than : (classes c k first : ℕ) (rest : List ℕ) → encode k ≡ first ∷ rest → is_free classes first ≡ false → list_all (is_free classes) (encode c) ≡ true
     → (c == k) ≡ false
-is_other_than classes c k first rest is not_free free =
-    false_from_ne_true _ (λ same. first_is_free classes first rest
-    (ap (list_all (is_free classes)) (sym is) ∙ ap (λ d. list_all (is_free classes) (encode d)) (sym (eqb-true c k same)) ∙ free) not_free)
+is_other_than classes c k first rest is not_free free = grind (arith, false_from_ne_true, first_is_free, list_all, is_free, eqb-true)
 
 -- no break
 pub record Unbroken (c : ℕ) : Type 0 where
@@ -91,15 +89,11 @@ wide_no_break c wide is =
 -- printable
 below_two : (c : ℕ) → 128 ≤ c → c < 160 → encode c ≡ 0xC2 ∷ (128 + c % 64) ∷ []
 unfolding encode
-below_two c low high =
-    let first : 192 + c / 64 ≡ 0xC2 = omega arith in
-    rw (le-ltb c 128 low, lt-ltb c 2048 (omega arith), first)
+below_two c low high = grind (arith, le-ltb, lt-ltb)
 
 below_last : (c : ℕ) → 0xF000 ≤ c → c < 0x10000 → encode c ≡ 0xEF ∷ (128 + (c / 64) % 64) ∷ (128 + c % 64) ∷ []
 unfolding encode
-below_last c low high =
-    let first : 224 + c / 4096 ≡ 0xEF = omega arith in
-    rw (le-ltb c 128 (omega arith), le-ltb c 2048 (omega arith), lt-ltb c 65536 high, first)
+below_last c low high = grind (arith, le-ltb, lt-ltb)
 
 printable_where : (c : ℕ) → scalar c ≡ true → 160 ≤ c → (c < 0xF000) ⊎ (0x10000 ≤ c) → is_printable c ≡ true
 printable_where c s low near = elim (scalar_cases c s) [
@@ -194,17 +188,7 @@ other_than : (c k : ℕ) → 128 ≤ c → k < 128 → (c == k) ≡ false
 other_than c k wide below = grind (arith, nat_tests)
 
 other_than_indicators : (c : ℕ) → 128 ≤ c → is_among (codes ",?:[]{}") c ≡ false
-other_than_indicators c wide =
-    let differs : (k : ℕ) → k < 128 → (c == k) ≡ false = λ k below. other_than c k wide below in
-    rw (
-      differs 44 (omega arith),
-      differs 63 (omega arith),
-      differs 58 (omega arith),
-      differs 91 (omega arith),
-      differs 93 (omega arith),
-      differs 123 (omega arith),
-      differs 125 (omega arith),
-    )
+other_than_indicators c wide = grind (arith, other_than)
 
 -- The tests of the runs of a line,
 pub line_tells : (classes : ℕ) (folds quotes : Bool) → agree_below (λ b. not (is_free classes b) || stays_in_line folds quotes b) (λ b. true) 128 ≡ true

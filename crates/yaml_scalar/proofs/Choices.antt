@@ -18,8 +18,7 @@ none_fits allowed plain_fits block_fits plain p s b =
 none_fits allowed plain_fits block_fits single_quoted p s b = ap (λ (x : Bool). if x then single_quoted else double_quoted) s
 none_fits allowed plain_fits block_fits literal p s b = ap (λ (x : Bool). if x then literal else double_quoted) b
 none_fits allowed plain_fits block_fits folded p s b = ap (λ (x : Bool). if x then folded else double_quoted) b
-none_fits allowed plain_fits block_fits any_style p s b = refl
-none_fits allowed plain_fits block_fits double_quoted p s b = refl
+none_fits allowed plain_fits block_fits _ p s b = refl
 
 neither_plain : (flow one other a b : Bool) → one ≡ false → other ≡ false → ((if flow then one else other) && a && b) ≡ false
 neither_plain true one other a b e f = ap (λ x. x && a && b) e
@@ -34,9 +33,8 @@ nothing_allowed allowed f p s b asked empty tag_written plain_implicit quoted_im
     grind (arith, none_fits, neither_plain)
 
 not_plain : (a b x : Bool) → x ≡ true → (a && not (b || x)) ≡ false
-not_plain false b x e = refl
-not_plain true true x e = refl
 not_plain true false x e = ap not e
+not_plain _ _ x e = refl
 
 not_either : (a x : Bool) → x ≡ true → not (a || x) ≡ false
 not_either true x e = refl

@@ -28,9 +28,8 @@ pub other_than : (c k : ℕ) → is_ordinary c ≡ true → is_ordinary k ≡ fa
 other_than c k h e = false_from_ne_true (c == k) (λ same. true≢false (sym h ∙ ap is_ordinary (eqb-true c k same) ∙ e))
 
 no_exclamation : (c : ℕ) (rest : Text) → (c == 45) ≡ false → (c == 46) ≡ false → begins_like_marker (c ∷ rest) ≡ false
-no_exclamation c [] e f = refl
-no_exclamation c (a ∷ []) e f = refl
 no_exclamation c (a ∷ b ∷ rest) e f = rw (e, f)
+no_exclamation c _ e f = refl
 
 -- so a text that begins with one begins as plain text may
 pub ordinary_plain : (c : ℕ) (rest : Text) → is_ordinary c ≡ true → begins_unlike_plain (c ∷ rest) ≡ false

@@ -55,9 +55,8 @@ inside_stays unicode limit indent before (c ∷ run) cursor h =
 
 -- a character that isn't escaped with `unicode` off isn't with it on
 escaped_parts : (a b c d e : Bool) → (a || b || c || d || e) ≡ false → (b ≡ false) × ((a || false || c || d || e) ≡ false)
-escaped_parts true b c d e h = cc
-escaped_parts false true c d e h = cc
 escaped_parts false false c d e h = (refl, h)
+escaped_parts _ _ c d e h = cc
 
 ascii_unescaped : (unicode : Bool) (c : ℕ) → needs_escape false c ≡ false → needs_escape unicode c ≡ false
 ascii_unescaped false c h = h

@@ -16,10 +16,8 @@ ending-two [] b c = refl
 ending-two (x ∷ xs) b c = ending-further x b c xs ∙ ending-two xs b c
 
 ending-other : (xs : Text) (c : ℕ) → is_break c ≡ false → ending (xs ++ c ∷ []) ≡ WithoutBreak
-ending-other [] c e = rw e refl
-ending-other (x ∷ []) c e = rw e refl
-ending-other (x ∷ y ∷ []) c e = rw e refl
 ending-other (x ∷ y ∷ z ∷ xs) c e = ending-other (y ∷ z ∷ xs) c e
+ending-other _ c e = rw e refl
 
 -- a character after a text
 pub chars-last : (prefix : List ℕ) (c : ℕ) → IsUtf8 prefix → scalar c ≡ true → chars (prefix ++ encode_utf8 c) ≡ chars prefix ++ c ∷ []

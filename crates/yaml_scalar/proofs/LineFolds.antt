@@ -181,9 +181,8 @@ spaces_only false false e = cc
 
 -- and breaks only at a break
 pub breaks_only : (s b : Bool) → (if s then Space else if b then Break else Other) ≡ Break → b ≡ true
-breaks_only true b e = cc
 breaks_only false true e = refl
-breaks_only false false e = cc
+breaks_only _ _ e = cc
 
 -- a kind is spaces exactly at a space
 same_as_space : (s b : Bool) → is_same_kind Space (if s then Space else if b then Break else Other) ≡ s

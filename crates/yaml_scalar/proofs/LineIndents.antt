@@ -8,9 +8,8 @@ use Rattle.yaml_scalar.proofs.{LineFolds.spaces_only, LineFolds.breaks_only, Lin
 
 -- indentation begins a line
 indentation-begins : (indent : ℕ) → 2 ≤ indent → (text : Text) → begins_indented (indentation indent ++ text) ≡ true
-indentation-begins zero wide text = absurd (omega arith)
-indentation-begins (suc zero) wide text = absurd (omega arith)
 indentation-begins (suc (suc n)) wide text = refl
+indentation-begins _ wide text = absurd (omega arith)
 
 -- a kind is others only at a character that is no break
 pub others_only : (s b : Bool) → (if s then Space else if b then Break else Other) ≡ Other → b ≡ false
@@ -71,10 +70,9 @@ run_begins :
     is_same_kind before Break ≡ true →
     is_same_kind Break kind ≡ true →
     begins_indented (step_text written folds indent before kind c rest ++ text) ≡ true
-run_begins written limit indent before Space c rest text folds k same here = cc
 run_begins written limit indent before Break c rest text folds k same here =
     simp (same, and-false) (break-begins c _ (breaks_only (is_space c) (is_break c) k))
-run_begins written limit indent before Other c rest text folds k same here = cc
+run_begins written limit indent before _ c rest text folds k same here = cc
 
 -- a run that goes on begins its line with a break
 text_begins :

@@ -68,14 +68,10 @@ joined_text :
     step_text written folds indent before kind c (d ∷ rest) ++ tail_text written indent kind (d ∷ run) ≡
     first_text written other indent (is_same_kind before kind) kind (c ∷ d ∷ run)
 joined_text written w folds other indent Space Space c d rest run e = simp and-false
-joined_text written w folds other indent Break Space c d rest run e = simp (e, and-false)
-joined_text written w folds other indent Other Space c d rest run e = simp (e, and-false)
 joined_text written w folds other indent Space Break c d rest run e = simp (e, and-true, append_assoc)
-joined_text written w folds other indent Break Break c d rest run e = simp (e, and-false)
 joined_text written w folds other indent Other Break c d rest run e = simp (e, and-true, append_assoc)
-joined_text written w folds other indent Space Other c d rest run e = sym (w.joined (c ∷ []) (d ∷ run))
-joined_text written w folds other indent Break Other c d rest run e = sym (w.joined (c ∷ []) (d ∷ run))
-joined_text written w folds other indent Other Other c d rest run e = sym (w.joined (c ∷ []) (d ∷ run))
+joined_text written w folds other indent _ Other c d rest run e = sym (w.joined (c ∷ []) (d ∷ run))
+joined_text written w folds other indent _ _ c d rest run e = simp (e, and-false)
 
 -- a character joins the run after it if their kinds are equal
 joined_kinds :
@@ -93,8 +89,7 @@ edge_text :
     first_text written (folds && not last) indent (is_same_kind Space kind) kind text ≡
     run_text written (folds && not (true || last)) indent kind text
 edge_text written folds indent Space text last = simp and-false
-edge_text written folds indent Break text last = refl
-edge_text written folds indent Other text last = refl
+edge_text written folds indent _ text last = refl
 
 -- kinds that compare as the same are equal
 pub same_kind : (a b : CharacterKind) → is_same_kind a b ≡ true → a ≡ b

@@ -6,18 +6,7 @@ use Rattle.std.proofs.lemmas.Str.{len_utf8_bounds, length-encode}
 
 pub shorter_left : (old behind rest left new : List ℕ) (c : ℕ) → old ≡ encode_utf8 c ++ behind → rest ≡ behind → length left ≤ length rest → new ≡ left
     → length new < length old
-shorter_left old behind rest left new c first same few is =
-    let bounds = len_utf8_bounds c in
-    omega (
-      arith,
-      ap (λ (l : List ℕ). length l) first,
-      length-append (encode_utf8 c) behind,
-      length-encode c,
-      bounds.0,
-      ap (λ (l : List ℕ). length l) same,
-      few,
-      ap (λ (l : List ℕ). length l) is,
-    )
+shorter_left old behind rest left new c first same few is = grind (arith, len_utf8_bounds, length-append, encode_utf8, length-encode)
 
 pub shorter_dropped : (place : ℕ) (rest : List ℕ) → length (drop place rest) ≤ length rest
 shorter_dropped place rest = omega (arith, length-drop place rest)

@@ -88,9 +88,7 @@ module _ (test : ℕ → Bool) where
     -- parts with their indentation
     lacks_indented : (indent : ℕ) (ps : List Part) → PartsLack ps → list_any test (indented indent ps) ≡ false
     lacks_indented indent [] h = refl
-    lacks_indented indent (line text ∷ rest) h =
-        any_both test (replicate indent space ++ text) (indented indent rest)
-        (any_both test (replicate indent space) text (lacks_spaces test spares indent) h.0) (lacks_indented indent rest h.1)
+    lacks_indented indent (line text ∷ rest) h = grind (arith, any_both, lacks_spaces, lacks_indented indent rest h.1)
     lacks_indented indent (line_break b ∷ rest) h = any_one test b (indented indent rest) h.0 (lacks_indented indent rest h.1)
 
     -- the indicator of a value's end

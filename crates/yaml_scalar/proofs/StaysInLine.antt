@@ -28,9 +28,8 @@ step_kept : (quoted past : Bool) (indent : ℕ) (before : CharacterKind) (c : �
     → is_break ≡ false → (is_space && past) ≡ false → (quoted && c == 39) ≡ false
     → step_text (written_as quoted) past indent before (if is_space then Space else if is_break then Break else Other) c rest ≡ c ∷ []
 step_kept quoted false indent before c rest true broken e f g = refl
-step_kept quoted true indent before c rest true broken e f g = cc
-step_kept quoted past indent before c rest false true e f g = cc
 step_kept quoted past indent before c rest false false e f g = other_kept quoted c g
+step_kept quoted _ indent before c rest _ _ e f g = cc
 
 -- the text after a character in plain and single-quoted lines
 abbrev pub lines_after : (quoted : Bool) (limit : Option ℕ) (indent : ℕ) → ℕ → Text → Cursor → Rendered

@@ -252,9 +252,8 @@ doubled_begins breaks12 c text ink = by (c == 39)
     by false = ink
 
 ends_always : (value : Text) → ends_closed true value ≡ true
-ends_always [] = refl
-ends_always (c ∷ []) = refl
 ends_always (c ∷ d ∷ rest) = ends_always (d ∷ rest)
+ends_always _ = refl
 
 -- a single-quoted body: its lines are deep, and no space precedes a break
 pub single_even : (charset : Charset) (count : ℕ) (limit : Option ℕ) (indent : ℕ) (value : Text) (cursor : Cursor) → count ≤ indent
@@ -289,9 +288,8 @@ plain_even charset flow count limit indent value cursor enough allowed =
 
 -- a nonempty text ends as its nonempty end does
 ends_append : (breaks12 : Bool) (prefix : Text) (c : ℕ) (rest : Text) → ends_white breaks12 (prefix ++ c ∷ rest) ≡ ends_white breaks12 (c ∷ rest)
-ends_append breaks12 [] c rest = refl
-ends_append breaks12 (x ∷ []) c rest = refl
 ends_append breaks12 (x ∷ y ∷ prefix) c rest = ends_append breaks12 (y ∷ prefix) c rest
+ends_append breaks12 _ c rest = refl
 
 -- some text that ends with no blank and no break
 record EndsInk (breaks12 : Bool) (text : Text) : Type 0 where

@@ -31,10 +31,8 @@ unbroken-column (c ∷ rest) column h =
 
 -- CR and U+0085 are breaks
 second-and-third : (a b c d e : Bool) → (a || b || c || d || e) ≡ false → not (b || c) ≡ true
-second-and-third true b c d e h = cc
-second-and-third false true c d e h = cc
-second-and-third false false true d e h = cc
 second-and-third false false false d e h = refl
+second-and-third _ _ _ d e h = cc
 
 pub unbroken-rendered : (text : Text) → is_unbroken text ≡ true → is_rendered_text text ≡ true
 unbroken-rendered [] h = refl
@@ -92,12 +90,8 @@ escape-unbroken : (c : ℕ) → is_unbroken (escape_text c) ≡ true
 escape-unbroken c = rest-unbroken c (letter_among short_escapes c) refl
 
 parts-false : (a b c d e : Bool) → (a || b || c || d || e) ≡ false → (a ≡ false) × (c ≡ false) × (d ≡ false) × (e ≡ false)
-parts-false true b c d e h = cc
-parts-false false true c d e h = cc
-parts-false false false true d e h = cc
-parts-false false false false true e h = cc
-parts-false false false false false true h = cc
 parts-false false false false false false h = (refl, refl, refl, refl)
+parts-false _ _ _ _ _ h = cc
 
 -- a character that needs no escape is printable, and neither a break nor the quote nor the backslash
 pub record Unescaped (c : ℕ) : Type 0 where

@@ -27,10 +27,9 @@ no_run test before text is = record {
 -- a space that stays in a run is past no width
 pub no_fold : (past : Option ℕ → Bool) → past None ≡ false → (space other : Bool) (limit : Option ℕ)
     → (space && has_limit limit) ≡ false → (space && other && past limit) ≡ false
-no_fold past none false other limit h = refl
-no_fold past none true false limit h = refl
 no_fold past none true true None h = none
 no_fold past none true true (Some width) h = cc
+no_fold past none _ _ limit h = refl
 
 -- a run of a prefix of a text is one of the text
 pub run_in_prefix : (test : ℕ → Bool) (before : ℕ) (text prefix : List ℕ) (place size last : ℕ) → IsUtf8 text → IsCharBoundary text place

@@ -18,15 +18,13 @@ even-none (content text ∷ rest) h = cc h
 even-none (line_end b ∷ rest) h = even-none rest h
 
 even-kept : (es : List Element) → next_content_unindented (kept_lines es) ≡ next_content_unindented es
-even-kept [] = refl
-even-kept (content text ∷ rest) = refl
 even-kept (line_end b ∷ rest) = grind (arith, cases_Bool, even-none, even-kept rest)
+even-kept _ = refl
 
 fold-kept : (es : List Element) → fold_read (kept_lines es) ≡ fold_read es
-fold-kept [] = refl
-fold-kept (content text ∷ rest) = refl
 fold-kept (line_end b ∷ rest) =
     elim (cases_Bool (has_content rest)) [ inl some ↦ rw some refl | inr none ↦ rw none refl ]
+fold-kept _ = refl
 
 -- the text as which a line's end reads
 abbrev break_read : Bool → ℕ → List Element → Text
@@ -57,12 +55,10 @@ Ends MoreBreaks es = Unit {0}
 
 ends-begun : (e : Ending) (c : ℕ) (ps : List Part) → Ends e (bare ps) → Ends e (bare (begun c ps))
 ends-begun WithoutBreak c [] h = (refl, refl)
-ends-begun WithoutBreak c (line text ∷ rest) h = h
-ends-begun WithoutBreak c (line_break b ∷ rest) h = (refl, h.1)
 ends-begun OneBreak c [] h = absurd (false≢true h.0)
-ends-begun OneBreak c (line text ∷ rest) h = h
-ends-begun OneBreak c (line_break b ∷ rest) h = (refl, h.1)
 ends-begun MoreBreaks c ps h = tt
+ends-begun _ c (line text ∷ rest) h = h
+ends-begun _ c (line_break b ∷ rest) h = (refl, h.1)
 
 ends-broken : (e : Ending) (c : ℕ) (es : List Element) → Ends e es → Ends e (line_end c ∷ es)
 ends-broken WithoutBreak c es h = (h.0, rw h.0 (h.1))

@@ -33,10 +33,9 @@ IsCut breaks12 text (line_break b ∷ rest) = ⊥
 cut-step : (breaks12 : Bool) (c : ℕ) (rest : Text) → Ordinary false breaks12 c → is_break c ≡ false → (further : List Part) → IsCut breaks12 rest further
     → (fold : Bool) → (fold ≡ true → (is_space c ≡ true) × (begins_with is_space rest ≡ false))
     → IsCut breaks12 (c ∷ rest) (if fold then line [] ∷ line_break line_feed ∷ further else begun c further)
-cut-step breaks12 c rest o e [] k fold f = absurd k
-cut-step breaks12 c rest o e (line_break b ∷ others) k fold f = absurd k
 cut-step breaks12 c rest o e (line first ∷ others) k true f = grind (arith, eqb-true, feed-ordinary)
 cut-step breaks12 c rest o e (line first ∷ others) k false f = grind (arith, clean-begun, o.same_blank refl)
+cut-step breaks12 c rest o e _ k fold f = absurd k
 
 -- a fold replaces a space before another character
 pub fold-spaced : (limit : Option ℕ) (column c : ℕ) (rest : Text) → folds limit column c rest ≡ true → (is_space c ≡ true) × (begins_with is_space rest ≡ false)
@@ -61,9 +60,8 @@ record LineCut (breaks12 : Bool) (text : Text) (ps : List Part) : Type 0 where
 
 line-of-cut : (breaks12 : Bool) (text : Text) → IsLine false breaks12 text → begins_with is_space text ≡ false → (ps : List Part) → IsCut breaks12 text ps
     → LineCut breaks12 text ps
-line-of-cut breaks12 text h none [] k = absurd k
-line-of-cut breaks12 text h none (line_break b ∷ others) k = absurd k
 line-of-cut breaks12 text h none (line first ∷ others) k = grind (arith)
+line-of-cut breaks12 text h none _ k = absurd k
 
 line-cut : (breaks12 : Bool) (limit : Option ℕ) (indent : ℕ) (text : Text) → IsLine false breaks12 text → LineCut breaks12 text (cut_line limit indent text)
 line-cut breaks12 limit indent text h = by (begins_with is_space text) refl
@@ -109,9 +107,8 @@ twice-reads false after_even b ps e = rw e refl
 -- it is doubled only if a content follows, so not among the final breaks
 twice-ends : (twice some : Bool) (b : ℕ) (ps : List Part) → has_content (bare ps) ≡ some → (twice ≡ true → some ≡ true)
     → final_ends (bare (twice_or_once twice b ++ ps)) ≡ (if some then [] else b ∷ []) ++ final_ends (bare ps)
-twice-ends true true b ps s f = rw s refl
 twice-ends true false b ps s f = absurd (false≢true (f refl))
-twice-ends false some b ps s f = rw s refl
+twice-ends _ _ b ps s f = rw s refl
 
 -- a next line is a content
 even-some : (ps : List Part) → next_line_unindented ps ≡ true → has_content (bare ps) ≡ true

@@ -82,9 +82,8 @@ NoContentFirst (content text ∷ rest) = ⊥
 NoContentFirst (line_end b ∷ rest) = Unit {0}
 
 broken-shifted : (indent : ℕ) (ps : List Part) → BeginsBroken ps → NoContentFirst (shifted indent ps)
-broken-shifted indent [] h = tt
 broken-shifted indent (line text ∷ rest) h = h
-broken-shifted indent (line_break b ∷ rest) h = tt
+broken-shifted indent _ h = tt
 
 -- text without a break, as the reader sees it
 abbrev Unbroken : Bool → Text → Type 0
@@ -101,9 +100,8 @@ spaces-unbroken true (suc n) text h = (refl, spaces-unbroken true n text h)
 spaces-unbroken false (suc n) text h = (refl, spaces-unbroken false n text h)
 
 prepend_to_elements-alone : (c : ℕ) (es : List Element) → NoContentFirst es → prepend_to_elements c es ≡ content (c ∷ []) ∷ es
-prepend_to_elements-alone c [] h = refl
 prepend_to_elements-alone c (content text ∷ rest) h = absurd h
-prepend_to_elements-alone c (line_end b ∷ rest) h = refl
+prepend_to_elements-alone c _ h = refl
 
 element-unbroken : (breaks12 : Bool) (c : ℕ) (es : List Element) (b : Bool) → b ≡ false
     → (if b then line_end c ∷ es else prepend_to_elements c es) ≡ prepend_to_elements c es

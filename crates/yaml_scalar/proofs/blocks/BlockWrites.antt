@@ -38,18 +38,12 @@ header_then symbol best_indent value lines cursor =
 pub block-literal : (limit : Option ℕ) (indent best_indent c : ℕ) (rest : Text) (cursor : Cursor)
     → render_block false limit indent best_indent (c ∷ rest) cursor ≡ render_literal indent best_indent (c ∷ rest) cursor
 unfolding header_then
-block-literal limit indent best_indent c rest cursor =
-    let lead : Rendered = render_text (space_if true cursor) cursor in
-    then-assoc lead (render_header 124 best_indent (c ∷ rest)) (lines_from false limit indent LineStart (c ∷ rest))
-    ∙ ap (λ (l : Rendered). render_then lead (header_then 124 best_indent (c ∷ rest) l)) (literal-lines-from limit indent c rest)
+block-literal limit indent best_indent c rest cursor = grind (arith, render_text, space_if, then-assoc, lines_from, render_then, literal-lines-from)
 
 pub block-folded : (limit : Option ℕ) (indent best_indent c : ℕ) (rest : Text) (cursor : Cursor)
     → render_block true limit indent best_indent (c ∷ rest) cursor ≡ render_folded limit indent best_indent (c ∷ rest) cursor
 unfolding header_then
-block-folded limit indent best_indent c rest cursor =
-    let lead : Rendered = render_text (space_if true cursor) cursor in
-    then-assoc lead (render_header 62 best_indent (c ∷ rest)) (lines_from true limit indent LineStart (c ∷ rest))
-    ∙ ap (λ (l : Rendered). render_then lead (header_then 62 best_indent (c ∷ rest) l)) (folded-lines-from limit indent c rest)
+block-folded limit indent best_indent c rest cursor = grind (arith, render_text, space_if, then-assoc, lines_from, render_then, folded-lines-from)
 
 pub some-literal : (limit : Option ℕ) (indent best_indent : ℕ) (value : Text) (cursor : Cursor) → is_empty value ≡ false
     → render_block false limit indent best_indent value cursor ≡ render_literal indent best_indent value cursor
