@@ -66,12 +66,9 @@ levels_easy canonical (level ∷ outer) = easy_both canonical (innermost_missing
     (outer_easy canonical outer)
 
 missing_easy : (canonical : Bool) (p : Partial) → Easy canonical (missing p)
-missing_easy canonical before_stream = record { sound = refl; none = refl }
-missing_easy canonical (between_documents e d) = record { sound = refl; none = refl }
 missing_easy canonical (within_document e d s levels) = easy_both canonical (levels_missing levels) (document_end true ∷ stream_end ∷ [])
     (levels_easy canonical levels) (record { sound = refl; none = refl })
-missing_easy canonical (after_root e d s root) = record { sound = refl; none = refl }
-missing_easy canonical (after_stream t) = record { sound = refl; none = refl }
+missing_easy canonical _ = record { sound = refl; none = refl }
 
 abbrev starts : List Event → ℕ
 starts events = count_by begins_collection events

@@ -64,10 +64,7 @@ module _ (s : Effective) (e : Encoding) (limit : ℕ) (breaks12 : Bool) (same : 
   flow_place_other : (role : Role) (simple : Bool) (column : Option ℕ) (cursor : Cursor)
       → render_flow_place other role simple column cursor ≡ render_flow_place s role simple column cursor
   flow_place_other as_root simple column cursor = refl
-  flow_place_other (as_item first) simple column cursor = refl
-  flow_place_other (as_key first) simple column cursor = refl
-  flow_place_other (as_value true) simple column cursor = refl
-  flow_place_other (as_value false) simple column cursor = refl
+  flow_place_other _ simple column cursor = refl
 
   place_other : (place : Place) (simple : Bool) (cursor : Cursor)
       → render_place other place simple cursor ≡ render_place s place simple cursor
@@ -76,38 +73,19 @@ module _ (s : Effective) (e : Encoding) (limit : ℕ) (breaks12 : Bool) (same : 
   body_other : (style : ScalarStyle) (width : Option ℕ) (indent : ℕ) (value : Text) (cursor : Cursor)
       → render_body style other width indent value cursor ≡ render_body style s width indent value cursor
   body_other any_style width indent value cursor = refl
-  body_other plain width indent value cursor = refl
-  body_other single_quoted width indent value cursor = refl
-  body_other double_quoted width indent value cursor = refl
-  body_other literal width indent value cursor = refl
-  body_other folded width indent value cursor = refl
+  body_other _ width indent value cursor = refl
 
   choice_other : (place : Place) (simple : Bool) (content : Scalar) → choice_of other place simple content ≡ choice_of s place simple content
   choice_other place simple content = grind (arith, nat_tests, and_parts, and_from, or_parts, or_from)
 
   scalar_other : (directives : List TagDirective) (place : Place) (simple : Bool) (content : Scalar) (standing : Standing)
       → scalar_piece other directives place simple content standing ≡ scalar_piece s directives place simple content standing
-  scalar_other directives place simple content standing =
-      let choice = choice_of s place simple content in
-      let width : Option ℕ = if simple then None else s.width in
-      let indent = deeper s.indent place.column in
-      let lead = λ (placed : Rendered). lead_after s directives place choice content placed in
-      let placed = render_place s place simple standing.cursor in
-      ap (λ (choice : ChosenStyle).
-      let lead = lead_after s directives place choice content (render_place other place simple standing.cursor) in
-      scalar_made place choice content standing.open_ended lead (render_body choice.style other width indent content.value lead.cursor))
-      (choice_other place simple content)
-      ∙ ap (λ (placed : Rendered). scalar_made place choice content standing.open_ended (lead placed)
-      (render_body choice.style other width indent content.value (lead placed).cursor))
-      (place_other place simple standing.cursor)
-      ∙ ap (λ (body : Rendered). scalar_made place choice content standing.open_ended (lead placed) body)
-      (body_other choice.style width indent content.value (lead placed).cursor)
+  scalar_other directives place simple content standing = grind (arith, choice_of, render_place, render_body, choice_other, place_other, body_other)
 
   end_other : (brackets : Brackets) (in_flow empty : Bool) (column : Option ℕ) (cursor : Cursor)
       → render_end other brackets in_flow empty column cursor ≡ render_end s brackets in_flow empty column cursor
   end_other brackets false empty column cursor = refl
-  end_other brackets true true column cursor = refl
-  end_other brackets true false column cursor = refl
+  end_other brackets true _ column cursor = refl
 
   start_other : (directives : List TagDirective) (frames : List Frame) (undented simple empty : Bool) (role : Role)
       (start : Collection) (standing : Standing)
@@ -124,21 +102,11 @@ module _ (s : Effective) (e : Encoding) (limit : ℕ) (breaks12 : Bool) (same : 
       (standing : Standing)
       → node_step other directives frames event empty standing ≡ node_step s directives frames event empty standing
   node_other directives frames (alias name) empty standing =
-      let simple = is_key (next_place frames).role && (not s.canonical && is_simple_alias name) in
-      ap (λ (placed : Rendered). leaf_step directives frames simple (piece_without_body standing.open_ended (render_then placed (render_alias name simple))))
-      (place_other (next_place frames) simple standing.cursor)
-  node_other directives frames (scalar content) empty standing =
-      let simple = is_key (next_place frames).role && (not s.canonical && is_simple_scalar s.canonical directives content) in
-      ap (λ (rendered : RenderedPiece). leaf_step directives frames simple rendered)
-      (scalar_other directives (next_place frames) simple content standing)
+      grind (arith, is_key, next_place, leaf_step, piece_without_body, render_then, render_alias, place_other)
+  node_other directives frames (scalar content) empty standing = grind (arith, is_key, next_place, is_simple_scalar, leaf_step, scalar_other)
   node_other directives frames (sequence_start start) empty standing =
-      start_other directives frames (is_undented s (next_place frames).role)
-      (is_key (next_place frames).role && (not s.canonical && is_simple_collection s.canonical directives start empty))
-      empty (as_item true) start standing
-  node_other directives frames (mapping_start start) empty standing =
-      start_other directives frames false
-      (is_key (next_place frames).role && (not s.canonical && is_simple_collection s.canonical directives start empty))
-      empty (as_key true) start standing
+      grind (arith, start_other, is_undented, next_place, is_key, is_simple_collection, as_item)
+  node_other directives frames (mapping_start start) empty standing = grind (arith, start_other, is_key, next_place, is_simple_collection, as_key)
   node_other directives frames sequence_end empty standing = end_step_other square directives frames standing
   node_other directives frames mapping_end empty standing = end_step_other curly directives frames standing
   node_other directives frames event empty standing = refl

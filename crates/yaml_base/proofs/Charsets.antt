@@ -47,13 +47,7 @@ module _ (unicode one other : Bool) where
 
   -- plain, in flow or in a block
   pub plain_still : (flow : Bool) (value : Text) → allows_plain more flow value ≡ true → allows_plain fewer flow value ≡ true
-  plain_still flow value h =
-      let parts = and_parts (not (is_empty value && flow)) (not (begins_unlike_plain value || somewhere (bars_plain more flow) value)) h in
-      let bars = or_parts (begins_unlike_plain value) (somewhere (bars_plain more flow) value) (not-true _ parts.1) in
-      and_from _ _ parts.0
-      (ap not (or_from (begins_unlike_plain value) (somewhere (bars_plain fewer flow) value) bars.0
-      (somewhere_fewer (bars_plain more flow) (bars_plain fewer flow)
-      (λ c rest. or_fewer _ _ _ (or_fewer _ _ _ (or_fewer _ _ _ (or_fewer _ _ _ (special_fewer c))))) value bars.1)))
+  plain_still flow value h = grind (arith, and_parts, is_empty, or_parts, not-true, and_from, or_from, somewhere_fewer, or_fewer, special_fewer)
 
   -- single quotes
   pub single_still : (value : Text) → allows_single_quoted more value ≡ true → allows_single_quoted fewer value ≡ true
@@ -61,10 +55,7 @@ module _ (unicode one other : Bool) where
 
   -- literal and folded
   pub block_still : (value : Text) → allows_block more value ≡ true → allows_block fewer value ≡ true
-  block_still value h =
-      let bars = or_parts (is_empty value) (somewhere (bars_block more) value) (not-true _ h) in
-      ap not (or_from (is_empty value) (somewhere (bars_block fewer) value) bars.0
-      (somewhere_fewer (bars_block more) (bars_block fewer) (λ c rest. or_fewer _ _ _ (or_fewer _ _ _ (special_fewer c))) value bars.1))
+  block_still value h = grind (arith, or_parts, is_empty, bars_block, not-true, or_from, somewhere_fewer, or_fewer, special_fewer)
 
   -- literal, if blanks are literal
   pub literal_still : (value : Text) → allows_literal more value ≡ true → allows_literal fewer value ≡ true
@@ -129,10 +120,7 @@ module _ (charset : Charset) where
   -- if a value allows block styles, it allows literal with literal blanks
   pub literal_of_block : (value : Text) → allows_block charset value ≡ true → allows_literal charset value ≡ true
   literal_of_block value h =
-      let bars = or_parts (is_empty value) (somewhere (bars_block charset) value) (not-true _ h) in
-      ap not
-      (or_from (is_empty value || begins_with_blanks_alone value) (somewhere (bars_literal charset) value)
-      (or_from (is_empty value) (begins_with_blanks_alone value) bars.0 (none_of_blanks value bars.1)) (literal_bars value bars.1))
+      grind (arith, or_parts, is_empty, bars_block, not-true, or_from, begins_with_blanks_alone, bars_literal, none_of_blanks, literal_bars)
 
 -- if a scalar's value allows a block style, it allows literal with literal blanks
 pub literal_allowed : (s : Effective) (content : Scalar) → (allowed_under s content).block_allowed ≡ true

@@ -23,9 +23,8 @@ pub record IsWritable (event : Event) : Type 0 where
 first_fault : (own place content depth : Option yaml_error_t) (error : yaml_error_t) → place ≡ None → content ≡ None
     → option_or own (option_or place (option_or content depth)) ≡ Some error → (own ≡ Some error) ⊎ (depth ≡ Some error)
 first_fault None None None depth error stands sound is = inr is
-first_fault None None (Some other) depth error stands sound is = cc
-first_fault None (Some other) content depth error stands sound is = cc
 first_fault (Some fault) place content depth error stands sound is = inl is
+first_fault None _ _ depth error stands sound is = cc
 
 only_depth : (deep : Bool) (error : yaml_error_t) → some_if deep TooDeep ≡ Some error → error ≡ TooDeep
 only_depth deep error is = grind (arith, nat_tests)
@@ -123,13 +122,12 @@ endings_writable (Some node) event within = held_writable node.held event within
 
 again_has : (number : ℕ) (walk : List Step) → IsIn (meets_again number) walk → has number (filter_map node_met_again walk) ≡ true
 again_has number [] within = absurd within
-again_has number (enters other ∷ walk) (inl is) = cc
-again_has number (leaves other ∷ walk) (inl is) = cc
 again_has number (meets_again other ∷ walk) (inl is) = grind (arith, eq-eqb)
 again_has number (enters other ∷ walk) (inr later) = again_has number walk later
 again_has number (leaves other ∷ walk) (inr later) = again_has number walk later
 again_has number (meets_again other ∷ walk) (inr later) =
     ap (λ (b : Bool). other == number || b) (again_has number walk later) ∙ or-true (other == number)
+again_has number _ (inl is) = cc
 
 step_writable : (graph : Graph) (walk : List Step) (step : Step) → IsIn step walk → AreWritable (step_events graph walk step)
 step_writable graph walk (enters number) within = prefixes_writable (anchor_of walk number) (node_numbered graph number) (anchor_stands walk number)

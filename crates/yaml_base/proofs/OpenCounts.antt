@@ -40,12 +40,11 @@ ended event inside none one h =
 
 mutual
   node_leaves : (n : Node) → Leaves (node_events n) 0
-  node_leaves (alias_node name) = record { counts = refl }
-  node_leaves (scalar_node content) = record { counts = refl }
   node_leaves (sequence_node c items) =
       ended _ _ refl refl (started _ _ 0 refl refl (nodes_leave items))
   node_leaves (mapping_node c pairs) =
       ended _ _ refl refl (started _ _ 0 refl refl (pairs_leave pairs))
+  node_leaves _ = record { counts = refl }
 
   nodes_leave : (items : Nodes) → Leaves (nodes_events items) 0
   nodes_leave no_nodes = record { counts = refl }

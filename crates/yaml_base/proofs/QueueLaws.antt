@@ -85,10 +85,9 @@ balanced_around start end inside a b c d h =
 
 mutual
   node_balanced : (n : Node) → Balanced (node_events n)
-  node_balanced (alias_node name) = record { counts = refl }
-  node_balanced (scalar_node content) = record { counts = refl }
   node_balanced (sequence_node c items) = balanced_around (sequence_start c) sequence_end (nodes_events items) refl refl refl refl (nodes_balanced items)
   node_balanced (mapping_node c pairs) = balanced_around (mapping_start c) mapping_end (pairs_events pairs) refl refl refl refl (pairs_balanced pairs)
+  node_balanced _ = record { counts = refl }
 
   nodes_balanced : (items : Nodes) → Balanced (nodes_events items)
   nodes_balanced no_nodes = record { counts = refl }
@@ -131,12 +130,11 @@ whole_around start end inside rest ends balanced h = grind (arith, balanced_read
 
 mutual
   node_whole : (n : Node) (rest : List Event) → Whole (node_events n) rest
-  node_whole (alias_node name) rest = record { count = omega arith }
-  node_whole (scalar_node content) rest = record { count = omega arith }
   node_whole (sequence_node c items) rest = whole_around (sequence_start c) sequence_end (nodes_events items) rest refl (node_balanced (sequence_node c items))
       (nodes_whole items (sequence_end ∷ rest))
   node_whole (mapping_node c pairs) rest = whole_around (mapping_start c) mapping_end (pairs_events pairs) rest refl (node_balanced (mapping_node c pairs))
       (pairs_whole pairs (mapping_end ∷ rest))
+  node_whole _ rest = record { count = omega arith }
 
   nodes_whole : (items : Nodes) (rest : List Event) → Whole (nodes_events items) rest
   nodes_whole no_nodes rest = record { count = omega arith }

@@ -96,8 +96,6 @@ document_alike first second is also alike = grind (arith, map-append, within_ali
 documents_alike : (firsts seconds : List Graph) → All IsWholeGraph firsts → All IsWholeGraph seconds → AreWrittenAlike firsts seconds
     → map unstyled (flat_map document_event_list firsts) ≡ map unstyled (flat_map document_event_list seconds)
 documents_alike [] [] are also alike = refl
-documents_alike [] (second ∷ seconds) are also alike = absurd alike
-documents_alike (first ∷ firsts) [] are also alike = absurd alike
 documents_alike (first ∷ firsts) (second ∷ seconds) are also alike =
     map-append unstyled (document_event_list first) (flat_map document_event_list firsts)
     ∙ ap (λ (events : List Event). events ++ map unstyled (flat_map document_event_list firsts))
@@ -105,6 +103,7 @@ documents_alike (first ∷ firsts) (second ∷ seconds) are also alike =
     ∙ ap (λ (events : List Event). map unstyled (document_event_list second) ++ events)
     (documents_alike firsts seconds (All-tail IsWholeGraph first firsts are) (All-tail IsWholeGraph second seconds also) alike.1)
     ∙ sym (map-append unstyled (document_event_list second) (flat_map document_event_list seconds))
+documents_alike _ _ are also alike = absurd alike
 
 -- ---- streams
 

@@ -57,9 +57,8 @@ zeros_value (suc count) digits = zeros_value count digits
 
 -- the text after the first two characters
 behind_two : Text → Text
-behind_two [] = []
-behind_two (a ∷ []) = []
 behind_two (a ∷ b ∷ rest) = rest
+behind_two _ = []
 
 name_value : (number : ℕ) → digits_value_after 10 0 (behind_two (numbered_name number)) ≡ number
 unfolding behind_two decimal_digits

@@ -21,9 +21,7 @@ after_pieces-same a f g same =
 -- No node begins with a collection's end.
 node_begins : (n : Node) (rest : List Event) (follows : Bool) → ends_next (node_events n ++ rest) follows ≡ false
 node_begins (alias_node name) rest follows = refl
-node_begins (scalar_node content) rest follows = refl
-node_begins (sequence_node c items) rest follows = refl
-node_begins (mapping_node c pairs) rest follows = refl
+node_begins _ rest follows = refl
 
 nodes_begin : (items : Nodes) (rest : List Event) (follows : Bool) → ends_next rest follows ≡ false → ends_next (nodes_events items ++ rest) follows ≡ false
 nodes_begin no_nodes rest follows opens = opens
@@ -45,8 +43,6 @@ mutual
       → steps s follows (node_events n ++ rest) (at_node d frames) standing
       ≡ after_pieces (render_node n s d (next_place frames) standing)
       (steps s follows rest (stage_after d frames (is_simple_at (next_place frames) s.canonical d n)))
-  node_steps (alias_node name) s follows rest d frames standing = refl
-  node_steps (scalar_node content) s follows rest d frames standing = refl
   node_steps (sequence_node c items) s follows rest d frames standing =
       let place = next_place frames in
       let empty = has_no_nodes items in
@@ -65,6 +61,7 @@ mutual
       let column = entries_column in_flow false s.indent place.column start.standing.cursor in
       let each = pairs_steps pairs s follows (mapping_end ∷ rest) d in_flow column simple frames start.standing in
       grind (arith, append_assoc, pairs_begin, node_begins, after_pieces-same, each)
+  node_steps _ s follows rest d frames standing = refl
 
   pub nodes_steps : (items : Nodes) (s : Effective) (follows : Bool) (rest : List Event) (d : List TagDirective) (in_flow : Bool) (column : ℕ) (simple : Bool)
       (frames : List Frame) (standing : Standing)

@@ -39,11 +39,9 @@ unbased c d letter rest base h = grind (arith, true≢false, eqb-true)
 
 based_by_11 : (negative : Bool) (letter base : ℕ) (text : Text) → names_base letter ≡ true
     → begins_based (past precedes_number text) ≡ false → based_11 negative letter base text ≡ None
-based_by_11 negative letter base [] among h = refl
-based_by_11 negative letter base (c ∷ []) among h = refl
-based_by_11 negative letter base (c ∷ d ∷ []) among h = refl
 based_by_11 negative letter base (c ∷ d ∷ e ∷ rest) among h =
     off _ _ (and_left (c == 0x30 && d == letter) (are_grouped base (e ∷ rest)) (unbased c d letter (e ∷ rest) among h))
+based_by_11 negative letter base _ among h = refl
 
 based_by_core : (letter base : ℕ) (text : Text) → names_base letter ≡ true → is_based text ≡ false → core_based letter base text ≡ None
 based_by_core letter base text h k = grind (arith, nat_tests, off, and_left, unbased)

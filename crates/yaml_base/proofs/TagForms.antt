@@ -17,15 +17,13 @@ last-append c [] end = refl
 last-append c (next ∷ rest) end = last-append next rest end
 
 pub without_last-append : (text : Text) (end : ℕ) → without_last (text ++ end ∷ []) ≡ text
-without_last-append [] end = refl
-without_last-append (c ∷ []) end = refl
 without_last-append (c ∷ next ∷ rest) end = ap (λ x. c ∷ x) (without_last-append (next ∷ rest) end)
+without_last-append _ end = refl
 
 -- the text before the sign at the end
 pub closing_angle_dropped : (text : Text) → without_closing_angle (text ++ 0x3E ∷ []) ≡ Some text
-closing_angle_dropped [] = refl
-closing_angle_dropped (c ∷ []) = refl
 closing_angle_dropped (c ∷ d ∷ rest) = ap (option_map (λ text. c ∷ text)) (closing_angle_dropped (d ∷ rest))
+closing_angle_dropped _ = refl
 
 -- Handles
 

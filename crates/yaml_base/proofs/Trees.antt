@@ -9,10 +9,9 @@ use Rattle.yaml_base.proofs.Common.{between_documents, within_document, after_st
 mutual
   pub node_pushed : (node : Node) (e : Option Encoding) (d : Documents) (s : DocumentStart) (levels : List Level) (rest : List Event)
       → pushed (within_document e d s levels) (node_events node ++ rest) ≡ pushed (with_node e d s levels node) rest
-  node_pushed (alias_node name) e d s levels rest = refl
-  node_pushed (scalar_node content) e d s levels rest = refl
   node_pushed (sequence_node c items) e d s levels rest = grind (arith, append_assoc, nodes_pushed items c e d s levels (sequence_end ∷ rest))
   node_pushed (mapping_node c pairs) e d s levels rest = grind (arith, append_assoc, pairs_pushed pairs c e d s levels (mapping_end ∷ rest))
+  node_pushed _ e d s levels rest = refl
 
   pub nodes_pushed : (items : Nodes) (c : Collection) (e : Option Encoding) (d : Documents) (s : DocumentStart) (levels : List Level) (rest : List Event)
       → pushed (within_document e d s (at_item c no_nodes ∷ levels)) (nodes_events items ++ rest)

@@ -69,10 +69,8 @@ mutual
       → Joins first second one other
   joined first second (alias_shape stated) (alias_placed name number) (alias_placed also again) fits matches =
       record { twin = alias_twin name number again; is_first = refl; is_second = ap (λ (n : Text). alias_placed n again) (fits ∙ sym matches); fits = tt }
-  joined first second (alias_shape stated) (alias_placed name number) (node_placed anchor again below) fits matches = absurd matches
   joined first second (alias_shape stated) (node_placed anchor number below) other fits matches = absurd fits
   joined first second (node_shape stated label inside) (alias_placed name number) other fits matches = absurd fits
-  joined first second (node_shape stated label inside) (node_placed anchor number below) (alias_placed name again) fits matches = absurd matches
   joined first second (node_shape stated label inside) (node_placed anchor number below) (node_placed also again lower) fits matches =
       let all = joined_all first second inside below lower fits.3 matches.3 in
       record {
@@ -88,14 +86,13 @@ mutual
           all.fit,
         );
       }
+  joined first second _ _ _ fits matches = absurd matches
 
   joined_all : (first second : Graph) (shapes : Shapes) (some others : PlacedNodes) → HaveShapes false first some shapes
       → HaveShapes false second others shapes → JoinsAll first second some others
   joined_all first second no_shapes none_placed none_placed fit match = record { twins = none_twins; are_firsts = refl; are_seconds = refl; fit = tt }
-  joined_all first second no_shapes none_placed (placed_and before last) fit match = absurd match
   joined_all first second no_shapes (placed_and before last) others fit match = absurd fit
   joined_all first second (shapes_and each shape) none_placed others fit match = absurd fit
-  joined_all first second (shapes_and each shape) (placed_and before last) none_placed fit match = absurd match
   joined_all first second (shapes_and each shape) (placed_and before last) (placed_and earlier latter) fit match =
       let all = joined_all first second each before earlier fit.0 match.0 in
       let one = joined first second shape last latter fit.1 match.1 in
@@ -105,6 +102,7 @@ mutual
         are_seconds = ap (λ (p : PlacedNodes). placed_and p (second_placed one.twin)) all.are_seconds ∙ ap (placed_and earlier) one.is_second;
         fit = (all.fit, one.fits);
       }
+  joined_all first second _ _ _ fit match = absurd match
 
 -- ---- the places of a tree with two numbers
 

@@ -35,12 +35,9 @@ map_is (value_pairs_and pairs key value) column are = grind (arith, nat_tests, a
 
 mutual
   value_is : (value : TypedValue) (column : ℕ) → value_text column value ≡ node_text column (value_node value)
-  value_is null_value column = refl
-  value_is (bool_value b) column = refl
-  value_is (int_value n) column = refl
-  value_is (text_value text) column = refl
   value_is (list_value items) column = list_is items _ (items_are items (column + 2))
   value_is (map_value pairs) column = map_is pairs _ (pairs_are pairs (column + 2))
+  value_is _ column = refl
 
   items_are : (items : TypedValues) (column : ℕ) → ItemsAre column items
   items_are no_values column = tt

@@ -60,22 +60,16 @@ core_mantissa_without : (negative : Bool) (parts : List Text) → list_any holds
 core_mantissa_without negative parts h = grind (arith, nat_tests, pointed_without, or_parts)
 
 mantissa_11_without : (negative : Bool) (parts : List Text) → list_any holds_digit parts ≡ false → mantissa_11 negative parts ≡ None
-mantissa_11_without negative [] h = refl
-mantissa_11_without negative ([] ∷ []) h = refl
-mantissa_11_without negative ((c ∷ whole) ∷ []) h = refl
 mantissa_11_without negative ([] ∷ fraction ∷ []) h = pointed_without negative [] fraction refl (or_parts (holds_digit fraction) false h).0
 mantissa_11_without negative ((c ∷ whole) ∷ fraction ∷ []) h =
     off _ _ (and_left _ _ (begins_without (c ∷ whole) (or_parts (holds_digit (c ∷ whole)) (holds_digit fraction || false) h).0))
-mantissa_11_without negative ([] ∷ a ∷ b ∷ rest) h = refl
-mantissa_11_without negative ((c ∷ whole) ∷ a ∷ b ∷ rest) h = refl
+mantissa_11_without negative _ h = refl
 
 more_points_without : (parts : List Text) → list_any holds_digit parts ≡ false → has_more_points parts ≡ false
-more_points_without [] h = refl
-more_points_without (whole ∷ []) h = refl
-more_points_without (whole ∷ a ∷ []) h = refl
 more_points_without ([] ∷ a ∷ b ∷ rest) h =
     digits_begin (concat (a ∷ b ∷ rest)) (first_without (concat (a ∷ b ∷ rest)) (concat_without (a ∷ b ∷ rest) h))
 more_points_without ((c ∷ whole) ∷ a ∷ b ∷ rest) h = grind (arith, and_left, or_from, filled, begins_without, or_parts)
+more_points_without _ h = refl
 
 -- ---- points alone
 

@@ -138,14 +138,10 @@ core_mantissa_outside : (negative : Bool) (parts : List Text) → list_all withi
 core_mantissa_outside negative parts h = grind (arith, nat_tests, pointed_outside, and-true)
 
 mantissa_11_outside : (negative : Bool) (parts : List Text) → list_all within parts ≡ false → mantissa_11 negative parts ≡ None
-mantissa_11_outside negative [] h = refl
-mantissa_11_outside negative ([] ∷ []) h = refl
-mantissa_11_outside negative ((c ∷ whole) ∷ []) h = refl
 mantissa_11_outside negative ([] ∷ fraction ∷ []) h = pointed_outside negative [] fraction (sym (and-true (within fraction)) ∙ h)
 mantissa_11_outside negative ((c ∷ whole) ∷ fraction ∷ []) h =
     grind (arith, off, two_cases, and_left, begins_outside, and_right, grouped_outside, digit_stands)
-mantissa_11_outside negative ([] ∷ a ∷ b ∷ rest) h = refl
-mantissa_11_outside negative ((c ∷ whole) ∷ a ∷ b ∷ rest) h = refl
+mantissa_11_outside negative _ h = refl
 
 points_outside : (parts : List Text) → list_all within parts ≡ false → has_more_points parts ≡ false
 points_outside parts h =
