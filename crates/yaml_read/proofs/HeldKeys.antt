@@ -2,17 +2,15 @@
 use Rattle.yaml_base.proofs.Common.{ℕ, ◌+◌, ◌≤◌, suc, Bool, true, false, cond, List, [], ◌∷◌, ◌++◌, refl, ◌≡◌, ap, subst, sym, ◌∙◌, arith, length}
 use Rattle.yaml_base.proofs.Common.{append_assoc, append-nil, length-append, take, ◌||◌, bytes_eq}
 use Rattle.yaml_base.specs.values.TypedValues.{TypedValue}
-use Rattle.yaml_base.specs.values.ValueText.{line_at, value_text}
 use Rattle.std.specs.Prelude.{Ok, Err, Result, String}
 use Rattle.std.specs.BTreeSet.{BTreeSet, contains_text}
 use Rattle.std.proofs.Math.Seq.{take-append_seam}
-use Rattle.std.proofs.lemmas.Str.{encodes-append}
-use Rattle.yaml_base.proofs.Common.{codes, encode_utf8_all}
 use Rattle.yaml_value.specs.OpenLevels.{OpenLevel, items_open, pairs_open, seen_level, seen_levels, value_due, with_value}
 use Rattle.yaml_read.specs.HeldKeys.{FollowsKeys, HasKeys, HeldAtNode, HeldKeys, HoldKeys, HoldsKeys, InnermostIsNew, IsLastLevel, KeyEndsBefore}
-use Rattle.yaml_read.specs.HeldKeys.{FollowedBy, KeysFollowed, TakenOff, key_bytes}
+use Rattle.yaml_read.specs.HeldKeys.{FollowedBy, KeysFollowed, TakenOff}
 use Rattle.yaml_read.specs.Opened.{IsOpen}
 use Rattle.yaml_read.specs.Remaining.{column_in}
+use Rattle.yaml_read.specs.RepeatedKeys.{key_bytes}
 use Rattle.yaml_read.specs.Settled.{BeginsLevel, Ended, Moved, begins_list, begins_map, value_given, none_ended, one_ended, level_opened}
 use Rattle.yaml_read.specs.declared.errors.KeyStop.{KeyStop}
 use Rattle.yaml_read.specs.declared.errors.KeyStop.TheVariants as stop
@@ -165,9 +163,7 @@ node_fails : {A : Type 0} (whole : List ℕ) (outer : List OpenLevel) (level : O
 node_fails whole outer (value_due pairs key) held rest new (stop.Other reason) is opened at =
     at (key_bytes (column_in outer + 2) key) (key_between whole outer pairs key held.start.now rest is.0 opened)
 node_fails whole outer (value_due pairs key) held rest new (stop.Repeats left) is opened at =
-    let column = column_in outer + 2 in
-    let bytes = key_bytes column key in
-    let behind = line_at column ++ codes ": " in
+    let bytes = key_bytes (column_in outer + 2) key in
     let between = key_between whole outer pairs key held.start.now rest is.0 opened in
     let there = at bytes between in
     record {
@@ -176,12 +172,10 @@ node_fails whole outer (value_due pairs key) held rest new (stop.Repeats left) i
       outer = outer;
       is = refl;
       text = held.start.now;
-      rest = encode_utf8_all behind ++ rest;
+      rest = rest;
       opened = is.0;
       place = there.1;
-      begins =
-          between ∙ ap (λ t. t ++ rest) (encodes-append (value_text column key) behind)
-          ∙ append_assoc (encode_utf8_all (value_text column key)) (encode_utf8_all behind) rest;
+      begins = between;
       again = sym (is.1 bytes) ∙ there.0;
     }
 node_fails whole outer _ held rest new reason is opened at = absurd at

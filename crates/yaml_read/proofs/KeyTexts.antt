@@ -8,10 +8,11 @@ use Rattle.std.proofs.lemmas.Str.{encodes-append}
 use Rattle.std.proofs.lemmas.List.{append_cancel_left, append_cancel_right}
 use Rattle.std.proofs.lemmas.Bool.{both_ways}
 use Rattle.yaml_value.specs.OpenLevels.{OpenLevel, pairs_open, value_due}
-use Rattle.yaml_read.specs.HeldKeys.{is_key, key_bytes}
+use Rattle.yaml_read.specs.HeldKeys.{is_key}
 use Rattle.yaml_read.specs.Opened.{IsOpen, opened_text}
 use Rattle.yaml_read.specs.Readable.{CanBeReadAt, PairsCanBeReadAt}
 use Rattle.yaml_read.specs.Remaining.{column_in}
+use Rattle.yaml_read.specs.RepeatedKeys.{key_bytes}
 use Rattle.yaml_read.proofs.{Turns.column_is, WrittenValues.text_tells}
 
 -- texts with equal bytes have equal bytes within others

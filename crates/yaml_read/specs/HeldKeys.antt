@@ -1,9 +1,9 @@
 -- The keys that the reader holds of the maps that are open.
-use Rattle.std.specs.Prelude.{ℕ, ◌+◌, ◌<◌, ◌≤◌, ◌≡◌, ◌||◌, Bool, true, false, Result, Ok, Err, IfErr, IfOk, List, [], ◌∷◌, ◌++◌, String, bytes_eq, codes, length, take}
+use Rattle.std.specs.Prelude.{ℕ, ◌+◌, ◌<◌, ◌≤◌, ◌≡◌, ◌||◌, Bool, true, false, Result, Ok, Err, IfErr, IfOk, List, [], ◌∷◌, ◌++◌, String, bytes_eq, length, take}
 use Rattle.std.specs.BTreeSet.{BTreeSet, contains_text}
 use Rattle.std.specs.Str.{encode_utf8_all}
 use Rattle.yaml_base.specs.values.TypedValues.{TypedPairs, TypedValue, no_value_pairs, null_value, value_pairs_and}
-use Rattle.yaml_base.specs.values.ValueText.{document_text, line_at, value_text}
+use Rattle.yaml_base.specs.values.ValueText.{document_text}
 use Rattle.yaml_value.specs.OpenLevels.{OpenLevel, items_open, pairs_open, value_due}
 use Rattle.yaml_value.specs.{SeenValues.seen_value, declared.levels.Level.Level, declared.value.Value.Value}
 use Rattle.yaml_read.specs.AllowedKeys.{KeysAllow}
@@ -11,7 +11,7 @@ use Rattle.yaml_read.specs.Opened.{IsOpen}
 use Rattle.yaml_read.specs.Places.{IsBehindMarker, StopsAt}
 use Rattle.yaml_read.specs.Readable.{CanBeRead, CanBeReadAt}
 use Rattle.yaml_read.specs.Remaining.{column_in}
-use Rattle.yaml_read.specs.RepeatedKeys.{RepeatsKey}
+use Rattle.yaml_read.specs.RepeatedKeys.{RepeatsKey, key_bytes}
 use Rattle.yaml_read.specs.Settled.{Moved}
 use Rattle.yaml_read.specs.declared.errors.KeyStop.{KeyStop}
 use Rattle.yaml_read.specs.declared.errors.KeyStop.TheVariants as stop
@@ -19,10 +19,6 @@ use Rattle.yaml_read.specs.declared.errors.Stop.TheVariants.{Memory}
 use Rattle.yaml_value.specs.declared.keys.Keys.{Keys}
 use Rattle.yaml_value.specs.declared.keys.Keys.TheVariants as keys
 use Rattle.yaml_read.specs.declared.keys.OpenKeys.{OpenKeys}
-
--- The bytes of a key in a map whose entries are at a column, up to its value.
-abbrev pub key_bytes : (column : ℕ) → (key : TypedValue) → List ℕ
-key_bytes column key = encode_utf8_all (value_text column key ++ (line_at column ++ codes ": "))
 
 -- True of the bytes of a key of these pairs.
 abbrev pub is_key : (column : ℕ) → TypedPairs → (bytes : List ℕ) → Bool
@@ -111,7 +107,7 @@ pub record KeyRepeats (whole : List ℕ) (after : List OpenLevel) (left : ℕ) :
   pub rest : List ℕ
   pub opened : IsOpen whole (pairs_open pairs ∷ outer) text
   pub place : left ≡ length text
-  pub begins : text ≡ encode_utf8_all (value_text (column_in outer + 2) key) ++ rest
+  pub begins : text ≡ key_bytes (column_in outer + 2) key ++ rest
   pub again : is_key (column_in outer + 2) pairs (key_bytes (column_in outer + 2) key) ≡ true
 
 -- a key that awaits its value is none of the others

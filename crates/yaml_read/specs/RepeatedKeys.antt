@@ -1,9 +1,9 @@
 -- Keys that repeat, and their places.
-use Rattle.std.specs.Prelude.{ℕ, ◌+◌, ◌≡◌, List, ◌∷◌, ◌++◌, length}
+use Rattle.std.specs.Prelude.{ℕ, ◌+◌, ◌≡◌, List, ◌∷◌, ◌++◌, codes, length}
 use Rattle.std.specs.Str.{encode_utf8_all}
 use Rattle.yaml_base.specs.values.TypedValues.{TypedPairs, TypedValue}
 use Rattle.yaml_base.specs.values.UniqueKeys.{IsNewKey}
-use Rattle.yaml_base.specs.values.ValueText.{value_text}
+use Rattle.yaml_base.specs.values.ValueText.{line_at, value_text}
 use Rattle.yaml_value.specs.OpenLevels.{OpenLevel, pairs_open}
 use Rattle.yaml_value.specs.declared.keys.Keys.{Keys}
 use Rattle.yaml_value.specs.declared.keys.Keys.TheVariants as keys
@@ -14,7 +14,11 @@ use Rattle.yaml_read.specs.Remaining.{column_in}
 use Rattle.yaml_read.specs.declared.errors.ReadError.{ReadError}
 use Rattle.yaml_read.specs.declared.errors.ReadError.TheVariants as told
 
--- So far before the end, after a document's first line, a key begins that its map has already. No key repeats before it.
+-- The bytes of a key in a map whose entries are at a column, up to its value.
+abbrev pub key_bytes : (column : ℕ) → (key : TypedValue) → List ℕ
+key_bytes column key = encode_utf8_all (value_text column key ++ (line_at column ++ codes ": "))
+
+-- So far before the end, after a document's first line, a key begins that its map has already, and `: ` follows it. No key repeats before it.
 pub record RepeatsKey (whole : List ℕ) (left : ℕ) : Type 0 where
   pub pairs : TypedPairs
   pub outer : List OpenLevel
@@ -24,7 +28,7 @@ pub record RepeatsKey (whole : List ℕ) (left : ℕ) : Type 0 where
   pub place : left ≡ length text
   pub key : TypedValue
   pub rest : List ℕ
-  pub begins : text ≡ encode_utf8_all (value_text (column_in outer + 2) key) ++ rest
+  pub begins : text ≡ key_bytes (column_in outer + 2) key ++ rest
   pub again : IsNewKey pairs key → ⊥
 
 -- An error has the position at which the bytes stop to be UTF-8, or else of the first word that is impossible there, of the first list or
