@@ -7,7 +7,7 @@ use Rattle.toml_ordered.proofs.Trees.{Entry, Places, held_is, node_view-Table}
 use Rattle.toml_ordered.proofs.FirstKeys.{adds_inside, adds_missing, again_here, again_inside, again_memory, again_nothing, held_firsts, node_firsts-Table}
 use Rattle.toml_ordered.proofs.Turns.{along_found, along_refused, along_new, along_new_refused}
 use Rattle.toml_ordered.specs.Data.{TomlNode, TomlNodes, no_nodes, node_view, table}
-use Rattle.toml_ordered.specs.Keys.{IsIndexedAt, held_view, keys_view, table_view}
+use Rattle.toml_ordered.specs.Keys.{IsFoundAt, held_view, keys_view, table_view}
 use Rattle.toml_ordered.specs.Firsts.{Firsts, AddsFirsts, HasFirst, IsAgain, node_firsts, keys_firsts, table_firsts, keys_in, no_firsts, IsShutAt}
 use Rattle.toml_ordered.specs.Passing.{held, with_value_at, Fills, IsFilled, AreFilled, IsOpened, IsShut, PassesSteps, RefusesSteps, keys_of}
 use Rattle.toml_ordered.specs.Reading.{IsMemory, IsPassed, IsSameKey}
@@ -75,7 +75,7 @@ adds_held whole here ns old h t adds = elim (held_firsts h t) [
 
 -- a key that is there
 module _ (by : Way) (k : List ℕ) (rest : List (Way × List ℕ)) (left at : ℕ) (outer : CodeTable) (e : Entry)
-    (has : IsIndexedAt k at outer.keys.items outer.index) (is : get_or outer.keys.items at e ≡ e) where
+    (has : IsFoundAt k at outer.keys.items outer.index) (is : get_or outer.keys.items at e ≡ e) where
   found : get_node k (table_view outer) ≡ Some (node_view e.1)
   found = found_here k at outer.keys.items e outer.index has is
 

@@ -1,5 +1,5 @@
 -- The values of a document, the keys of each table in the order in which they are first defined.
-use Rattle.std.specs.Prelude.{ℕ, ℤ, suc, ◌==◌, Bool, true, false, List, [], ◌∷◌, map, String, string_bytes, Option, Some, None}
+use Rattle.std.specs.Prelude.{ℕ, ℤ, suc, ◌==◌, ◌||◌, nat_lt, Bool, true, false, List, [], ◌∷◌, map, String, string_bytes, Option, Some, None}
 use Rattle.std.specs.BTreeMap.{BTreeMap, get_by_text}
 use Rattle.std.specs.declared.alloc.Global.{Global}
 use Rattle.toml_datetime.specs.declared.datetime.Datetime.{Datetime}
@@ -45,15 +45,19 @@ abbrev pub is_place : Option ℕ → ℕ → Bool
 is_place None at = false
 is_place (Some place) at = place == at
 
+-- True of a key at a place if it is one of the first 16 of its table, or the index tells the place.
+abbrev pub counts : BTreeMap (String Global) ℕ → ℕ → List ℕ → Bool
+counts index at k = nat_lt at 16 || is_place (get_by_text index k) at
+
 -- a key before others, if it counts
 abbrev pub kept : Bool → List ℕ → TomlNode → TomlNodes → TomlNodes
 kept true k x ns = node k x ns
 kept false k x ns = ns
 
--- the keys that are at the places of the index, from this place on; the others count for nothing
+-- the keys that count, from this place on
 abbrev pub nodes_from : BTreeMap (String Global) ℕ → ℕ → List (String Global × TomlNode × ℕ) → TomlNodes
 nodes_from index at [] = no_nodes
-nodes_from index at (m ∷ ms) = kept (is_place (get_by_text index (string_bytes m.0)) at) (string_bytes m.0) m.1 (nodes_from index (suc at) ms)
+nodes_from index at (m ∷ ms) = kept (counts index at (string_bytes m.0)) (string_bytes m.0) m.1 (nodes_from index (suc at) ms)
 
 -- one level of a table and of a value, given the values inside
 abbrev pub table_level : Table-F TomlNode TomlNodes → TomlNodes

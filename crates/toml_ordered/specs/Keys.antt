@@ -1,8 +1,8 @@
 -- The keys of a table as contracts see them.
-use Rattle.std.specs.Prelude.{◌≡◌, ℕ, zero, suc, true, List, [], ◌∷◌, drop, map, bytes_eq, String, string_bytes, Some}
-use Rattle.std.specs.BTreeMap.{BTreeMap, get_by_text}
+use Rattle.std.specs.Prelude.{◌≡◌, ℕ, zero, suc, ◌<◌, true, false, List, [], ◌∷◌, drop, map, bytes_eq, String, string_bytes}
+use Rattle.std.specs.BTreeMap.{BTreeMap}
 use Rattle.std.specs.declared.alloc.Global.{Global}
-use Rattle.toml_ordered.specs.Data.{TomlNode, array, table, tables, push_item, TomlNodes, nodes_from, items_view, node_view}
+use Rattle.toml_ordered.specs.Data.{TomlNode, array, table, tables, counts, push_item, TomlNodes, nodes_from, items_view, node_view}
 use Rattle.toml_ordered.specs.declared.keys.LiveKeys.{LiveKeys}
 use Rattle.toml_ordered.specs.declared.tree.holder.Holder.{Holder}
 use Rattle.toml_ordered.specs.declared.tree.holder.Holder.TheVariants as holder
@@ -41,6 +41,16 @@ HasKey k at [] = ⊥
 HasKey k zero (m ∷ ms) = bytes_eq k (string_bytes m.0) ≡ true
 HasKey k (suc at) (m ∷ ms) = HasKey k at ms
 
--- and the index says so
-abbrev pub IsIndexedAt : List ℕ → ℕ → List (String Global × CodeNode × ℕ) → BTreeMap (String Global) ℕ → Type 0
-IsIndexedAt k at ms index = (get_by_text index k ≡ Some at) × HasKey k at ms
+-- Of a place that has the key: it counts there, and at no place before.
+abbrev pub CountsFirst : List ℕ → ℕ → List (String Global × CodeNode × ℕ) → BTreeMap (String Global) ℕ → Type 0
+CountsFirst k at ms index = (counts index at k ≡ true) × ((before : ℕ) → before < at → HasKey k before ms → counts index before k ≡ false)
+
+-- the key is at this place, and counts first there
+abbrev pub IsFoundAt : List ℕ → ℕ → List (String Global × CodeNode × ℕ) → BTreeMap (String Global) ℕ → Type 0
+IsFoundAt k at ms index = CountsFirst k at ms index × HasKey k at ms
+
+-- A key is noted at a place: it counts there, and each other key that counted, and each that didn't, at a place before, is as it was.
+abbrev pub IsNoted : List ℕ → ℕ → (old new : BTreeMap (String Global) ℕ) → Type 0
+IsNoted k at old new =
+    (counts new at k ≡ true)
+    × ((l : List ℕ) (before : ℕ) → before < at → (counts old before l ≡ true → bytes_eq k l ≡ false) → counts new before l ≡ counts old before l)

@@ -43,14 +43,14 @@ pub enum Node {
     Tables(Vec<Node>, Table),
 }
 
-/// A table. It has an index of its keys, so that none is searched for one by one.
+/// A table. Its first keys are searched for one by one, and the others by an index.
 #[derive(Drop)]
 #[cycle(tree)]
 pub struct Table {
     /// The keys, in the order in which they are first defined. Each has its value, and the number of bytes of the text that were left
     /// at the beginning of the expression that first defines it.
     pub(crate) keys: Vec<(String, Node, usize)>,
-    /// The place of each key. An entry at any other place than its key's counts for nothing.
+    /// The place of each key but the first ones. A key that is at any other place counts for nothing.
     pub(crate) index: BTreeMap<String, usize>,
 }
 
