@@ -84,6 +84,8 @@ pub struct Messages<W> {
 impl<W: Write> Messages<W> {
     /// Returns messages to this sink, whose last line is ended. None of them is lost.
     pub fn new(words: &'static Wording, sink: W) -> Self
+        ensures words { result.words.now ≡ words.now }
+        ensures sink { result.sink ≡ sink }
         ensures ended { result.has_open_line ≡ false }
         ensures kept { result.loss.is_some ≡ false }
     {

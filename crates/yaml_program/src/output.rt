@@ -1,6 +1,8 @@
 //! A file that is written beside the one that it replaces, so that the latter changes as a whole or not at all.
 //!
 //! (`create` and `replace` aren't inlined: in each call of the system a name takes 4 KB of stack, which is free again before texts are written.)
+ghost use Rattle.std.specs.Prelude.{◌≡◌};
+
 use std::fs::{File, TryLockError};
 use std::io::ErrorKind;
 use std::os::unix::fs::MetadataExt;
@@ -161,7 +163,9 @@ impl Beside {
     }
 
     /// Returns the file that is written.
-    pub fn file(&self) -> &File {
+    pub fn file(&self) -> &File
+        ensures { result.now ≡ self.now.file }
+    {
         &self.file
     }
 

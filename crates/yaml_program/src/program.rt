@@ -4,7 +4,7 @@ ghost use Rattle.std.specs.IoError.{error_kind};
 ghost use Rattle.std.specs.Prelude.{◌≡◌, ◌≢◌, ◌≤◌, IfErr, IfOk, OnOk, Some, codes, false, option_map, true};
 ghost use Rattle.std.specs.Io.Buffered.{writer_contents, writer_inner};
 ghost use Rattle.clap.specs.Values.{kind_of};
-ghost use Rattle.yaml_program.specs.Conversions.{AllDone, EndsOtherwise, HaveNoYaml, HaveYaml, IsDone, IsRefusedByOptions, IsUndone, OfFiles};
+ghost use Rattle.yaml_program.specs.Conversions.{AllDone, ComparesNothing, EndsOtherwise, HaveNoYaml, HaveYaml, IsDone, IsRefusedByOptions, IsUndone, OfFiles};
 ghost use Rattle.yaml_program.specs.Conversions.{RefusesConversion, SomeUndone, WroteConversion, WroteToStream, names_of};
 ghost use Rattle.yaml_program.specs.Faults as statuses;
 ghost use Rattle.yaml_program.specs.Messages.{Told, is_memory_kind, message_line};
@@ -284,6 +284,7 @@ pub fn serve<
     ensures undone { result ≡ 1 → IfOk asked.now (λ conversion. SomeUndone F.is_yaml F.ending (S.bytes_of sources.now) conversion conversion.each) }
     ensures options { result ≡ 2 → IfOk asked.now (λ conversion. IsRefusedByOptions F.allows_depth F.ending conversion) }
     ensures bounded { IfOk asked.now (λ conversion. F.allows_depth conversion.format ≡ false → result ≡ 2) }
+    ensures compared { IfOk asked.now (λ conversion. ComparesNothing conversion → result ≡ 2) }
     ensures refused { IfErr asked.now (λ error. statuses.IsStatusOfUsage (kind_of error) result) }
 {
     match asked {
