@@ -82,21 +82,33 @@ def without_heading(data, breaks12):
     return text.encode()
 
 
-def begins_with_blank_line(data, breaks12):
-    """Whether the first line of a stream is blank."""
-    return re.match(" *[" + breaks_of(breaks12) + "]", readers.normalize(readers.decode_stream(data))) is not None
+def holds_otherwise(text, breaks12):
+    """Whether a text that the model refuses may have a comment that the definition reads, since the model reads only those that it writes: with a
+    space after `#`, at the column of what follows. Or whether a line of spaces alone comes before the first document, which the model passes
+    over."""
+    blanks = breaks_of(breaks12)
+    return re.search("(?:^|[ " + blanks + "])#", text) is not None or re.match("[" + blanks + "]* +[" + blanks + "]", text) is not None
+
+
+def has_line_comment(node):
+    """Whether a comment is at the end of a line of a node, as `found_comments.found` gives it."""
+    own, children = (node[1], []) if node[0] == "leaf" else (node[3], node[4])
+    if own is not None: return True
+    return any(has_line_comment(each) for child in children for each in (child if isinstance(child[0], tuple) else [child]))
 
 
 def stream_read(data, breaks12):
-    """The documents in some bytes, or None; 'differs' where the model's two readers don't agree. The definition knows no comments but a
-    heading, and no blank lines before a document: where the model passes over such lines, it has no reading."""
+    """The documents in some bytes, or None; 'differs' if the model's two readers don't agree, or if the definition goes by other rules: it reads
+    no comments at the end of a line of text, and comments on lines of their own that the model refuses."""
     data = without_heading(data, breaks12)
     one, other = (reader.read_with_comments(data, breaks_of(breaks12)) for reader in (stream_reader, lines_reader))
     if one != other: return "differs"
+    text = readers.decode_stream(data)
+    if text is not None and holds_otherwise(readers.normalize(text), breaks12) and one is None: return "differs"
     if one is None: return None
     documents = stream_reader.documents_alone(one)
-    has_comments = found_comments.count(found_comments.found(one)) > 0
-    return None if has_comments or documents != [] and begins_with_blank_line(data, breaks12) else documents
+    if documents != [] and holds_otherwise(readers.normalize(text).split("#")[0], breaks12): return "differs"
+    return "differs" if any(has_line_comment(root) for _, _, root in found_comments.found(one)[0]) else documents
 
 
 def first_encoding(events):
