@@ -66,7 +66,7 @@ abbrev pub without_last_comments : List Line → List Line
 without_last_comments [] = []
 without_last_comments (line ∷ rest) = prepend_content line (without_last_comments rest)
 
--- true of a word that opens a block scalar, if it says no indentation past 1 (YAML 1.1, section 9.2.1 Block Scalar Header, c-b-block-header(s,t))
+-- true of a word that opens a block scalar, if it says no indentation past 1 (YAML 1.1, section 9.2 Block Scalar Header, c-b-block-header)
 abbrev pub opens_block_scalar : Text → Bool
 opens_block_scalar [] = false
 opens_block_scalar (c ∷ rest) = (c == 0x7C || c == 0x3E) && not (list_any (is_among (codes "23456789")) rest)
