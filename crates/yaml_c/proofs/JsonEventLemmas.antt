@@ -107,6 +107,7 @@ over_emitter : (settings : JsonSettings) (text : List ℕ) (before : State) (now
 over_emitter settings text before now (Ok done) utf8 none unclosed writes some =
     let wrote = writes.written in
     record {
+      sound = none;
       utf8 = utf8;
       json = wrote.json;
       read = wrote.read;
@@ -119,6 +120,7 @@ over_emitter settings text before now (Err error) utf8 none unclosed writes some
     let still : now.emitter.closed ≡ false = stops.emits.set.closed ∙ unclosed in
     inr
     (record {
+      sound = none;
       stopped = now.emitter;
       stops = record {
         utf8 = utf8;
@@ -158,7 +160,7 @@ by_outcome settings text before after now result (Answered same) utf8 none unclo
     GaveJson settings.values.depth settings.unique_names settings.values.flow text (Answered r) before (closed_after result now.emitter))
     (sym settles.0) (over_emitter settings text before now result utf8 none unclosed writes settles.2))
 by_outcome settings text before after now result NoMemory utf8 none unclosed writes settles =
-    settles.3 ∙ same_emitter settings text before now result writes settles.0 settles.1 settles.2
+    (none, settles.3 ∙ same_emitter settings text before now result writes settles.0 settles.1 settles.2)
 
 -- By a writer that was made of the emitter, which was put back and maybe closed.
 pub gave_json : (settings : JsonSettings) (text : List ℕ) (before stopped after : State) (was now : WriterState) (result : Result (Unit {0}) JsonError)

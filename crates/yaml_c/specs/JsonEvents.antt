@@ -27,6 +27,7 @@ use Rattle.yaml_c.specs.declared.results.CallResult.{CallResult}
 
 -- True if the text is JSON nested at most `depth` deep, with each name once in its object if that is asked for, and its events were given.
 pub record GaveText (depth : ℕ) (unique in_flow : Bool) (text : List ℕ) (before after : State) : Type 0 where
+  pub sound : before.error ≡ None
   pub utf8 : IsUtf8 text
   pub json : Json
   pub read : value depth (tokens text) ≡ Some (json, [])
@@ -60,7 +61,7 @@ HadError before error = (code : yaml_error_t) × (before.error ≡ Some code) ×
 
 -- True if nothing was given, since the emitter had failed before or the text isn't UTF-8.
 abbrev pub GaveNothing : List ℕ → State → JsonError → State → Type 0
-GaveNothing text before error after = (after ≡ before) × (HadError before error ⊎ IsNoUtf8 text error)
+GaveNothing text before error after = (after ≡ before) × (HadError before error ⊎ ((before.error ≡ None) × IsNoUtf8 text error))
 
 -- True of an error of the emitter or of memory.
 abbrev pub is_writers_error : Result (Unit {0}) JsonError → Bool
@@ -82,18 +83,20 @@ SettlesAs result levels NoMemory before after =
 -- True if the events of the text's first tokens were given, and no more, for this reason. If it is the emitter's error, or memory that ran
 -- out, each later call tells it. The emitter is closed only if there were events.
 pub record FailedInText (depth : ℕ) (unique in_flow : Bool) (text : List ℕ) (before : State) (error : JsonError) (after : State) : Type 0 where
+  pub sound : before.error ≡ None
   pub stopped : State
   pub stops : StoppedInText depth unique in_flow text before error stopped
   pub closes : after ≡ closed_after (Err error) stopped
   pub lasts : (code : yaml_error_t) → error ≡ errors.Emitter code → lasting_error after ≡ Some code
   pub begun : after.closed ≡ true → stops.taken ≢ []
 
--- True if the text was given with this outcome. If memory ran out before an event was given, nothing changed.
+-- True if the text was given with this outcome. An emitter that had failed before tells its error. If memory ran out before an event was
+-- given, nothing changed.
 abbrev pub GaveJson : (depth : ℕ) → (unique in_flow : Bool) → List ℕ → TextGiving → State → State → Type 0
 GaveJson depth unique in_flow text (Answered (Ok done)) before after = GaveText depth unique in_flow text before after
 GaveJson depth unique in_flow text (Answered (Err error)) before after =
     GaveNothing text before error after ⊎ FailedInText depth unique in_flow text before error after
-GaveJson depth unique in_flow text NoMemory before after = after ≡ before
+GaveJson depth unique in_flow text NoMemory before after = (before.error ≡ None) × (after ≡ before)
 
 -- True if the status and the report are those of the outcome: 0 for a text that was given, 5 if it isn't JSON, 6 if it nests too deep, 7 if
 -- an object gives a name twice; 3 or 1 by the emitter's error; 3 and no error if memory ran out before an event was given.
