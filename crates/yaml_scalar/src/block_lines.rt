@@ -173,6 +173,9 @@ fn write_verbatim<A: Allocator>(
     requires stays { list_all (step.stays_at (limit_of lines.width) place) (chars run.now) ≡ true }
     ensures { Wrote (render_text (chars run.now)) pen.old pen.new result }
 {
+    if run.is_empty() {
+        return pen.write_nothing();
+    }
     match place {
         Place::LineStart => pen.write_line_feeds(run.len()),
         Place::Folding => pen.write_run(run),

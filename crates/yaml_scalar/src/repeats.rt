@@ -60,7 +60,12 @@ pub(crate) fn repeats_after(character: char, rest: &str, quoted: bool) -> Repeat
     ensures { AreRepeats quoted character result rest.now }
 {
     if quoted & (character == '\'') {
-        return Repeats::Quotes(leading_copies(rest, b'\''));
+        let count = leading_copies(rest, b'\'');
+        return if count == 0 {
+            Repeats::Nothing
+        } else {
+            Repeats::Quotes(count)
+        };
     }
     if character != '\n' {
         return Repeats::Nothing;

@@ -1,7 +1,13 @@
-use Rattle.yaml_scalar.proofs.Common.{refl, sym, subst, Wrote, Text, chars, render_text, stays_at, limit_of}
+use Rattle.yaml_scalar.proofs.Common.{length, eqb-true, chars-nil, nil_from_length, ap, ◌∙◌, ◌≡◌, refl, sym, subst, Wrote, Text, chars, render_text, stays_at, limit_of}
 use Rattle.yaml_scalar.proofs.{Repeated.all_line_feeds, WholeRuns.all_unbroken, blocks.BlockStays.stays_unbroken}
 use Rattle.yaml_scalar.specs.declared.block_lines.Place.TheVariants.{Folding, Fixed}
 use Rattle.yaml_scalar.proofs.block_lines.write_verbatim.Goals as goal
+
+pub returns-then-is_empty : goal.returns-then-is_empty
+returns-then-is_empty g c =
+    let none : length c.args.run.now ≡ 0 = eqb-true _ 0 (sym c.is_empty.ensures ∙ c.if-is_empty.true) in
+    subst (λ (t : Text). Wrote (render_text t) c.args.pen.now c.args.pen.now c.write_nothing.result)
+    (sym (ap chars (nil_from_length c.args.run.now none) ∙ chars-nil)) c.write_nothing.ensures
 
 pub returns-in-LineStart : goal.returns-in-LineStart
 returns-in-LineStart g c =
