@@ -2,7 +2,7 @@
 use Rattle.yaml_base.proofs.Common.{ℕ, ◌+◌, ◌<◌, ◌≤◌, count_by, is_none, option_and_then, Option, None, Some, nat_lt, length, Bool, cond, false, not, true}
 use Rattle.yaml_base.proofs.Common.{◌&&◌, List, [], ◌++◌, ◌∷◌, refl, ◌≡◌, lt-ltb, ltb-true, append-nil, append_assoc, ap, sym, ◌∙◌, arith, list_all-append}
 use Rattle.yaml_base.proofs.Common.{sum_by-append, list_all, option_or, Event, stream_end, document_end, sequence_end, mapping_end, Level, at_item, at_key}
-use Rattle.yaml_base.proofs.Common.{at_value, Partial, before_stream, and_from, and_parts, between_documents, within_document, after_root, after_stream, push}
+use Rattle.yaml_base.proofs.Common.{at_value, Partial, before_stream, and_from, and_parts, within_document, after_stream, push}
 use Rattle.yaml_base.proofs.Common.{pushed, partial_of, empty_scalar, outer_missing, levels_missing, missing, missing_after, completion, some_if}
 use Rattle.yaml_base.proofs.Common.{name_or_tag_fault, content_fault, expected, place_fault, most_open, begins_collection, ends_collection, open_levels}
 use Rattle.yaml_base.{proofs.NoFaults.neither, proofs.NoFaults.is_none_none, proofs.OpenCounts.open_count-levels, proofs.Pushes.partial_of_events}

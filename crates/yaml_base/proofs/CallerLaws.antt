@@ -1,19 +1,19 @@
 -- Laws of the definitions that serve callers.
 use Rattle.yaml_base.proofs.Common.{and_from, and_parts, or_from}
-use Rattle.yaml_base.proofs.Common.{arith, ℕ, if◌then◌else◌, unwrap_or, option_map, Option, None, Some, Bool, false, not, true, ◌&&◌, ◌||◌, List, []}
+use Rattle.yaml_base.proofs.Common.{arith, ℕ, if◌then◌else◌, unwrap_or, option_map, Option, None, Some, Bool, false, true, ◌&&◌, ◌||◌, List, []}
 use Rattle.yaml_base.proofs.Common.{◌++◌, ◌∷◌, refl, ◌≡◌, ap, sym, ◌∙◌, or_parts, Text, Cursor, Rendered, render_then, encode, cut, ScalarStyle, any_style}
-use Rattle.yaml_base.proofs.Common.{plain, single_quoted, double_quoted, literal, folded, TagDirective, Scalar, Collection, Event, stream_start, stream_end}
+use Rattle.yaml_base.proofs.Common.{TagDirective, Scalar, Collection, Event, stream_start, stream_end}
 use Rattle.yaml_base.proofs.Common.{document_start, document_end, alias, scalar, sequence_start, sequence_end, mapping_start, mapping_end, scalar_tag}
 use Rattle.yaml_base.proofs.Common.{Stream, stream_events, tree_of, first_standing, layout, Piece, Standing, RenderedPiece, piece_without_body}
 use Rattle.yaml_base.proofs.Common.{render_properties, render_alias, render_separation, render_body, open_ended_after, choice_of, body_at}
-use Rattle.yaml_base.proofs.Common.{Brackets, square, curly, render_end, Role, as_root, as_item, as_key, as_value, Place, is_key}
-use Rattle.yaml_base.proofs.Common.{is_undented, deeper, is_simple_scalar, is_simple_collection, render_flow_place, render_place, settings_for, text_written}
+use Rattle.yaml_base.proofs.Common.{Brackets, square, curly, render_end, Role, as_root, as_item, as_key, Place, is_key}
+use Rattle.yaml_base.proofs.Common.{is_undented, is_simple_scalar, is_simple_collection, render_flow_place, render_place, settings_for, text_written}
 use Rattle.yaml_base.proofs.Common.{bytes_written, list_layout, Encoding, Effective, effective, Frame, Stage, at_stream, at_document, at_node, at_document_end}
 use Rattle.yaml_base.proofs.Common.{next_place, Stepped, leaf_step, start_step, step, ends_next, Steps, then_steps, steps}
 use Rattle.yaml_base.proofs.Common.{begins_no_plain, holds_no_plain, read_plain, ChosenStyle}
 use Rattle.yaml_base.{proofs.Common.nat_tests, proofs.Decoding.decode-encode, proofs.StepLaws.stream_steps, proofs.Trees.tree_of-stream_events}
 use Rattle.yaml_base.{specs.Decode.decode, specs.Settings.escapes_separators, specs.Steps.end_step, specs.Steps.node_step}
-use Rattle.yaml_base.specs.Layout.{is_simple_alias, scalar_piece}
+use Rattle.yaml_base.specs.Layout.{scalar_piece}
 use Rattle.yaml_base.specs.Laws.{TreeIsFound, IsPlainInside, PlainHoldsNoIndicator, LimitCuts, EncodingsAgree, BreaksAgree}
 use Rattle.std.proofs.lemmas.List.{take-take}
 

@@ -7,7 +7,7 @@ use Rattle.yaml_base.proofs.Common.{sym, ◌∙◌, if◌then◌else◌, eqb-tru
 use Rattle.yaml_base.proofs.Common.{Text, line_separator, paragraph_separator, is_ascii, is_printable, Charset, somewhere, is_empty, is_special, bars_block}
 use Rattle.yaml_base.proofs.Common.{is_blank_to_line_end, begins_with_blanks_alone, bars_literal, allows_literal, is_literal}
 use Rattle.yaml_base.proofs.Common.{allows_block, Effective, Scalar, charset_of, allowed_under}
-use Rattle.yaml_base.specs.scalars.Analysis.{begins_unlike_plain, bars_plain, allows_plain, allows_single_quoted}
+use Rattle.yaml_base.specs.scalars.Analysis.{allows_plain, allows_single_quoted}
 use Rattle.yaml_base.specs.scalars.Analysis.{begins_with, is_trailing_space}
 
 -- an alternative that holds if another one does

@@ -60,7 +60,7 @@ hashed_fits : (text : Text) → list_all fits_comment text ≡ true → list_all
 hashed_fits [] fits = refl
 hashed_fits (c ∷ rest) fits = hashed_fits_if c rest (c == hash) fits
 
-indented_fits : (n : ℕ) (text : Text) → list_all fits_comment (replicate n space ++ comment_written text) ≡ true
+pub indented_fits : (n : ℕ) (text : Text) → list_all fits_comment (replicate n space ++ comment_written text) ≡ true
 indented_fits n text =
     list_all-append fits_comment (replicate n space) (comment_written text)
     ∙ and_from (list_all fits_comment (replicate n space)) (list_all fits_comment (comment_written text)) (spaces_fit n)

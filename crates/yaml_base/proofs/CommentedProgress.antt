@@ -1,6 +1,6 @@
 -- As a list of events with comments grows, the pieces of the ready ones stay.
-use Rattle.yaml_base.proofs.Common.{ℕ, zero, suc, ◌+◌, ◌≤◌, Bool, false, List, [], ◌∷◌, ◌++◌, ◌≡◌, ◌&&◌, refl, ap, subst, sym, ◌∙◌, and-false, drop, take}
-use Rattle.yaml_base.proofs.Common.{length, map, map-append, length-map, Event, at_stream, ends_next, first_ends_collection, last_closes_at_once, written}
+use Rattle.yaml_base.proofs.Common.{ℕ, zero, suc, ◌≤◌, Bool, false, List, [], ◌∷◌, ◌++◌, ◌≡◌, ◌&&◌, refl, ap, subst, sym, ◌∙◌, and-false, drop, take}
+use Rattle.yaml_base.proofs.Common.{length, map-append, length-map, Event, at_stream, ends_next, first_ends_collection, last_closes_at_once, written}
 use Rattle.std.proofs.lemmas.List.{drop-append-le, drop-map, length-take-le, take-append-le, take-map}
 use Rattle.std.proofs.Math.Seq.{take-add}
 use Rattle.yaml_base.proofs.{CommentedPieces.begun_commented, CommentedPieces.commented_steps-append, CommentedPieces.open_commented, Progress.written-append}

@@ -3,7 +3,7 @@ use Rattle.yaml_base.proofs.Common.{ℕ, Bool, true, false, not, ◌&&◌, Optio
 use Rattle.yaml_base.proofs.Common.{and-false, codes, true≢false, Text, space, is_some, flat_map-append, flat_map, Cursor, Rendered, Standing, RenderedPieces}
 use Rattle.yaml_base.proofs.Common.{Piece, text_of, piece_text, one_piece, then_pieces, Place, render_place, Effective, effective, directives_in_force}
 use Rattle.yaml_base.proofs.Common.{TagDirective, character_text, double_inside, render_properties, render_anchor, Spelling, shorthand, verbatim, spelled}
-use Rattle.yaml_base.specs.{Cursor.render_text, Cursor.space_if, values.TypedValues.typed_settings, values.ValueText.in_quotes}
+use Rattle.yaml_base.specs.{Cursor.render_text, Cursor.space_if, graphs.DumpedText.in_quotes, values.TypedValues.typed_settings}
 use Rattle.yaml_base.proofs.Common.{Scalar, arith, nat_tests}
 use Rattle.yaml_base.specs.NodeLayout.{alias_piece, render_spelling, scalar_piece}
 use Rattle.yaml_base.specs.graphs.DumpedText.{anchor_text, tag_text, scalar_properties}

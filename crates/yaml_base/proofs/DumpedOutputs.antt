@@ -2,10 +2,11 @@
 use Rattle.yaml_base.proofs.Common.{Bool, true, false, Option, None, Some, List, [], ◌∷◌, ◌++◌, refl, ◌≡◌, ap, sym, ◌∙◌, append_assoc, append-nil, codes, Text}
 use Rattle.yaml_base.proofs.Common.{line_feed, eqb-true, option_map, unwrap_or, flat_map-append, Standing, Piece, text_of, piece_text, layout, root_place}
 use Rattle.yaml_base.proofs.Common.{render_node, document_end_piece, stream_end_piece, first_standing, with_breaks_written, line_feed_break, encode, cut, utf8}
-use Rattle.yaml_base.proofs.Common.{bytes_written, output_of, Encoding, Event, stream_start, stream_end, DocumentStart, Document, Documents, Stream}
+use Rattle.yaml_base.proofs.Common.{text_written, bytes_written, list_layout, output_of, Encoding, Event, stream_start, stream_end, DocumentStart, arith}
 use Rattle.yaml_base.{specs.Settings.largest_usize, specs.values.TypedValues.typed_settings, proofs.DocumentsUnfold.document_unfolds}
 use Rattle.yaml_base.{proofs.DumpedTexts.node_writes, proofs.Trees.one_tree, proofs.Trees.tree_of-stream_events}
-use Rattle.yaml_base.proofs.Common.{documents_and, no_documents, stream_events, Node, Graph, document_event_list, IsDumpOf, IsWholeGraph, All-head, arith}
+use Rattle.yaml_base.proofs.Common.{Document, Documents, documents_and, no_documents, Stream, stream_events, Node, Graph, document_event_list, IsDumpOf}
+use Rattle.yaml_base.proofs.Common.{IsWholeGraph, All-head}
 use Rattle.yaml_base.specs.graphs.DumpedText.{HasDumpedText, HaveText, IsBareDocument, dumped_text, node_text}
 use Rattle.yaml_base.proofs.DumpedLeaves.{Writes, force, s}
 
@@ -53,13 +54,24 @@ breaks_same : (text : Text) → with_breaks_written line_feed_break text ≡ tex
 breaks_same [] = refl
 breaks_same (c ∷ rest) = grind (arith, eqb-true, breaks_same rest)
 
--- the output of a tree's events
+-- the text of a tree
+pub tree_text : (encoding : Option Encoding) (implicit : Bool) (root : Node)
+    → text_written s (layout s (stream_alone encoding (bare_document implicit root))) ≡ dumped_text root
+tree_text encoding implicit root =
+    breaks_same (text_of (layout s (stream_alone encoding (bare_document implicit root)))) ∙ layout_is encoding implicit root
+
+-- the bytes of its events, before any limit
+pub tree_bytes : (encoding : Option Encoding) (implicit : Bool) (root : Node)
+    → bytes_written s (list_layout s (stream_events (stream_alone encoding (bare_document implicit root)))) ≡ encode (Some utf8) (dumped_text root)
+tree_bytes encoding implicit root =
+    ap (λ (t : Option Stream). bytes_written s (unwrap_or (option_map (layout s) t) []))
+    (tree_of-stream_events (stream_alone encoding (bare_document implicit root)))
+    ∙ ap (encode (Some utf8)) (tree_text encoding implicit root)
+
+-- their output
 pub tree_output : (encoding : Option Encoding) (implicit : Bool) (root : Node)
     → output_of typed_settings (stream_events (stream_alone encoding (bare_document implicit root))) ≡ cut largest_usize (encode (Some utf8) (dumped_text root))
-tree_output encoding implicit root =
-    let stream = stream_alone encoding (bare_document implicit root) in
-    ap (λ (t : Option Stream). cut largest_usize (bytes_written s (unwrap_or (option_map (layout s) t) []))) (tree_of-stream_events stream)
-    ∙ ap (λ t. cut largest_usize (encode (Some utf8) t)) (breaks_same (text_of (layout s stream)) ∙ layout_is encoding implicit root)
+tree_output encoding implicit root = ap (cut largest_usize) (tree_bytes encoding implicit root)
 
 -- a document that is bare
 bare_is : (document : Document) → IsBareDocument document.start document.end_implicit → document ≡ bare_document document.start.implicit document.root

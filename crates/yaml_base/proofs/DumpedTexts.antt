@@ -5,7 +5,7 @@ use Rattle.yaml_base.proofs.Common.{root_place, entry_place, Role, as_item, as_k
 use Rattle.yaml_base.proofs.Common.{has_no_pairs, render_node, render_nodes, render_pairs, is_simple, Brackets, square, curly, start_piece, is_undented}
 use Rattle.yaml_base.proofs.Common.{render_properties, opening_or_comma, flow_break, key_indicator, Collection, Node, alias_node, scalar_node, sequence_node}
 use Rattle.yaml_base.proofs.DumpedLeaves.{Writes, alias_writes, force, lead, led, properties_are, s, scalar_writes, standing_at, text_of-append, writes_text}
-use Rattle.yaml_base.{specs.Cursor.space_if, specs.values.ValueText.in_quotes, specs.values.ValueText.line_at, proofs.DumpedLeaves.writes_then}
+use Rattle.yaml_base.{specs.Cursor.space_if, specs.graphs.DumpedText.in_quotes, specs.graphs.DumpedText.line_at, proofs.DumpedLeaves.writes_then}
 use Rattle.yaml_base.proofs.Common.{mapping_node, Nodes, no_nodes, nodes_and, Pairs, no_pairs, pairs_and, arith, nat_tests}
 use Rattle.yaml_base.specs.Indicators.{render_indicator, opening_bracket}
 use Rattle.yaml_base.specs.NodeLayout.{alias_piece, end_piece, render_collection, scalar_piece}

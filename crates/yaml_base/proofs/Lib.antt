@@ -39,7 +39,6 @@ pub mod DocumentsUnfold
 pub mod DumpedLeaves
 pub mod DumpedTexts
 pub mod DumpedOutputs
-pub mod ValueTexts
 pub mod ContentsUnfold
 pub mod Twins
 pub mod SameShapes
@@ -53,6 +52,11 @@ pub mod stream_flow
 pub mod stream_keys
 pub mod stream_nodes
 pub mod stream_documents
+pub mod CommentLines
+pub mod CommentEntries
+pub mod CommentSections
+pub mod CommentBreaks
+pub mod CommentBlanks
 pub mod CallerLaws
 pub mod SchemaWords
 pub mod no_numbers

@@ -1,6 +1,6 @@
 -- How many collections are open: in a list's events, and in the partial tree that it is.
 use Rattle.yaml_base.proofs.Common.{ℕ, ◌+◌, count_by, Option, Some, length, cond, false, true, List, [], ◌++◌, ◌∷◌, refl, ◌≡◌, ap, sym, ◌∙◌, arith}
-use Rattle.yaml_base.proofs.Common.{sum_by-append, DocumentStart, Event, stream_start, stream_end, document_start, document_end, Node, alias_node, scalar_node}
+use Rattle.yaml_base.proofs.Common.{sum_by-append, DocumentStart, Event, stream_start, stream_end, document_start, document_end, Node}
 use Rattle.yaml_base.proofs.Common.{Nodes, sequence_node, Pairs, mapping_node, no_nodes, nodes_and, no_pairs, pairs_and, Document, Documents, no_documents}
 use Rattle.yaml_base.proofs.Common.{documents_and, node_events, nodes_events, pairs_events, document_events, documents_events, Level, at_item, at_key}
 use Rattle.yaml_base.proofs.Common.{at_value, Partial, before_stream, between_documents, within_document, after_root, after_stream, partial_of}

@@ -1,8 +1,8 @@
 -- The events held back: they begin with an event that awaits others, and no event of a whole stream is held back.
 use Rattle.yaml_base.proofs.Common.{suc, ℕ, ◌+◌, ◌≤◌, if◌then◌else◌, ◌==◌, count_by, nat_lt, drop, length, take, Bool, cond, false, true, ◌&&◌, ◌||◌, List, []}
 use Rattle.yaml_base.proofs.Common.{◌++◌, ◌∷◌, refl, ◌≡◌, eq-eqb, length-append, append_assoc, ap, ◌∙◌, arith, sum_by-append, and_right, or_right, list_any}
-use Rattle.yaml_base.proofs.Common.{Event, document_start, document_end, sequence_start, sequence_end, mapping_start, mapping_end, Node, nat_tests, alias_node}
-use Rattle.yaml_base.proofs.Common.{scalar_node, Nodes, sequence_node, Pairs, mapping_node, no_nodes, nodes_and, no_pairs, pairs_and, Document, Documents}
+use Rattle.yaml_base.proofs.Common.{Event, document_start, document_end, sequence_start, sequence_end, mapping_start, mapping_end, Node, nat_tests}
+use Rattle.yaml_base.proofs.Common.{Nodes, sequence_node, Pairs, mapping_node, no_nodes, nodes_and, no_pairs, pairs_and, Document, Documents}
 use Rattle.yaml_base.proofs.Common.{no_documents, documents_and, Stream, node_events, nodes_events, pairs_events, document_events, documents_events}
 use Rattle.yaml_base.proofs.Common.{stream_events, first_ends_collection, last_closes_at_once, awaited, is_balanced, nonempty_prefixes, is_ready, written}
 use Rattle.yaml_base.{proofs.ReadyLaws.any_map, proofs.ReadyLaws.any_prefix, specs.Ready.is_start, specs.Ready.is_end}

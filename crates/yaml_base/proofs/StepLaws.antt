@@ -1,6 +1,6 @@
 -- The pieces of a list, event by event, are those of its tree's layout.
 use Rattle.yaml_base.proofs.Common.{arith, ℕ, Bool, false, true, List, ◌++◌, ◌∷◌, refl, ◌≡◌, append-nil, append_assoc, ap, TagDirective, Event}
-use Rattle.yaml_base.proofs.Common.{sequence_end, mapping_end, Node, alias_node, scalar_node, Nodes, sequence_node, Pairs, mapping_node, no_nodes, nodes_and}
+use Rattle.yaml_base.proofs.Common.{sequence_end, mapping_end, Node, alias_node, Nodes, sequence_node, Pairs, mapping_node, no_nodes, nodes_and}
 use Rattle.yaml_base.proofs.Common.{no_pairs, pairs_and, Documents, no_documents, documents_and, Stream, node_events, nodes_events, pairs_events}
 use Rattle.yaml_base.proofs.Common.{document_events, documents_events, stream_events, has_no_documents, render_documents, first_standing}
 use Rattle.yaml_base.proofs.Common.{layout, Standing, RenderedPieces, then_pieces, start_piece, is_written_in_flow, entry_place, render_node, render_nodes}

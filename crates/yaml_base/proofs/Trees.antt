@@ -1,6 +1,6 @@
 -- A list of events has at most one tree: pushing a tree's events gives the tree back.
 use Rattle.yaml_base.proofs.Common.{arith, option_and_then, Option, Some, List, [], ◌++◌, ◌∷◌, refl, ◌≡◌, append_assoc, ap, sym, ◌∙◌, DocumentStart, Collection}
-use Rattle.yaml_base.proofs.Common.{Event, stream_end, sequence_end, mapping_end, Node, alias_node, scalar_node, Nodes, sequence_node, Pairs, mapping_node}
+use Rattle.yaml_base.proofs.Common.{Event, stream_end, sequence_end, mapping_end, Node, Nodes, sequence_node, Pairs, mapping_node}
 use Rattle.yaml_base.proofs.Common.{no_nodes, nodes_and, no_pairs, pairs_and, Documents, no_documents, documents_and, Stream, node_events}
 use Rattle.yaml_base.proofs.Common.{nodes_events, pairs_events, document_events, documents_events, stream_events, Level, at_item, at_key, at_value}
 use Rattle.yaml_base.proofs.Common.{between_documents, within_document, after_stream, with_node, pushed, partial_of, finish_stream, tree_of, Encoding}

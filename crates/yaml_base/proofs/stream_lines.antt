@@ -10,3 +10,4 @@ pub mod StreamStrip
 pub mod StreamUnread
 pub mod StreamDeepBreaks
 pub mod StreamBlockEnds
+pub mod StreamBlanks

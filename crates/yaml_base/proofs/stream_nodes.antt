@@ -25,3 +25,7 @@ pub mod StreamOwnBlocks
 pub mod StreamScalarsFit
 pub mod StreamEmptyFits
 pub mod StreamScalarLeaves
+pub mod StreamHeads
+pub mod StreamHeadedEntries
+pub mod StreamHeadedBlocks
+pub mod StreamTrailingHeads

@@ -11,10 +11,9 @@ use Rattle.yaml_base.specs.reading.ReadPlain.{is_read_white, begins_white, begin
 use Rattle.yaml_base.specs.Pieces.{list_layout}
 use Rattle.yaml_base.specs.Output.{settings_for, text_written, bytes_written, output_of}
 use Rattle.yaml_base.specs.graphs.Dumped.{IsDumpOf}
-use Rattle.yaml_base.specs.graphs.DumpedText.{HasDumpedText, HaveText, IsBareDocument, dumped_text}
+use Rattle.yaml_base.specs.graphs.DumpedText.{HasDumpedText, HaveText, IsBareDocument}
 use Rattle.yaml_base.specs.graphs.Meetings.{Graph}
-use Rattle.yaml_base.specs.values.TypedValues.{TypedValue, typed_settings, value_node}
-use Rattle.yaml_base.specs.values.ValueText.{document_text}
+use Rattle.yaml_base.specs.values.TypedValues.{typed_settings}
 
 -- a whole stream's events have a tree, and `tree_of` finds it
 abbrev pub TreeIsFound : Type 0
@@ -77,7 +76,3 @@ DumpsHaveTexts =
 -- events have at most one such text
 abbrev pub OneTextEach : Type 0
 OneTextEach = (events : List Event) (first second : Text) → HaveText events first → HaveText events second → first ≡ second
-
--- the canonical text of a value is that of its tree
-abbrev pub ValuesAreDumped : Type 0
-ValuesAreDumped = (value : TypedValue) → document_text value ≡ dumped_text (value_node value)

@@ -36,6 +36,7 @@ pub mod scripts
 pub mod TidyBodies
 pub mod WrittenTexts
 pub mod streams
+pub mod CommentReading
 pub mod StreamLaw
 pub mod values
 pub mod Laws

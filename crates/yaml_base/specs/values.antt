@@ -5,6 +5,5 @@ pub mod SchemaOf11
 pub mod SurelyText
 pub mod JsonNumbers
 pub mod LinesAndColumns
-pub mod ValueText
 pub mod UniqueKeys
 pub mod CanonicalTags

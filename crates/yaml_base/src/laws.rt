@@ -2,7 +2,7 @@
 ghost use Rattle.yaml_base.specs.Encoding.{OneText};
 ghost use Rattle.yaml_base.specs.Grammar.{OneTree};
 ghost use Rattle.yaml_base.specs.Laws.{BreaksAgree, EncodingsAgree, LimitCuts, PlainHoldsNoIndicator, TreeIsFound};
-ghost use Rattle.yaml_base.specs.Laws.{CanonicalOutputIsText, DumpsHaveTexts, OneTextEach, ValuesAreDumped};
+ghost use Rattle.yaml_base.specs.Laws.{CanonicalOutputIsText, DumpsHaveTexts, OneTextEach};
 ghost use Rattle.yaml_base.specs.Layout.{OnePieceEach};
 ghost use Rattle.yaml_base.specs.Pieces.{PiecesStand};
 ghost use Rattle.yaml_base.specs.Ready.{ReadyStays, WholeStreamIsReady};
@@ -53,12 +53,11 @@ pub fn documents_unfold()
 
 /// States that under the settings of canonical values the bytes of one document that has no directives, and whose end is implicit, are
 /// the encoding of one text, which is defined by recursion over the tree of its events (`DumpedText`). So they are of one dumped
-/// document, whose tree unfolds its graph. The canonical text of a typed value is that of its tree.
+/// document, whose tree unfolds its graph. The canonical text of a typed value is that of its tree by definition.
 pub fn canonical_documents_have_texts()
     ensures output { CanonicalOutputIsText }
     ensures dumped { DumpsHaveTexts }
     ensures one { OneTextEach }
-    ensures values { ValuesAreDumped }
 {}
 
 /// States that the tree of a whole stream's events is found.

@@ -1,5 +1,6 @@
 -- Streams with comments on lines of their own, computed: where they are skipped, where they are content, and where they are refused.
-use Rattle.yaml_base.proofs.Common.{Some, pos, codes, false, true, [], ◌∷◌, refl, ◌≡◌, None, stream_trees, no_tree_pairs, mapping_tree}
+use Rattle.yaml_base.proofs.Common.{Some, pos, codes, false, true, [], ◌∷◌, refl, ◌≡◌, None, ◌++◌, lines_of, stream_trees, no_tree_pairs, mapping_tree}
+use Rattle.yaml_base.specs.CommentReading.{blanks, blank_text}
 use Rattle.std.specs.{Char.encode_utf8, Str.chars, Str.is_utf8}
 use Rattle.yaml_base.proofs.rows.StreamTrees.{document, only, bare_word, in_quotes, items, pair, pairs, pairs_after}
 use Rattle.yaml_base.proofs.rows.Cases.{Gives, reads_none}
@@ -119,3 +120,7 @@ refused : reads_none (stream_trees false) (codes "? k\n# c\n: v\n" ∷ codes "- 
     ∷ codes "a\n # c\n" ∷ []) ≡ true
 unfolding chars is_utf8 encode_utf8
 refused = refl
+
+-- blank lines after a text are lines of their own
+blank_lines_after : lines_of false (codes "a\n" ++ blank_text 2) ≡ record { text = codes "a"; ending = codes "\n" } ∷ blanks 2
+blank_lines_after = refl

@@ -1,6 +1,6 @@
 -- Typed values, computed: their bytes, their content, their nesting and their count.
 use Rattle.yaml_base.specs.values.TypedValues.{TypedValue, null_value, bool_value, int_value, text_value, list_value, map_value, no_values, values_and}
-use Rattle.yaml_base.{specs.values.ValueText.document_text, proofs.rows.Cases.Gives}
+use Rattle.yaml_base.{specs.graphs.DumpedText.document_text, proofs.rows.Cases.Gives}
 use Rattle.yaml_base.proofs.Common.{Some, codes, negsuc, pos, false, true, [], ◌∷◌, refl, ◌≡◌, canonical_content}
 use Rattle.yaml_base.specs.values.TypedValues.{no_value_pairs, value_pairs_and, typed_content, value_count, nesting, typed_output}
 use Rattle.std.specs.{Char.encode_utf8, Fmt.digits, Str.chars, Str.is_utf8}

@@ -6,10 +6,11 @@ use Rattle.yaml_base.proofs.Common.{alias_node, scalar_node, sequence_node, mapp
 use Rattle.yaml_base.proofs.Common.{render_body, choice_of, Brackets, square, curly, empty_or_comma, render_end, deeper, has_no_nodes, has_no_pairs, Effective}
 use Rattle.yaml_base.proofs.stream_lines.StreamDeepBreaks.{after_breaks, begins_deep, Deep, Keeps, after_both, after_weaker, after_line_of, deep_keeps}
 use Rattle.yaml_base.proofs.{stream_documents.StreamRootsStand.is_leaf, stream_nodes.StreamOwnWords.deep_more, stream_nodes.StreamProperties.IsNamed}
-use Rattle.yaml_base.proofs.Common.{has_deep_lines, is_tidy_style, is_empty, marker_of, lines_of, name_read, is_break, list_any, nat_tests}
+use Rattle.yaml_base.proofs.Common.{has_deep_lines, is_tidy_style, is_empty, lines_of, name_read, is_break, list_any, nat_tests}
 use Rattle.yaml_base.proofs.stream_lines.StreamLineLaws.{OneLine, one_line_both, unbroken_line}
-use Rattle.yaml_base.proofs.stream_lines.StreamSections.{is_content, AllMarkerless}
+use Rattle.yaml_base.proofs.stream_lines.StreamSections.{is_content, all_content, AreContent}
 use Rattle.yaml_base.proofs.stream_lines.StreamMarkerless.{inside_content, all_markerless}
+use Rattle.yaml_base.proofs.Common.{subst, sym}
 use Rattle.yaml_base.proofs.stream_flow.StreamFlowDeep.{properties_line, indicator_deep, alias_deep, items_deep, pairs_deep}
 use Rattle.yaml_base.proofs.stream_lines.StreamClosed.{closing, closed, spaces_line, after_line}
 use Rattle.yaml_base.proofs.stream_lines.StreamDeepBreaks.{space_line, lines_pass, deep_first}
@@ -62,14 +63,14 @@ end_markerless s brackets empty cursor h h2 h3 =
 
 -- no line of a text up to its end after the first is a marker
 abbrev pub AfterMarkerless : Bool → Rendered → Type 0
-AfterMarkerless breaks12 own = AllMarkerless (lines_after_first (lines_of breaks12 (closed own)))
+AfterMarkerless breaks12 own = AreContent (lines_after_first (lines_of breaks12 (closed own)))
 
 -- so it is for a text that is so, whose last line a break ends
 fed_markerless : (breaks12 : Bool) (own : Rendered) → own.cursor.indention ≡ false → Markerless breaks12 own.text → AfterMarkerless breaks12 own
 fed_markerless breaks12 own ends h =
-    ap (λ x. list_all (λ line. is_content line.text)
+    all_content _ (ap (λ x. list_all (λ line. is_content line.text)
     (lines_after_first (lines_of breaks12 (own.text ++ (if x then [] else line_feed ∷ []))))) ends
-    ∙ lines_pass breaks12 (begins_markerless breaks12) is_content (first_markerless breaks12) own.text h
+    ∙ lines_pass breaks12 (begins_markerless breaks12) is_content (first_markerless breaks12) own.text h)
 
 -- a collection in flow at the root, if its entries are deep
 collection_markerless : (s : Effective) (own directives : List TagDirective) (brackets : Brackets) (anchor tag : Option Text) (empty : Bool) (cursor : Cursor)
@@ -122,12 +123,12 @@ scalar_markerless s own directives cursor content names stands =
     (separation_line s.breaks12 choice.style false content.value properties.cursor) in
     let tidy = and_parts (list_all (is_tidy_character choice.style) body.text && has_deep_lines s.breaks12 1 body.text)
     (is_tidy_style choice.style s.breaks12 body.text) stands.tidy in
-    ap (λ t. list_all (λ line. is_content line.text) (lines_after_first (lines_of s.breaks12 t)))
-    (append_assoc prefix body.text (closing body.cursor))
-    ∙ ap (list_all (λ line. is_content line.text)) (after_line s.breaks12 prefix (closed body) one)
-    ∙ all_markerless true (lines_after_first (lines_of s.breaks12 (closed body)))
+    subst AreContent
+    (sym (ap (λ t. lines_after_first (lines_of s.breaks12 t)) (append_assoc prefix body.text (closing body.cursor))
+    ∙ after_line s.breaks12 prefix (closed body) one))
+    (all_markerless true (lines_after_first (lines_of s.breaks12 (closed body)))
     (deep_lines_inside s.breaks12 0 (closed body)
-    (closed_deep s.breaks12 1 body (and_parts (list_all (is_tidy_character choice.style) body.text) (has_deep_lines s.breaks12 1 body.text) tidy.0).1))
+    (closed_deep s.breaks12 1 body (and_parts (list_all (is_tidy_character choice.style) body.text) (has_deep_lines s.breaks12 1 body.text) tidy.0).1)))
 
 -- Nodes
 

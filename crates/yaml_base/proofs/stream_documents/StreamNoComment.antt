@@ -92,7 +92,7 @@ no_text rules column properties text ending rest =
 
 -- Documents
 
-no_marker : (text : Text) → marker_of (0x23 ∷ text) ≡ no_exclamation
+pub no_marker : (text : Text) → marker_of (0x23 ∷ text) ≡ no_exclamation
 no_marker [] = refl
 no_marker (c ∷ []) = refl
 no_marker (c ∷ d ∷ rest) = refl

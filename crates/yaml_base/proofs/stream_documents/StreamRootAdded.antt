@@ -1,6 +1,6 @@
 -- A root after `---`, or one without it at a stream's start, is one document more of the stream.
 use Rattle.yaml_base.proofs.Common.{arith, ℕ, ◌≤◌, if◌then◌else◌, Option, None, Some, codes, Bool, false, not, true, ◌||◌, List, [], ◌++◌, ◌∷◌, refl, ◌≡◌, ap}
-use Rattle.yaml_base.proofs.Common.{sym, ◌∙◌, and_from, false≢true, list_all, Text, line_feed, Document, has_directives, root_place, Effective, Tree}
+use Rattle.yaml_base.proofs.Common.{sym, ◌∙◌, and_from, false≢true, Text, line_feed, Document, has_directives, root_place, Effective, Tree}
 use Rattle.yaml_base.proofs.Common.{DocumentTree, begins_with_marker, start_marker, end_marker, no_exclamation, marker_of, Prologue, stands_at_margin}
 use Rattle.yaml_base.proofs.Common.{root_below, with_read_document, section_by_kind, document_lines, prefix_kind, lines_before_marker_read, Line, lines_of}
 use Rattle.yaml_base.specs.streams.StreamLines.{begins_comment, is_skipped}
@@ -11,7 +11,8 @@ use Rattle.yaml_base.proofs.stream_documents.{StreamDocumentReads.BehindPrologue
 use Rattle.yaml_base.proofs.stream_documents.{StreamRootLines.begins_shown, StreamRootLines.stands_below, StreamRootLines.Stood, StreamRootStood.root_tree}
 use Rattle.yaml_base.proofs.stream_documents.{StreamRoots.root_reads, StreamRoots.root_with_marker_reads, StreamRootsStand.rules_of, StreamSoFar.WalkProgress}
 use Rattle.yaml_base.proofs.stream_documents.{StreamRootsStand.root_cursor, StreamRootsStand.render_root, StreamSoFar.prefix_alone, StreamSoFar.one_more}
-use Rattle.yaml_base.proofs.stream_lines.StreamSections.{is_markerless, is_content, AllMarkerless}
+use Rattle.yaml_base.proofs.Common.{subst}
+use Rattle.yaml_base.proofs.stream_lines.StreamSections.{is_markerless, is_content, all_content, content_both, AreContent}
 use Rattle.yaml_base.proofs.stream_lines.{StreamTidyLaws.lines_after_first}
 use Rattle.yaml_base.proofs.stream_lines.{StreamUnread.read_markerless, StreamUnread.read_no_percent}
 use Rattle.yaml_base.proofs.stream_lines.StreamClosed.{closed, lines_behind, lines_broken, closed_behind, closed_both}
@@ -39,11 +40,12 @@ shown_whole (line ∷ rest) h = ap (λ x. if x then without_skipped_lines rest e
 -- no line of a text that begins so and reads as a node is a marker or a comment at column 0, if none after its first is
 markerless_whole : (lines : List Line) (depth : ℕ) (rules : Rules) (here : Bool) (column : Option ℕ) (tree : Tree)
     → node_read depth rules here column lines ≡ Some tree
-    → begins_shown lines ≡ true → AllMarkerless (lines_after_first lines) → AllMarkerless lines
-markerless_whole [] depth rules here column tree reads shown after = refl
+    → begins_shown lines ≡ true → AreContent (lines_after_first lines) → AreContent lines
+markerless_whole [] depth rules here column tree reads shown after = after
 markerless_whole (line ∷ rest) depth rules here column tree reads shown after =
-    and_from _ _ (and_from _ _ (read_markerless line rest depth rules here column tree reads)
-    (and_parts (not (ends_indicator line.text)) (not (begins_comment line.text)) shown).1) after
+    content_both (line ∷ []) rest (all_content (line ∷ []) (and_from (is_content line.text) true
+    (and_from (is_markerless (marker_of line.text)) (not (begins_comment line.text)) (read_markerless line rest depth rules here column tree reads)
+    (and_parts (not (ends_indicator line.text)) (not (begins_comment line.text)) shown).1) refl)) after
 
 -- Documents after `---`
 
@@ -80,8 +82,8 @@ on_marker_added s depth text documents document behind fit deep stood =
     o : Opens s.breaks12 own
     o = fit.opens refl
 
-    later : AllMarkerless o.rest
-    later = ap (λ ls. list_all (λ line. is_content line.text) (lines_after_first ls)) (sym o.is) ∙ stood.0
+    later : AreContent o.rest
+    later = subst (λ ls. AreContent (lines_after_first ls)) o.is stood.0
 
     margin : is_skipped o.head ≡ true → stands_at_margin (without_skipped_lines o.rest) ≡ true
     margin e = ap (λ x. not x || stands_at_margin (without_skipped_lines o.rest)) (sym e) ∙ ap stands_below (sym o.is) ∙ stood.1

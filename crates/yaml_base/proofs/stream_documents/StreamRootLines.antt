@@ -1,12 +1,12 @@
 -- The lines of a root: no line after its first is a marker, and its first may begin a root.
 use Rattle.yaml_base.proofs.Common.{render_nothing, arith, suc, zero, ℕ, ◌==◌, Option, Bool, false, not, true, ◌||◌, List, [], ◌++◌, ◌∷◌, refl, ◌≡◌}
 use Rattle.yaml_base.proofs.Common.{true≢false, append_assoc}
-use Rattle.yaml_base.proofs.Common.{ap, subst, sym, ◌∙◌, and_parts, list_all, list_any, Text, line_feed, space, Rendered, is_read_break, is_empty, marker_of}
+use Rattle.yaml_base.proofs.Common.{ap, subst, sym, ◌∙◌, list_any, Text, line_feed, space, Rendered, is_read_break, is_empty}
 use Rattle.yaml_base.proofs.Common.{stands_at_margin, Line, prepend_to_first_line, prepend_character, lines_of, without_skipped_lines, ends_indicator}
 use Rattle.yaml_base.proofs.Common.{spaces, NodeKind, Rules}
 use Rattle.yaml_base.{specs.streams.StreamLines.begins_comment, specs.streams.StreamLines.is_skipped, proofs.Common.and_from, proofs.Common.◌&&◌}
-use Rattle.yaml_base.proofs.{stream_lines.StreamInside.not_skipped, stream_lines.StreamLineLaws.one_line_both, stream_lines.StreamSections.is_content}
-use Rattle.yaml_base.proofs.{stream_lines.StreamSections.AllMarkerless, stream_lines.StreamTidyLaws.lines_after_first, stream_nodes.StreamLaid.Lays}
+use Rattle.yaml_base.proofs.{stream_lines.StreamInside.not_skipped, stream_lines.StreamLineLaws.one_line_both, stream_lines.StreamSections.later_content}
+use Rattle.yaml_base.proofs.{stream_lines.StreamSections.AreContent, stream_lines.StreamTidyLaws.lines_after_first, stream_nodes.StreamLaid.Lays}
 use Rattle.yaml_base.proofs.{stream_nodes.StreamLaid.Opened}
 use Rattle.yaml_base.proofs.stream_documents.StreamRootsStand.{root_cursor, Begins}
 use Rattle.yaml_base.proofs.stream_lines.StreamClosed.{closing, closed, spaces_line, lines_behind, lines_broken}
@@ -29,7 +29,7 @@ FirstStands false lines = begins_shown lines ≡ true
 
 -- lines of which none after the first is a marker, and of which the first may begin a root
 abbrev pub Stood : (on_marker : Bool) → List Line → Type 0
-Stood on_marker lines = AllMarkerless (lines_after_first lines) × FirstStands on_marker lines
+Stood on_marker lines = AreContent (lines_after_first lines) × FirstStands on_marker lines
 
 -- First lines
 
@@ -87,11 +87,6 @@ begins_stands breaks12 on_marker own b =
 
 -- Collections in blocks
 
--- the lines after the first are among all
-later_markerless : (lines : List Line) → AllMarkerless lines → AllMarkerless (lines_after_first lines)
-later_markerless [] h = refl
-later_markerless (line ∷ rest) h = (and_parts (is_content line.text) (list_all (λ line. is_content line.text) rest) h).1
-
 -- lines that begin a node at column 0 are at the margin
 opened_margin : (rules : Rules) (lines : List Line) (kind : NodeKind) → Opened rules 0 lines kind → begins_shown lines ≡ true
 opened_margin rules lines kind o = ap begins_shown o.is ∙ and_from _ _ (ap not o.shows) (ap not o.uncommented)
@@ -105,7 +100,7 @@ opened_below rules lines kind o = ap stands_at_margin ((opened_shows rules 0 lin
 pub block_stands : (rules : Rules) (on_marker : Bool) (anchor tag : Option Text) (begun entries : Rendered) (text : Text) (kind : NodeKind)
     → BegunKind rules anchor tag (root_cursor on_marker) begun → Lays 0 (render_nothing begun.cursor) entries text
     → Opened rules 0 (lines_of rules.breaks12 text) kind
-    → AllMarkerless (lines_of rules.breaks12 text) → ((begun.text ≡ [] → ⊥) → Begins rules.breaks12 (root_cursor on_marker) begun)
+    → AreContent (lines_of rules.breaks12 text) → ((begun.text ≡ [] → ⊥) → Begins rules.breaks12 (root_cursor on_marker) begun)
     → Stood on_marker (lines_of rules.breaks12 (closed (block_own begun entries)))
 block_stands rules on_marker anchor tag begun entries text kind (is_parsed parsed) lays opened markerless properties =
     let b = properties (λ e. not_empty parsed.count (sym parsed.text ∙ e)) in
@@ -122,4 +117,4 @@ block_stands rules on_marker anchor tag begun entries text kind (is_parsed parse
     not_empty zero e = absurd (true≢false (sym (ap is_empty e)))
     not_empty (suc k) e = absurd (true≢false (sym (ap is_empty e)))
 block_stands rules on_marker anchor tag begun entries text kind (unsaid no_anchor no_tag nothing) lays opened markerless properties =
-    grind (arith, own_closed, below, opened_below, later_markerless, opened_margin)
+    grind (arith, own_closed, below, opened_below, later_content, opened_margin)

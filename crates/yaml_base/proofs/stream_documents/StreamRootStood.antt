@@ -31,20 +31,20 @@ block_stood (sequence_node start items) given s directives on_marker deep block 
     let rules : Rules = record { breaks12 = s.breaks12; directives = given } in
     let begun : Rendered = render_begun s directives start (root_cursor on_marker) in
     let asked : BegunReads rules s directives start (root_cursor on_marker) × ItemLeaves items rules s directives 0 = rw block at leaves in
-    let laid = items_fit rules s directives deep items 0 begun.cursor asked.1 in
+    let laid = (items_fit rules s directives deep items 0 begun.cursor asked.1).laid in
     let some = not_empty s start (has_no_nodes items) block in
     rw block
     (block_stands rules on_marker start.anchor (collection_tag s.canonical start) begun (items_own items s directives false 0 begun.cursor) laid.text _
-    asked.0 (laid.lays some) (laid.opened some) (laid.reads.markerless refl) properties)
+    asked.0 (laid.lays some) (laid.opened some) laid.reads.within properties)
 block_stood (mapping_node start pairs) given s directives on_marker deep block leaves properties =
     let rules : Rules = record { breaks12 = s.breaks12; directives = given } in
     let begun : Rendered = render_begun s directives start (root_cursor on_marker) in
     let asked : BegunReads rules s directives start (root_cursor on_marker) × PairLeaves pairs rules s directives 0 = rw block at leaves in
-    let laid = pairs_fit rules s directives deep pairs 0 begun.cursor asked.1 in
+    let laid = (pairs_fit rules s directives deep pairs 0 begun.cursor asked.1).laid in
     let some = not_empty s start (has_no_pairs pairs) block in
     rw block
     (block_stands rules on_marker start.anchor (collection_tag s.canonical start) begun (pairs_own pairs s directives false 0 begun.cursor) laid.text _
-    asked.0 (laid.lays some) (laid.opened some) (laid.reads.markerless refl) properties)
+    asked.0 (laid.lays some) (laid.opened some) laid.reads.within properties)
 
 -- Scalars
 
@@ -102,7 +102,7 @@ nothing_stands : (n : Node) (given : List TagDirective) (s : Effective) (directi
     → FirstStands true (lines_of s.breaks12 (closed (node_own n s directives root_place marker_cursor)))
 nothing_stands (alias_node name) given s directives h leaves = absurd (false≢true h)
 nothing_stands (scalar_node content) given s directives h leaves =
-    scalar_stands _ 1 _ _ _ _ leaves
+    scalar_stands _ 1 _ _ _ _ leaves.fits
 nothing_stands (sequence_node start items) given s directives h leaves = absurd (false≢true h)
 nothing_stands (mapping_node start pairs) given s directives h leaves = absurd (false≢true h)
 
@@ -121,8 +121,8 @@ root_settled false = λ h. (refl, refl)
 pub root_fits : (s : Effective) (document : Document) (on_marker : Bool) → 2 ≤ s.indent → RootStands s document on_marker
     → Fits (rules_of s document) (size document.root) (render_root on_marker s document) (root_tree s document) root_place (root_cursor on_marker)
 root_fits s document on_marker deep root =
-    node_fits (rules_of s document) s (directives_in_force document.start.directives) deep document.root root_place (root_cursor on_marker)
-    (root_settled on_marker) root.leaves
+    (node_fits (rules_of s document) s (directives_in_force document.start.directives) deep document.root root_place (root_cursor on_marker)
+    (root_settled on_marker) root.leaves).fits
 
 -- its lines are those of a root, unless it is nothing on a line of its own
 pub root_stood : (s : Effective) (document : Document) (on_marker : Bool) → 2 ≤ s.indent → RootStands s document on_marker

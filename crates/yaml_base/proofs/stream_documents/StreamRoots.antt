@@ -6,8 +6,7 @@ use Rattle.yaml_base.proofs.Common.{without_skipped_lines, first_line_is_skipped
 use Rattle.yaml_base.proofs.stream_lines.{StreamClosed.closed, StreamClosed.margin_cursor, StreamCuts.none_not_some}
 use Rattle.yaml_base.proofs.Common.{begins_mapping, begins_text, kind_of_node, ReadsText, node_by_kind, node_at, node_read, Rules, Properties}
 use Rattle.yaml_base.proofs.stream_nodes.StreamFits.{Opens, Fits, blanked_lines}
-use Rattle.yaml_base.proofs.stream_lines.StreamSections.{is_content, AllMarkerless, kept_after, content_kept}
-use Rattle.yaml_base.proofs.Common.{and_parts, list_all}
+use Rattle.yaml_base.proofs.stream_lines.StreamSections.{content_later, AreContent, kept_after, content_kept}
 use Rattle.yaml_base.specs.streams.StreamDocuments.{content_lines, root_after_marker, root_with_marker}
 
 -- the cursor after `---`
@@ -16,7 +15,7 @@ marker_cursor = record { column = 3; whitespace = false; indention = false }
 
 -- a root on lines of its own
 pub root_reads : (rules : Rules) (n : ℕ) (own : Rendered) (tree : Tree) → Fits rules n own tree root_place (margin_cursor 0)
-    → stands_at_margin (lines_of rules.breaks12 (closed own)) ≡ true → AllMarkerless (lines_of rules.breaks12 (closed own)) → (depth : ℕ) → n ≤ depth
+    → stands_at_margin (lines_of rules.breaks12 (closed own)) ≡ true → AreContent (lines_of rules.breaks12 (closed own)) → (depth : ℕ) → n ≤ depth
     → root_below depth rules (lines_of rules.breaks12 (closed own)) ≡ Some tree
 root_reads rules n own tree fit margin markerless depth deep =
     ap (λ x. if x then node_read depth rules true None (content_lines (lines_of rules.breaks12 (closed own))) else None) margin
@@ -49,20 +48,19 @@ below_skipped zero rules line rest tree skipped h = absurd (none_not_some h)
 below_skipped (suc depth) rules line rest tree skipped h = grind (arith, shown_once, first_more)
 
 -- what isn't skipped of such lines is such
-skipped_markerless : (lines : List Line) → AllMarkerless lines → AllMarkerless (without_skipped_lines lines)
-skipped_markerless [] h = refl
+skipped_markerless : (lines : List Line) → AreContent lines → AreContent (without_skipped_lines lines)
+skipped_markerless [] h = h
 skipped_markerless (line ∷ rest) h =
-    by (is_skipped line.text)
-    (skipped_markerless rest (and_parts (is_content line.text) (list_all (λ line. is_content line.text) rest) h).1)
+    by (is_skipped line.text) (skipped_markerless rest (content_later line rest h))
   where
-    by : (x : Bool) → AllMarkerless (without_skipped_lines rest) → AllMarkerless (if x then without_skipped_lines rest else line ∷ rest)
+    by : (x : Bool) → AreContent (without_skipped_lines rest) → AreContent (if x then without_skipped_lines rest else line ∷ rest)
     by true after = after
     by false after = h
 
 -- a root after `---`, on its line or below it
 pub root_with_marker_reads : (rules : Rules) (n : ℕ) (own : Rendered) (tree : Tree) (fit : Fits rules n own tree root_place marker_cursor)
     → (is_skipped (fit.opens refl).head ≡ true → stands_at_margin (without_skipped_lines (fit.opens refl).rest) ≡ true)
-    → AllMarkerless (fit.opens refl).rest → (depth : ℕ) → n ≤ depth
+    → AreContent (fit.opens refl).rest → (depth : ℕ) → n ≤ depth
     → root_with_marker depth rules (record { text = codes "---" ++ (fit.opens refl).head; ending = (fit.opens refl).ending }) (fit.opens refl).rest ≡ Some tree
 root_with_marker_reads rules n own tree fit margin markerless depth deep = by (is_skipped o.head) refl
   where

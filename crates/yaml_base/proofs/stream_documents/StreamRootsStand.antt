@@ -6,7 +6,7 @@ use Rattle.yaml_base.proofs.Common.{Documents, no_documents, documents_and, rend
 use Rattle.yaml_base.proofs.Common.{is_written_in_flow, has_no_nodes, has_no_pairs, is_read_break, Effective, is_written_as_nothing, directives_in_force}
 use Rattle.yaml_base.proofs.Common.{prologue_read, begins_with_percent, lines_of, spaces, Rules}
 use Rattle.yaml_base.proofs.{stream_documents.StreamRoots.marker_cursor, stream_lines.StreamClosed.closed, stream_lines.StreamClosed.margin_cursor}
-use Rattle.yaml_base.proofs.{stream_lines.StreamLineLaws.is_closed, stream_lines.StreamSections.AllMarkerless, stream_lines.StreamTidyLaws.lines_after_first}
+use Rattle.yaml_base.proofs.{stream_lines.StreamLineLaws.is_closed, stream_lines.StreamSections.AreContent, stream_lines.StreamTidyLaws.lines_after_first}
 use Rattle.yaml_base.proofs.{stream_nodes.StreamNodesFit.render_begun, stream_nodes.StreamNodesFit.Leaves, stream_nodes.StreamTexts.node_own}
 
 -- Places
@@ -39,7 +39,7 @@ pub record Begins (breaks12 : Bool) (cursor : Cursor) (own : Rendered) : Type 0 
 -- a root that is an alias, a scalar or written in flow: it begins so if anything is written, and no line after its first is a marker
 pub record LeafStands (on_marker : Bool) (s : Effective) (document : Document) : Type 0 where
   pub begins : is_written_as_nothing s.canonical document.root ≡ false → Begins s.breaks12 (root_cursor on_marker) (render_root on_marker s document)
-  pub after : AllMarkerless (lines_after_first (lines_of s.breaks12 (closed (render_root on_marker s document))))
+  pub after : AreContent (lines_after_first (lines_of s.breaks12 (closed (render_root on_marker s document))))
 
 -- the root of a document is one of these
 abbrev pub is_leaf : Effective → Node → Bool

@@ -6,7 +6,8 @@ use Rattle.yaml_base.proofs.Common.{documents_at_end, sections_read, Line, lines
 use Rattle.yaml_base.specs.streams.StreamLines.{is_skipped, begins_comment}
 use Rattle.std.proofs.lemmas.Grind.{fold-append}
 use Rattle.yaml_base.proofs.stream_lines.{StreamClosed.closed_both, StreamLineLaws.is_closed, StreamLineLaws.lines_after_break}
-use Rattle.yaml_base.proofs.stream_lines.StreamSections.{is_markerless, is_content, AllMarkerless, content_kept, markerless_before, IsMarker, markers_one}
+use Rattle.yaml_base.proofs.stream_lines.StreamSections.{is_markerless, is_content, all_content, AreContent, content_kept, markerless_before}
+use Rattle.yaml_base.proofs.stream_lines.StreamSections.{IsMarker, markers_one}
 use Rattle.yaml_base.proofs.Common.{and_from, not, directive_lines, document_lines}
 use Rattle.yaml_base.specs.streams.StreamDocuments.{StreamRead, section_read, may_end}
 use Rattle.yaml_base.proofs.AllPass.{all_pass}
@@ -21,7 +22,7 @@ pub record WalkProgress (breaks12 : Bool) (depth : ℕ) (text : Text) (read : St
   pub reads : fold (section_read depth breaks12) (lines_before_marker_read (prefix_kind prefix) depth breaks12 prefix) sections ≡ Some read
 
 -- lines without a marker, which are read by their beginning
-pub prefix_alone : (breaks12 : Bool) (depth : ℕ) (text : Text) (read : StreamRead) → is_closed breaks12 text ≡ true → AllMarkerless (lines_of breaks12 text)
+pub prefix_alone : (breaks12 : Bool) (depth : ℕ) (text : Text) (read : StreamRead) → is_closed breaks12 text ≡ true → AreContent (lines_of breaks12 text)
     → lines_before_marker_read (prefix_kind (lines_of breaks12 text)) depth breaks12 (lines_of breaks12 text) ≡ Some read
     → WalkProgress breaks12 depth text read
 prefix_alone breaks12 depth text read ends markerless reads = record {
@@ -38,7 +39,7 @@ prefix_alone breaks12 depth text read ends markerless reads = record {
 -- one section more
 pub one_more : (breaks12 : Bool) (depth : ℕ) (text more : Text) (read next : StreamRead) (line : Line) (body : List Line)
     → WalkProgress breaks12 depth text read
-    → is_closed breaks12 more ≡ true → lines_of breaks12 more ≡ line ∷ body → IsMarker (marker_of line.text) → AllMarkerless body
+    → is_closed breaks12 more ≡ true → lines_of breaks12 more ≡ line ∷ body → IsMarker (marker_of line.text) → AreContent body
     → section_read depth breaks12 (Some read) (record { marker = marker_of line.text; line = line; rest = body }) ≡ Some next
     → WalkProgress breaks12 depth (text ++ more) next
 one_more breaks12 depth text more read next line body so ends is marker markerless reads =
@@ -85,10 +86,10 @@ percent_uncommented [] h = refl
 percent_uncommented (c ∷ t) h = ap (λ d. begins_comment (d ∷ t)) (eqb-true c 0x25 h)
 
 -- none of them is
-pub percents_markerless : (lines : List Line) → Percents lines → AllMarkerless lines
+pub percents_markerless : (lines : List Line) → Percents lines → AreContent lines
 percents_markerless lines h =
-    all_pass (λ line. begins_with_percent line.text) (λ line. is_content line.text)
-    (λ line e. and_from _ _ (percent_markerless line.text e) (ap not (percent_uncommented line.text e))) lines h
+    all_content lines (all_pass (λ line. begins_with_percent line.text) (λ line. is_content line.text)
+    (λ line e. and_from _ _ (percent_markerless line.text e) (ap not (percent_uncommented line.text e))) lines h)
 
 -- nor is such a line skipped
 percent_shows : (t : Text) → begins_with_percent t ≡ true → is_skipped t ≡ false

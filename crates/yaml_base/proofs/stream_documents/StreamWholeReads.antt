@@ -5,7 +5,7 @@ use Rattle.yaml_base.proofs.Common.{suc, ℕ, ◌≤◌, if◌then◌else◌, �
 use Rattle.yaml_base.proofs.Common.{◌++◌, ◌∷◌, refl, ◌≡◌, eqb-true, length-append, append-nil, ap, subst, sym, ◌∙◌, arith, and_parts, and_from, flat_map-append}
 use Rattle.yaml_base.proofs.Common.{Text, line_feed, Document, Documents, no_documents, documents_and, Stream, is_explicit, root_place}
 use Rattle.yaml_base.proofs.Common.{render_document, render_documents, first_standing, layout, piece_text, text_of, RenderedPieces, Effective}
-use Rattle.yaml_base.proofs.Common.{is_written_as_nothing, directives_in_force, DocumentTree, documents_in_order, marker_of, Sections, sections_of, no_prologue}
+use Rattle.yaml_base.proofs.Common.{is_written_as_nothing, directives_in_force, DocumentTree, documents_in_order, Sections, sections_of, no_prologue}
 use Rattle.yaml_base.proofs.Common.{with_read_document, directive_lines, document_lines, begins_with_percent, prefix_kind, lines_before_marker_read}
 use Rattle.yaml_base.proofs.Common.{documents_at_end, sections_read, documents_of, Line, lines_of, is_spaces, ends_indicator, node_read}
 use Rattle.yaml_base.{proofs.stream_documents.StreamRootAdded.with_document, proofs.stream_documents.StreamRootStood.root_fits}
@@ -14,7 +14,8 @@ use Rattle.yaml_base.{proofs.stream_lines.StreamCuts.none_not_some, proofs.strea
 use Rattle.yaml_base.specs.streams.{StreamDocuments.content_lines, StreamLines.begins_comment}
 use Rattle.yaml_base.proofs.stream_documents.StreamDocumentsRead.{later_more, first_more}
 use Rattle.yaml_base.proofs.stream_lines.StreamClosed.{closing, margin_cursor}
-use Rattle.yaml_base.proofs.stream_lines.StreamSections.{is_content, AllMarkerless, markerless_before}
+use Rattle.yaml_base.proofs.Common.{list_all}
+use Rattle.yaml_base.proofs.stream_lines.StreamSections.{is_content, all_content, AreContent, markerless_before}
 use Rattle.yaml_base.proofs.stream_documents.StreamDocumentReads.{Awaits, awaits_first, awaits_ended, dots_if}
 use Rattle.yaml_base.proofs.stream_documents.StreamDocumentTexts.{before_root, dots_rendered, root_part, document_text, RenderedDocument, document_joined}
 use Rattle.yaml_base.proofs.stream_documents.StreamRootsStand.{rules_of, root_cursor, render_root, RootStands, is_on_marker, DocumentStands, DocumentsStand}
@@ -153,9 +154,12 @@ ended_read breaks12 depth text documents marker awaits = by (marker == 0) refl (
 blank_markerless : (t : Text) → is_spaces t ≡ true → is_content t ≡ true
 blank_markerless t h = grind (arith, and_parts, eqb-true)
 
-blank_lines_markerless : (lines : List Line) → all_blank lines ≡ true → AllMarkerless lines
-blank_lines_markerless [] h = refl
-blank_lines_markerless (line ∷ rest) h = grind (arith, and_parts, and_from, or_parts, or_from, blank_markerless, blank_lines_markerless rest)
+blank_lines_markerless : (lines : List Line) → all_blank lines ≡ true → AreContent lines
+blank_lines_markerless lines h = all_content lines (pass lines h)
+  where
+    pass : (lines : List Line) → all_blank lines ≡ true → list_all (λ line. is_content line.text) lines ≡ true
+    pass [] h = refl
+    pass (line ∷ rest) h = grind (arith, and_parts, and_from, or_parts, or_from, blank_markerless, pass rest)
 
 blank_no_text : (t : Text) → is_spaces t ≡ true → (begins_with_percent t ≡ false) × (ends_indicator t ≡ true)
 blank_no_text [] h = (refl, refl)

@@ -1,4 +1,9 @@
 -- A collection in flow fits at its place in a block.
+use Rattle.yaml_base.proofs.Common.{◌||◌, ◌==◌, nat_tests, LinesReader}
+use Rattle.yaml_base.proofs.CommentBlanks.{blanks_kept}
+use Rattle.yaml_base.proofs.{stream_nodes.StreamFits.sparing, stream_nodes.StreamNodesFit.bars_after}
+use Rattle.yaml_base.specs.CommentReading.{blanks, keeps_breaks}
+use Rattle.yaml_base.specs.streams.StreamNodes.{block_text, flow_text, word_text}
 use Rattle.yaml_base.proofs.Common.{suc, ℕ, ◌≤◌, if◌then◌else◌, Option, None, Some, Bool, false, true, List, [], ◌++◌, ◌∷◌, refl, ◌≡◌, append_assoc, ap, sym}
 use Rattle.yaml_base.proofs.Common.{◌∙◌, arith, false≢true, list_all, Text, line_feed, Cursor, Rendered, space_if, TagDirective, Collection, collection_tag}
 use Rattle.yaml_base.proofs.Common.{alias_node, scalar_node, sequence_node, mapping_node, Place, line_column, deeper, is_read_break, Effective}
@@ -7,8 +12,8 @@ use Rattle.yaml_base.proofs.Common.{all_deeper, kind_of_text, text_by_kind, text
 use Rattle.yaml_base.proofs.{Common.Node, stream_flow.StreamFlowKinds.KeysFit, stream_flow.StreamFlowScalars.rules_of, stream_flow.StreamFlowWords.Given}
 use Rattle.yaml_base.proofs.{stream_flow.StreamPropertyWords.lead, stream_lines.StreamCuts.none_not_some, stream_lines.StreamInside.AllInside}
 use Rattle.yaml_base.proofs.{stream_lines.StreamTidyLaws.lines_after_first, stream_nodes.StreamAgrees.node_tree, stream_nodes.StreamBegun.lead_line}
-use Rattle.yaml_base.proofs.{stream_nodes.StreamBlocks.below_ends, stream_nodes.StreamFits.Fits, stream_nodes.StreamLeafFits.TextReads}
-use Rattle.yaml_base.proofs.{stream_nodes.StreamLeafFits.text_fits, stream_nodes.StreamLeaves.block_place, stream_nodes.StreamLeaves.FlowsFit}
+use Rattle.yaml_base.proofs.{stream_nodes.StreamBlocks.below_ends, stream_nodes.StreamFits.FitsOr, stream_nodes.StreamLeafFits.TextReads}
+use Rattle.yaml_base.proofs.{stream_nodes.StreamLeafFits.text_node, stream_nodes.StreamLeaves.block_place, stream_nodes.StreamLeaves.FlowsFit}
 use Rattle.yaml_base.proofs.{stream_nodes.StreamNodesFit.LeafFits, stream_nodes.StreamTexts.node_own, stream_nodes.StreamProperties.IsNamed}
 use Rattle.yaml_base.proofs.stream_flow.StreamFlowDeep.{sequence_deep, mapping_deep}
 use Rattle.yaml_base.proofs.stream_lines.StreamClosed.{closed, lines_behind, after_line}
@@ -16,7 +21,7 @@ use Rattle.yaml_base.proofs.stream_lines.StreamDeepBreaks.{Deep, space_line, dee
 use Rattle.yaml_base.proofs.stream_lines.StreamLineLaws.{is_closed, OneLine, text_of_lines_of}
 use Rattle.yaml_base.proofs.stream_nodes.StreamLeads.{tag_is_written, before_count, before_spaces, before_some}
 use Rattle.yaml_base.proofs.stream_nodes.StreamOwnTexts.{deeper_all, parsed_reads, headed, own_shows}
-use Rattle.yaml_base.proofs.stream_flow.StreamFlowReads.{FlowContent, content_read, sequence_reads, mapping_reads, FlowReads}
+use Rattle.yaml_base.proofs.stream_flow.StreamFlowReads.{AreBrackets, FlowContent, content_read, sequence_reads, mapping_reads, FlowReads}
 use Rattle.yaml_base.proofs.stream_nodes.StreamStands.{tag_written, tag_meant, TagStands}
 
 -- Lines
@@ -74,29 +79,55 @@ content_text rules cursor own anchor tag given_tag tree of column line deep =
     ∙ content_read rules cursor own anchor tag given_tag tree of column line.first (line_feed ∷ []) (feed_white rules.breaks12)
 
 -- the text of a collection, with its properties, up to the break after it
-abbrev flow_text : (rules : Rules) (cursor : Cursor) (own : Rendered) (anchor tag given_tag : Option Text) (tree : Tree)
+abbrev flow_written : (rules : Rules) (cursor : Cursor) (own : Rendered) (anchor tag given_tag : Option Text) (tree : Tree)
     → FlowContent rules cursor own anchor tag given_tag tree → Text
-flow_text rules cursor own anchor tag given_tag tree of = lead anchor tag ++ (of.bracket ∷ ((of.inside ++ (of.closing ∷ [])) ++ (line_feed ∷ [])))
+flow_written rules cursor own anchor tag given_tag tree of = lead anchor tag ++ (of.bracket ∷ ((of.inside ++ (of.closing ∷ [])) ++ (line_feed ∷ [])))
 
 -- its lines
 flow_lines : (rules : Rules) (cursor : Cursor) (own : Rendered) (anchor tag given_tag : Option Text) (tree : Tree)
     (of : FlowContent rules cursor own anchor tag given_tag tree)
     → OneLine rules.breaks12 (lead anchor tag) → (line : FirstLine rules.breaks12 (of.inside ++ (of.closing ∷ [])))
-    → lines_of rules.breaks12 (flow_text rules cursor own anchor tag given_tag tree of)
+    → lines_of rules.breaks12 (flow_written rules cursor own anchor tag given_tag tree of)
     ≡ record { text = lead anchor tag ++ (of.bracket ∷ line.first); ending = line.ending } ∷ line.rest
 flow_lines rules cursor own anchor tag given_tag tree of one line =
     let text = (of.inside ++ (of.closing ∷ [])) ++ (line_feed ∷ []) in
     lines_behind _ _ _ _ _ _ one (lines_behind rules.breaks12 (of.bracket ∷ []) text line.first line.ending line.rest of.brackets.one_line line.is)
 
+-- which are its text
+whole_text : (rules : Rules) (cursor : Cursor) (own : Rendered) (anchor tag given_tag : Option Text) (tree : Tree)
+    (of : FlowContent rules cursor own anchor tag given_tag tree) (line : FirstLine rules.breaks12 (of.inside ++ (of.closing ∷ [])))
+    → (of.bracket ∷ line.first) ++ (line.ending ++ text_of_lines line.rest) ≡ (of.bracket ∷ (of.inside ++ (of.closing ∷ []))) ++ (line_feed ∷ [])
+whole_text rules cursor own anchor tag given_tag tree of line =
+    ap (λ t. of.bracket ∷ t)
+    (sym (ap text_of_lines line.is) ∙ text_of_lines_of rules.breaks12 ((of.inside ++ (of.closing ∷ [])) ++ (line_feed ∷ [])))
+
+-- and no block scalar
+flow_drops : (rules : Rules) (bracket closing : ℕ) (rest : Text) → AreBrackets rules bracket closing → keeps_breaks (bracket ∷ rest) ≡ false
+flow_drops rules bracket closing rest are = by (bracket == 0x7C) (bracket == 0x3E) refl (are.kind [])
+  where
+    by : (a b : Bool) → (a || b) ≡ (bracket == 0x7C || bracket == 0x3E)
+        → (if bracket == 0x7C || bracket == 0x3E then block_text else (if bracket == 0x5B || bracket == 0x7B then flow_text else word_text)) ≡ flow_text
+        → keeps_breaks (bracket ∷ rest) ≡ false
+    by a b same kind = grind (arith, nat_tests)
+
 -- it reads on its lines, after properties or without them
 text_reads : (rules : Rules) (cursor : Cursor) (own : Rendered) (anchor tag given_tag : Option Text) (tree : Tree)
     (of : FlowContent rules cursor own anchor tag given_tag tree) (column : Option ℕ) → Given rules anchor tag (tag_meant given_tag false)
     → (line : FirstLine rules.breaks12 (of.inside ++ (of.closing ∷ []))) → ((c : ℕ) → column ≡ Some c → AllInside true c line.rest)
-    → TextReads rules column (flow_text rules cursor own anchor tag given_tag tree of) tree
+    → TextReads rules column (flow_written rules cursor own anchor tag given_tag tree of) tree false
 text_reads rules cursor own anchor tag given_tag tree of column given line deeper =
     let parsed = tag_meant given_tag false in
     let h = headed rules anchor tag parsed of.bracket line.first given (own_shows of.bracket of.brackets.content).0 in
     let none : Given rules None None None = record { named = tt; tagged = tt } in
+    let inside = of.inside ++ (of.closing ∷ []) in
+    let after : (rest : List Line) (reads : LinesReader) (at : ℕ)
+    → text_or_properties (begins_properties (h.head ∷ h.tail)) rules reads column at (h.head ∷ h.tail) line.ending rest
+    ≡ text_read rules column (record { anchor = anchor; tag = parsed }) (of.bracket ∷ line.first) line.ending rest =
+    λ rest reads at.
+    ap (λ t. text_or_properties (begins_properties t) rules reads column at t line.ending rest) (sym h.is)
+    ∙ parsed_reads rules reads column at anchor tag parsed of.bracket line.first line.ending rest given of.brackets.content of.brackets.uncommented
+    (of.line None None None none line.first line.more line.whole) in
+    let read = content_text rules cursor own anchor tag given_tag tree of column line (deeper_all column line.rest deeper) in
     record {
       head = h.head;
       first = h.tail;
@@ -108,11 +139,14 @@ text_reads rules cursor own anchor tag given_tag tree of column given line deepe
       shows = h.shows;
       kind = ap (kind_of_node rules) (sym h.is) ∙ of.line anchor tag parsed given line.first line.more line.whole;
       deeper = deeper;
-      read = λ reads at.
-          ap (λ t. text_or_properties (begins_properties t) rules reads column at t line.ending line.rest) (sym h.is)
-          ∙ parsed_reads rules reads column at anchor tag parsed of.bracket line.first line.ending line.rest given of.brackets.content of.brackets.uncommented
-          (of.line None None None none line.first line.more line.whole)
-          ∙ content_text rules cursor own anchor tag given_tag tree of column line (deeper_all column line.rest deeper);
+      read = λ reads at. after line.rest reads at ∙ read;
+      spares = λ allowed ends count reads at.
+          after (line.rest ++ blanks count) reads at
+          ∙ blanks_kept count rules column (record { anchor = anchor; tag = parsed }) (of.bracket ∷ line.first) line.ending line.rest tree
+          (ap (is_closed rules.breaks12) (whole_text rules cursor own anchor tag given_tag tree of line)
+          ∙ below_ends rules.breaks12 (of.bracket ∷ inside) [] refl)
+          (flow_drops rules of.bracket of.closing (line.first ++ (line.ending ++ text_of_lines line.rest)) of.brackets)
+          read;
     }
 
 -- Fits
@@ -120,15 +154,15 @@ text_reads rules cursor own anchor tag given_tag tree of column given line deepe
 -- the rendered text, with the break after it
 closed_text : (rules : Rules) (cursor : Cursor) (own : Rendered) (anchor tag given_tag : Option Text) (tree : Tree)
     (of : FlowContent rules cursor own anchor tag given_tag tree)
-    → own.text ++ (line_feed ∷ []) ≡ space_if true cursor ++ flow_text rules cursor own anchor tag given_tag tree of
+    → own.text ++ (line_feed ∷ []) ≡ space_if true cursor ++ flow_written rules cursor own anchor tag given_tag tree of
 closed_text rules cursor own anchor tag given_tag tree of = grind (arith, append_assoc)
 
 -- a collection whose text is read, and whose lines are deeper than the column around, fits
 pub content_fits : (rules : Rules) (place : Place) (cursor : Cursor) (own : Rendered) (anchor tag given_tag : Option Text) (tree : Tree)
     → FlowContent rules cursor own anchor tag given_tag tree → Given rules anchor tag (tag_meant given_tag false)
-    → ((c : ℕ) → place.column ≡ Some c → Deep rules.breaks12 (suc c) own.text) → Fits rules 1 own tree place cursor
+    → ((c : ℕ) → place.column ≡ Some c → Deep rules.breaks12 (suc c) own.text) → FitsOr rules 1 own tree place cursor false
 content_fits rules place cursor own anchor tag given_tag tree of given deep =
-    let text = flow_text rules cursor own anchor tag given_tag tree of in
+    let text = flow_written rules cursor own anchor tag given_tag tree of in
     let fed : closed own ≡ own.text ++ (line_feed ∷ []) = ap (λ x. own.text ++ (if x then [] else line_feed ∷ [])) of.ended.indention in
     let line = first_line rules.breaks12 (of.inside ++ (of.closing ∷ [])) in
     let after : lines_after_first (lines_of rules.breaks12 (own.text ++ (line_feed ∷ []))) ≡ line.rest =
@@ -136,7 +170,7 @@ content_fits rules place cursor own anchor tag given_tag tree of given deep =
     ∙ after_line rules.breaks12 (space_if true cursor) text (space_line rules.breaks12 true cursor)
     ∙ ap lines_after_first
     (flow_lines rules cursor own anchor tag given_tag tree of (lead_line rules anchor tag (tag_meant given_tag false) given.named given.tagged) line) in
-    text_fits rules own place cursor (before_count cursor.whitespace) text tree
+    text_node rules own place cursor (before_count cursor.whitespace) text tree false
     (fed ∙ closed_text rules cursor own anchor tag given_tag tree of ∙ ap (λ t. t ++ text) (before_spaces cursor.whitespace))
     (ap (is_closed rules.breaks12) fed ∙ below_ends rules.breaks12 own.text [] refl)
     (λ h. absurd (false≢true (sym of.ended.indention ∙ h)))
@@ -160,9 +194,10 @@ collection_fits : (s : Effective) (own directives : List TagDirective) → 2 ≤
     → LeafFits (rules_of s own) s directives n place cursor
 collection_fits s own directives deep place cursor start n root named stands reads lines =
     let tag = collection_tag s.canonical start in
-    content_fits (rules_of s own) place cursor (node_own n s directives place cursor) start.anchor (tag_written s.portable directives tag false) tag
+    sparing false (bars_after n (node_own n s directives place cursor).cursor) (λ h. refl)
+    (content_fits (rules_of s own) place cursor (node_own n s directives place cursor) start.anchor (tag_written s.portable directives tag false) tag
     (node_tree n s directives place) reads (record { named = named; tagged = tag_is_written s.portable own directives tag false stands })
-    (λ c e. let column = deep_column s place.column c deep root e in lines (suc c) column.0 column.1)
+    (λ c e. let column = deep_column s place.column c deep root e in lines (suc c) column.0 column.1))
 
 -- so does each that is written in flow in a block
 pub flows_fit : (s : Effective) (own directives : List TagDirective) → KeysFit s own directives → 2 ≤ s.indent → FlowsFit s own directives

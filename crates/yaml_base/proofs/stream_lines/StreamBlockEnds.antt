@@ -6,7 +6,9 @@ use Rattle.yaml_base.proofs.Common.{after_digit, chomping_first, Charset, Allowa
 use Rattle.yaml_base.specs.{Cursor.next_column, scalars.Analysis.begins_with, scalars.Folded.cut_line, scalars.Folded.next_line_unindented, scalars.Lines.Part}
 use Rattle.yaml_base.specs.{scalars.Lines.line, scalars.Lines.line_break, scalars.Lines.begun, scalars.Literal.indented}
 use Rattle.yaml_base.proofs.Common.{indentation_hint, ending_hint, render_hint, ends_in_break, folded_parts, parts, is_block, fitting_style}
+use Rattle.yaml_base.specs.declared.scalars.Ending.{Ending}
 use Rattle.yaml_base.specs.declared.scalars.Ending.TheVariants.{WithoutBreak, OneBreak, MoreBreaks}
+use Rattle.yaml_base.specs.{CommentReading.is_keep, scalars.BlockHeader.begins_blank, scalars.BlockHeader.ending_open_ended}
 
 -- Values that end in a break
 
@@ -148,6 +150,20 @@ hint_text hint cursor = grind (arith, nat_tests)
 pub strips : (best_indent : ℕ) (value rest : Text) → 2 ≤ best_indent → best_indent ≤ 9 → ends_in_break (ending value) ≡ false
     → chomping_first (after_digit ((indentation_hint best_indent value ++ ending_hint (ending value)) ++ rest)) ≡ strip
 strips best_indent value rest low high h = grind (arith, true≢false)
+
+-- it keeps all final breaks only if there are more than one, or a break alone
+pub header_drops : (best_indent : ℕ) (value rest : Text) → 2 ≤ best_indent → best_indent ≤ 9
+    → (ends_in_break (ending value) && ending_open_ended (ending value) == 2) ≡ false
+    → is_keep (chomping_first (after_digit ((indentation_hint best_indent value ++ ending_hint (ending value)) ++ (line_feed ∷ rest)))) ≡ false
+header_drops best_indent value rest low high h = by (ending value) h (begins_blank value)
+  where
+    by : (ending : Ending) → (ends_in_break ending && ending_open_ended ending == 2) ≡ false → (blank : Bool)
+        → is_keep (chomping_first (after_digit (((if blank then (48 + best_indent) ∷ [] else []) ++ ending_hint ending) ++ (line_feed ∷ rest)))) ≡ false
+    by MoreBreaks h blank = absurd (true≢false h)
+    by WithoutBreak h true = grind (arith, nat_tests)
+    by WithoutBreak h false = refl
+    by OneBreak h true = grind (arith, nat_tests)
+    by OneBreak h false = refl
 
 -- Styles
 

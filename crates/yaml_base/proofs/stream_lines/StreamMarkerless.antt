@@ -1,10 +1,9 @@
 -- Lines that are no document's marker: those inside column 0, and those that begin with an indicator of an entry.
-use Rattle.yaml_base.proofs.Common.{or_from, or_parts}
-use Rattle.yaml_base.proofs.Common.{Bool, true, List, [], ◌++◌, ◌∷◌, ◌≡◌, eqb-true, arith, and_parts, and_from, false≢true}
+use Rattle.yaml_base.proofs.Common.{Bool, true, List, [], ◌∷◌, ◌≡◌, eqb-true, arith, and_parts, and_from, false≢true}
 use Rattle.yaml_base.proofs.Common.{Text, space, marker_of, Line, ends_indicator, belongs_to_entry, nat_tests}
 use Rattle.yaml_base.{specs.streams.StreamLines.begins_comment, proofs.stream_lines.StreamInside.AllInside}
 use Rattle.yaml_base.proofs.Common.{refl, ap, not, false}
-use Rattle.yaml_base.proofs.stream_lines.StreamSections.{is_markerless, is_content, AllMarkerless}
+use Rattle.yaml_base.proofs.stream_lines.StreamSections.{is_markerless, is_content, all_content, AreContent}
 use Rattle.yaml_base.proofs.AllPass.{all_pass}
 
 -- a line that begins with a space is no marker
@@ -36,11 +35,7 @@ pub inside_content : (s : Bool) (t : Text) → belongs_to_entry s 0 t ≡ true �
 inside_content s t h = and_from _ _ (inside_markerless s t h) (ap not (inside_uncommented s t h))
 
 -- nor is any of some lines there
-pub all_markerless : (s : Bool) (lines : List Line) → AllInside s 0 lines → AllMarkerless lines
+pub all_markerless : (s : Bool) (lines : List Line) → AllInside s 0 lines → AreContent lines
 all_markerless s lines h =
-    all_pass (λ line. belongs_to_entry s 0 line.text) (λ line. is_content line.text) (λ line e. inside_content s line.text e) lines h
-
--- lines, and then others
-pub markerless_both : (a b : List Line) → AllMarkerless a → AllMarkerless b → AllMarkerless (a ++ b)
-markerless_both [] b h k = k
-markerless_both (line ∷ a) b h k = grind (arith, and_parts, and_from, or_parts, or_from, markerless_both a b)
+    all_content lines
+    (all_pass (λ line. belongs_to_entry s 0 line.text) (λ line. is_content line.text) (λ line e. inside_content s line.text e) lines h)

@@ -4,11 +4,12 @@ use Rattle.yaml_base.proofs.Common.{ℕ, ◌<◌, if◌then◌else◌, ◌==◌,
 use Rattle.yaml_base.proofs.Common.{eqb-true, true≢false, append-nil, append_assoc, ap, subst, sym, ◌∙◌, arith, and_parts, false≢true, list_all}
 use Rattle.yaml_base.proofs.Common.{Text, line_feed, space, is_alpha, Cursor, TagDirective, alias_node, render_alias, Place, is_simple_at, is_read_break}
 use Rattle.yaml_base.proofs.Common.{Effective, is_read_white, alias_tree, all_deeper, spaces, key_from, trimmed}
-use Rattle.yaml_base.proofs.{stream_nodes.StreamBlocks.below_ends, stream_nodes.StreamFits.Fits, stream_nodes.StreamNodesFit.LeafFits, AllPass.none_pass}
+use Rattle.yaml_base.proofs.{stream_nodes.StreamBlocks.below_ends, stream_nodes.StreamFits.FitsOr, stream_nodes.StreamNodesFit.LeafFits, AllPass.none_pass}
 use Rattle.yaml_base.proofs.Common.{begins_mapping, begins_text, kind_of_node, Rules, no_properties, word_after}
 use Rattle.yaml_base.proofs.stream_lines.StreamClosed.{closed, lines_broken, character_line}
 use Rattle.yaml_base.proofs.stream_lines.StreamLineLaws.{is_closed, OneLine, break_line, not_white}
-use Rattle.yaml_base.proofs.stream_nodes.StreamLeafFits.{TextReads, text_fits}
+use Rattle.yaml_base.proofs.stream_nodes.StreamLeafFits.{TextReads, text_node}
+use Rattle.yaml_base.proofs.CommentBlanks.{blanks_kept}
 use Rattle.yaml_base.proofs.stream_nodes.StreamLeads.{before_count, before_spaces, before_some}
 
 -- a letter of a name is none of the characters that names don't hold
@@ -66,7 +67,7 @@ alias_read rules column n t h =
 
 -- so it reads on its line
 alias_reads : (rules : Rules) (column : Option ℕ) (n : ℕ) (t : Text) → list_all is_alpha (n ∷ t) ≡ true
-    → TextReads rules column ((0x2A ∷ n ∷ t) ++ (line_feed ∷ [])) (alias_tree (n ∷ t))
+    → TextReads rules column ((0x2A ∷ n ∷ t) ++ (line_feed ∷ [])) (alias_tree (n ∷ t)) false
 alias_reads rules column n t h = record {
   head = 0x2A;
   first = n ∷ t;
@@ -78,6 +79,8 @@ alias_reads rules column n t h = record {
   kind = alias_kind rules (n ∷ t) h;
   deeper = λ c e. refl;
   read = λ reads at. alias_read rules column n t h;
+  spares = λ allowed ends count reads at.
+      blanks_kept count rules column no_properties (0x2A ∷ n ∷ t) (line_feed ∷ []) [] (alias_tree (n ∷ t)) ends refl (alias_read rules column n t h);
 }
 
 -- the rendered text of an alias, with the break after it
@@ -88,11 +91,11 @@ alias_text n t cursor count h = grind (arith, append-nil, append_assoc)
 -- an alias after some spaces fits
 named_fits : (rules : Rules) (n : ℕ) (t : Text) (place : Place) (cursor : Cursor) (count : ℕ) → list_all is_alpha (n ∷ t) ≡ true
     → (if true && not cursor.whitespace then space ∷ [] else []) ≡ spaces count → (cursor.whitespace ≡ false → 0 < count)
-    → Fits rules 1 (render_alias (n ∷ t) false cursor) (alias_tree (n ∷ t)) place cursor
+    → FitsOr rules 1 (render_alias (n ∷ t) false cursor) (alias_tree (n ∷ t)) place cursor false
 named_fits rules n t place cursor count name spaced some =
     let word = 0x2A ∷ n ∷ t in
     let same = alias_text n t cursor count spaced in
-    text_fits rules _ place cursor count _ _ (same ∙ append_assoc (spaces count) word (line_feed ∷ []))
+    text_node rules _ place cursor count _ _ false (same ∙ append_assoc (spaces count) word (line_feed ∷ []))
     (ap (is_closed rules.breaks12) same ∙ below_ends _ (spaces count ++ word) [] refl) (λ h. absurd (false≢true h)) some
     (alias_reads rules place.column n t name)
 
@@ -101,5 +104,5 @@ pub alias_fits : (rules : Rules) (s : Effective) (directives : List TagDirective
     → list_all is_alpha (n ∷ t) ≡ true
     → is_simple_at place s.canonical directives (alias_node (n ∷ t)) ≡ false → LeafFits rules s directives (alias_node (n ∷ t)) place cursor
 alias_fits rules s directives n t place cursor name simple =
-    subst (λ x. Fits rules 1 (render_alias (n ∷ t) x cursor) (alias_tree (n ∷ t)) place cursor) (sym simple)
+    subst (λ x. FitsOr rules 1 (render_alias (n ∷ t) x cursor) (alias_tree (n ∷ t)) place cursor false) (sym simple)
     (named_fits rules n t place cursor (before_count cursor.whitespace) name (before_spaces cursor.whitespace) (before_some cursor.whitespace))

@@ -6,7 +6,7 @@ use Rattle.yaml_base.proofs.stream_nodes.StreamLaid.{Content, no_content, tree_o
 use Rattle.yaml_base.{proofs.stream_lines.StreamInside.splits_alone, specs.streams.StreamLines.entries_at}
 
 -- a collection is read by its kind, if its lines are these entries
-read_by_kind : (q : Bool) (rules : Rules) (reads : LinesReader) (reads_text : ReadsText) (properties : Properties) (first : Bool) (line : Indented)
+pub read_by_kind : (q : Bool) (rules : Rules) (reads : LinesReader) (reads_text : ReadsText) (properties : Properties) (first : Bool) (line : Indented)
     (ending : Text) (rest lines : List Line) (entries : List (List Line)) (content : Content q) (tag : Option Text)
     → entries_at q line.column lines ≡ record { before = []; entries = entries }
     → fold (entry_step q rules reads line.column) (Some (held q (no_content q))) entries ≡ Some (held q content)

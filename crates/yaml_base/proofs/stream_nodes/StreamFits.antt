@@ -3,8 +3,11 @@
 use Rattle.yaml_base.proofs.Common.{arith, suc, ℕ, ◌+◌, ◌≤◌, Option, None, Some, Bool, false, true, ◌&&◌, List, [], ◌++◌, ◌∷◌, refl, ◌≡◌, true≢false, Text}
 use Rattle.yaml_base.proofs.Common.{Cursor, Rendered, TagDirective, Node, alias_node, scalar_node, Nodes, sequence_node, Pairs, mapping_node, no_nodes}
 use Rattle.yaml_base.proofs.Common.{nodes_and, no_pairs, pairs_and, entry_place, Role, Place, is_in_mapping, Effective, Tree, Line, lines_of, ends_indicator}
-use Rattle.yaml_base.proofs.Common.{spaces, blanked, node_read, Rules}
-use Rattle.yaml_base.proofs.{stream_lines.StreamInside.AllInside, stream_lines.StreamTidyLaws.lines_after_first, stream_nodes.StreamAgrees.node_tree}
+use Rattle.yaml_base.proofs.Common.{spaces, blanked, node_read, Rules, first_cursor}
+use Rattle.yaml_base.specs.CommentReading.{blank_text}
+use Rattle.yaml_base.proofs.Common.{ap, sym, ◌∙◌, append_assoc}
+use Rattle.yaml_base.proofs.{stream_lines.StreamInside.Passes, stream_lines.StreamSections.AreContent}
+use Rattle.yaml_base.proofs.{stream_lines.StreamTidyLaws.lines_after_first, stream_nodes.StreamAgrees.node_tree}
 use Rattle.yaml_base.proofs.stream_lines.StreamLineLaws.{is_closed, OneLine}
 use Rattle.yaml_base.proofs.stream_lines.StreamClosed.{closed, Settled, spaces_line, lines_behind, closed_behind, rank}
 
@@ -51,9 +54,30 @@ pub record Fits (rules : Rules) (size : ℕ) (own : Rendered) (tree : Tree) (pla
   pub settled : Settled own.cursor
   pub ends : is_closed rules.breaks12 (closed own) ≡ true
   pub opens : cursor.whitespace ≡ false → Opens rules.breaks12 (closed own)
-  pub inside : (s : Bool) (d : ℕ) → WithinColumn s d place.role place.column → AllInside s d (lines_after_first (lines_of rules.breaks12 (closed own)))
+  pub inside : (s : Bool) (d : ℕ) → WithinColumn s d place.role place.column → Passes s d (lines_after_first (lines_of rules.breaks12 (closed own)))
+  pub within : (c : ℕ) → place.column ≡ Some c → AreContent (lines_after_first (lines_of rules.breaks12 (closed own)))
   pub reads : (depth : ℕ) → size ≤ depth → (here : Bool) (k : ℕ) → Here cursor here k
       → node_read depth rules here place.column (lines_of rules.breaks12 (spaces k ++ closed own)) ≡ Some tree
+
+-- a rendered text up to its last line's end, and blank lines after it
+abbrev pub with_blanks : ℕ → Rendered → Rendered
+with_blanks count own = record { text = closed own ++ blank_text count; cursor = first_cursor }
+
+-- regrouped: a text after others, with blank lines after its last line's end
+pub ended : (a b own end blank : Text) → a ++ (b ++ ((own ++ end) ++ blank)) ≡ ((a ++ (b ++ own)) ++ end) ++ blank
+ended a b own end blank =
+    ap (λ t. a ++ t) (sym (append_assoc b (own ++ end) blank) ∙ ap (λ t. t ++ blank) (sym (append_assoc b own end)))
+    ∙ sym (append_assoc a ((b ++ own) ++ end) blank) ∙ ap (λ t. t ++ blank) (sym (append_assoc a (b ++ own) end))
+
+-- a node fits, also with any number of blank lines after it, unless these are barred
+pub record FitsOr (rules : Rules) (size : ℕ) (own : Rendered) (tree : Tree) (place : Place) (cursor : Cursor) (bars : Bool) : Type 0 where
+  pub fits : Fits rules size own tree place cursor
+  pub spares : bars ≡ false → (count : ℕ) → Fits rules size (with_blanks count own) tree place cursor
+
+-- so does one after which they are barred less often
+pub sparing : {rules : Rules} {size : ℕ} {own : Rendered} {tree : Tree} {place : Place} {cursor : Cursor} (bars more : Bool)
+    → (more ≡ false → bars ≡ false) → FitsOr rules size own tree place cursor bars → FitsOr rules size own tree place cursor more
+sparing bars more less fit = record { fits = fit.fits; spares = λ allowed. fit.spares (less allowed) }
 
 -- the tree of a node doesn't depend on the column
 pub tree_anywhere : (n : Node) (s : Effective) (directives : List TagDirective) (in_flow : Bool) (role : Role) (c d : ℕ)

@@ -5,15 +5,18 @@ use Rattle.yaml_base.proofs.Common.{◌≡◌, true≢false, append_assoc, ap, s
 use Rattle.yaml_base.proofs.Common.{new_line, Tree, Trees, no_trees, sequence_tree, TreePairs, no_tree_pairs, mapping_tree, Line, lines_of, spaces}
 use Rattle.yaml_base.proofs.Common.{LinesReader, NodeKind, begins_sequence, begins_mapping, kind_of_node, node_read, Rules}
 use Rattle.yaml_base.proofs.Common.{marker_of, ends_indicator, belongs_to_entry, is_in_mapping, entry_place, Role, not, ◌&&◌, and_from, nat_tests}
-use Rattle.yaml_base.proofs.stream_lines.StreamClosed.{closing, closed, Settled, new_line_closes, closed_both, rank, inside_both}
-use Rattle.yaml_base.proofs.stream_lines.StreamInside.{AllInside, Splits, splits_none, splits_both, splits_one, begins_entry, outside}
+use Rattle.yaml_base.proofs.stream_lines.StreamClosed.{closing, closed, Settled, new_line_closes, closed_both, rank}
+use Rattle.yaml_base.proofs.stream_lines.StreamInside.{Passes, passes_both, inside_passes, entry_alone, Splits, splits_none, splits_both, splits_one}
+use Rattle.yaml_base.proofs.stream_lines.StreamInside.{begins_entry, outside}
 use Rattle.yaml_base.proofs.stream_lines.StreamInside.{begins_uncommented, entry_uncommented}
 use Rattle.yaml_base.proofs.stream_lines.StreamLineLaws.{is_closed, OneLine, lines_after_break}
-use Rattle.yaml_base.proofs.stream_lines.StreamSections.{is_markerless, is_content, AllMarkerless}
-use Rattle.yaml_base.proofs.stream_lines.StreamMarkerless.{all_markerless, markerless_both}
-use Rattle.yaml_base.proofs.stream_nodes.StreamFits.{Fits, indicated_lines, indicated_ends}
+use Rattle.yaml_base.proofs.stream_lines.StreamSections.{is_markerless, is_content, all_content, AreContent, content_both}
+use Rattle.yaml_base.proofs.stream_lines.StreamMarkerless.{inside_content}
+use Rattle.yaml_base.proofs.stream_lines.StreamTidyLaws.{lines_after_first}
+use Rattle.yaml_base.proofs.Common.{zero, suc, append-nil}
+use Rattle.yaml_base.proofs.stream_nodes.StreamFits.{Fits, with_blanks, indicated_lines, indicated_ends}
 use Rattle.yaml_base.specs.streams.StreamNodes.{HeldPairs, item_read, with_item, with_item_or_comment, entry_read, between_pairs, pair_or_comment}
-use Rattle.yaml_base.specs.streams.StreamLines.{all_blank, is_comment_at}
+use Rattle.yaml_base.specs.streams.StreamLines.{all_blank, begins_comment, is_comment_at}
 
 -- Kinds of collections
 
@@ -81,7 +84,7 @@ pub record Opened (rules : Rules) (e : ℕ) (lines : List Line) (kind : NodeKind
   pub begins : kind_of_node rules (head ∷ tail) ≡ kind
 
 -- more lines after them
-opened_more : (rules : Rules) (e : ℕ) (lines more : List Line) (kind : NodeKind) → Opened rules e lines kind → Opened rules e (lines ++ more) kind
+pub opened_more : (rules : Rules) (e : ℕ) (lines more : List Line) (kind : NodeKind) → Opened rules e lines kind → Opened rules e (lines ++ more) kind
 opened_more rules e lines more kind o = grind (arith)
 
 -- the rendered text of entries at a column after another: a new line, and then their text without its first spaces
@@ -98,8 +101,8 @@ pub record Reads (q : Bool) (rules : Rules) (e : ℕ) (text : Text) (size : ℕ)
   pub entries : List (List Line)
   pub ends : is_closed rules.breaks12 text ≡ true
   pub splits : Splits q e (lines_of rules.breaks12 text) entries
-  pub inside : (r : Bool) (d : ℕ) → d + margin q r ≤ e → AllInside r d (lines_of rules.breaks12 text)
-  pub markerless : e ≡ 0 → AllMarkerless (lines_of rules.breaks12 text)
+  pub inside : (r : Bool) (d : ℕ) → d + margin q r ≤ e → Passes r d (lines_of rules.breaks12 text)
+  pub within : AreContent (lines_of rules.breaks12 text)
   pub reads : (depth : ℕ) → size ≤ depth → (rest : List (List Line))
       → fold (entry_step q rules (node_read depth rules) e) (Some before) (entries ++ rest)
       ≡ fold (entry_step q rules (node_read depth rules) e) (Some after) rest
@@ -110,8 +113,8 @@ reads_none q rules e before = record {
   entries = [];
   ends = refl;
   splits = splits_none q e;
-  inside = λ r d h. refl;
-  markerless = λ h. refl;
+  inside = λ r d h. inside_passes r d [] refl;
+  within = all_content [] refl;
   reads = λ depth deep rest. refl;
 }
 
@@ -126,8 +129,8 @@ reads_both q rules e text more m n a b c one two =
       entries = one.entries ++ two.entries;
       ends = closed_both rules.breaks12 text more one.ends two.ends;
       splits = subst (λ ls. Splits q e ls (one.entries ++ two.entries)) (sym lines) (splits_both q e some others _ _ one.splits two.splits);
-      inside = λ r d h. subst (AllInside r d) (sym lines) (inside_both r d some others (one.inside r d h) (two.inside r d h));
-      markerless = λ h. subst AllMarkerless (sym lines) (markerless_both some others (one.markerless h) (two.markerless h));
+      inside = λ r d h. subst (Passes r d) (sym lines) (passes_both r d some others (one.inside r d h) (two.inside r d h));
+      within = subst AreContent (sym lines) (content_both some others one.within two.within);
       reads = λ depth deep rest.
           ap (fold (entry_step q rules (node_read depth rules) e) (Some a)) (append_assoc one.entries two.entries rest)
           ∙ one.reads depth (omega arith) (two.entries ++ rest) ∙ two.reads depth (omega arith) rest;
@@ -140,24 +143,37 @@ later_rank q r d e h = grind (arith, nat_tests)
 own_rank : (q : Bool) (e : ℕ) → e + rank (q && not q) ≤ e
 own_rank q e = grind (arith, nat_tests)
 
+-- an entry of a mapping begins so
+entry_of : (q : Bool) (t : Text) → q ≡ false → begins_entry q t ≡ true → begins_entry false t ≡ true
+entry_of q t h begins = ap (λ b. begins_entry b t) (sym h) ∙ begins
+
+-- its first line is no marker and no comment at column 0
+entry_content : (q : Bool) (e : ℕ) (t : Text) → begins_entry q t ≡ true → is_markerless (marker_of t) ≡ true → is_content (spaces e ++ t) ≡ true
+entry_content q zero t begins markerless =
+    and_from (is_markerless (marker_of t)) (not (begins_comment t)) markerless (ap not (begins_uncommented q t begins))
+entry_content q (suc e) t begins markerless = inside_content false (spaces (suc e) ++ t) refl
+
 -- a line at the column, and lines inside it, are one entry
 pub reads_one : (q : Bool) (rules : Rules) (e : ℕ) (t text ending : Text) (rest : List Line) (size : ℕ) (before after : Held q)
     → lines_of rules.breaks12 text ≡ record { text = spaces e ++ t; ending = ending } ∷ rest → is_closed rules.breaks12 text ≡ true
     → begins_entry q t ≡ true → is_markerless (marker_of t) ≡ true
     → ((r : Bool) (d : ℕ) → d + margin q r ≤ e → belongs_to_entry r d (spaces e ++ t) ≡ true)
-    → ((r : Bool) (d : ℕ) → d + rank (r && not q) ≤ e → AllInside r d rest)
+    → ((r : Bool) (d : ℕ) → d + rank (r && not q) ≤ e → Passes r d rest) → AreContent rest
     → ((depth : ℕ) → size ≤ depth → part_step q rules (node_read depth rules) e (Some before) (lines_of rules.breaks12 text) ≡ Some after)
     → Reads q rules e text size before after
-reads_one q rules e t text ending rest size before after is ends begins markerless first later step =
+reads_one q rules e t text ending rest size before after is ends begins markerless first later within step =
+    let line : Line = record { text = spaces e ++ t; ending = ending } in
     record {
       entries = lines_of rules.breaks12 text ∷ [];
       ends = ends;
       splits = subst (λ ls. Splits q e ls (ls ∷ [])) (sym is)
-          (splits_one q e _ rest (outside q e t begins) (entry_uncommented q e t begins) (later q e (own_rank q e)));
-      inside = λ r d h. subst (AllInside r d) (sym is) (and_from _ _ (first r d h) (later r d (later_rank q r d e h)));
-      markerless = λ h. subst AllMarkerless (sym is)
-          (and_from _ _ (ap (λ (n : ℕ). is_content (spaces n ++ t)) h ∙ and_from _ _ markerless (ap not (begins_uncommented q t begins)))
-          (all_markerless false rest (later false 0 (omega arith))));
+          (splits_one q e _ rest (outside q e t begins) (entry_uncommented q e t begins) (λ h more. entry_alone e t ending more (entry_of q t h begins))
+          (later q e (own_rank q e)));
+      inside = λ r d h.
+          subst (Passes r d) (sym is) (passes_both r d (line ∷ []) rest (inside_passes r d (line ∷ []) (and_from _ true (first r d h) refl))
+          (later r d (later_rank q r d e h)));
+      within = subst AreContent (sym is)
+          (content_both (line ∷ []) rest (all_content (line ∷ []) (and_from (is_content line.text) true (entry_content q e t begins markerless) refl)) within);
       reads = λ depth deep others.
           ap (λ state. fold (entry_step q rules (node_read depth rules) e) state others)
           (ap (entry_step q rules (node_read depth rules) e (Some before)) is
@@ -175,8 +191,13 @@ pub record Indicates (q : Bool) (c : ℕ) : Type 0 where
 -- the lines after the first of the text that an indicator opens are inside the column, if the node fits there
 pub rest_inside : (rules : Rules) (n : ℕ) (own : Rendered) (tree : Tree) (role : Role) (cursor : Cursor) (e : ℕ)
     (fit : Fits rules n own tree (entry_place false role e) cursor) (w : cursor.whitespace ≡ false)
-    (r : Bool) (d : ℕ) → d + rank (r && is_in_mapping role) ≤ e → AllInside r d (fit.opens w).rest
-rest_inside rules n own tree role cursor e fit w r d h = grind (arith, nat_tests)
+    (r : Bool) (d : ℕ) → d + rank (r && is_in_mapping role) ≤ e → Passes r d (fit.opens w).rest
+rest_inside rules n own tree role cursor e fit w r d h = subst (λ ls. Passes r d (lines_after_first ls)) (fit.opens w).is (fit.inside r d h)
+
+-- and within a document
+pub rest_within : (rules : Rules) (n : ℕ) (own : Rendered) (tree : Tree) (role : Role) (cursor : Cursor) (e : ℕ)
+    (fit : Fits rules n own tree (entry_place false role e) cursor) (w : cursor.whitespace ≡ false) → AreContent (fit.opens w).rest
+rest_within rules n own tree role cursor e fit w = subst (λ ls. AreContent (lines_after_first ls)) (fit.opens w).is (fit.within e refl)
 
 -- an indicator and the text of a node that it opens are one entry
 pub indicated_reads : (q : Bool) (c : ℕ) (rules : Rules) (n : ℕ) (own : Rendered) (tree : Tree) (role : Role) (cursor : Cursor) (e : ℕ) (before after : Held q)
@@ -190,7 +211,8 @@ indicated_reads q c rules n own tree role cursor e before after indicates mappin
     (indicated_lines rules.breaks12 e c (closed own) o (indicates.one_line rules.breaks12))
     (indicated_ends rules.breaks12 e c (closed own) o fit.ends)
     (indicates.begins o.head) (indicates.markerless o.head o.symbol) (λ r d h. indicates.inside r d e o.head h o.symbol)
-    (λ r d h. rest_inside rules n own tree role cursor e fit w r d (subst (λ m. d + rank (r && m) ≤ e) (sym mapping) h)) step
+    (λ r d h. rest_inside rules n own tree role cursor e fit w r d (subst (λ m. d + rank (r && m) ≤ e) (sym mapping) h))
+    (rest_within rules n own tree role cursor e fit w) step
 
 -- Entries
 
@@ -209,6 +231,18 @@ pub record Laid (q : Bool) (rules : Rules) (e : ℕ) (cursor : Cursor) (empty : 
   pub lays : empty ≡ false → Lays e (render_nothing cursor) own text
   pub opened : empty ≡ false → Opened rules e (lines_of rules.breaks12 text) (entries_kind q)
 
+-- they are so also with any number of blank lines after them, unless these are barred
+pub record LaidOr (q : Bool) (rules : Rules) (e : ℕ) (cursor : Cursor) (empty : Bool) (own : Rendered) (size : ℕ) (content : Content q) (bars : Bool)
+    : Type 0 where
+  pub laid : Laid q rules e cursor empty own size content
+  pub spares : empty ≡ false → bars ≡ false → (count : ℕ) → Laid q rules e cursor false (with_blanks count own) size content
+
+-- the text of one more item or pair after a rendered text, and its effect on the reader
+pub record Added (q : Bool) (rules : Rules) (e : ℕ) (first own : Rendered) (size : ℕ) (before after : Content q) : Type 0 where
+  pub text : Text
+  pub reads : Reads q rules e text size (held q before) (held q after)
+  pub entry : Entry q rules e first own text
+
 -- no entries
 pub laid_none : (q : Bool) (rules : Rules) (e : ℕ) (cursor : Cursor) → Laid q rules e cursor true (render_nothing cursor) 0 (no_content q)
 laid_none q rules e cursor = record {
@@ -220,45 +254,79 @@ laid_none q rules e cursor = record {
   opened = λ h. absurd (true≢false h);
 }
 
--- entries, and one more
-pub laid_and : (q : Bool) (rules : Rules) (e : ℕ) (cursor : Cursor) (empty : Bool) (first own : Rendered) (more : Text) (m n : ℕ) (a b : Content q)
-    → Laid q rules e cursor empty first m a → Reads q rules e more n (held q a) (held q b) → Entry q rules e first own more
+-- entries, and others whose text goes on from theirs
+pub laid_on : (q : Bool) (rules : Rules) (e : ℕ) (cursor : Cursor) (first own : Rendered) (more : Text) (m n : ℕ) (a b : Content q)
+    → Laid q rules e cursor false first m a → Reads q rules e more n (held q a) (held q b) → Settled own.cursor → closed own ≡ closed first ++ more
     → Laid q rules e cursor false own (m + n) b
-laid_and q rules e cursor empty first own more m n a b all next one =
+laid_on q rules e cursor first own more m n a b all next settled same =
+    let lays = all.lays refl in
     record {
       text = all.text ++ more;
       nothing = λ h. absurd (true≢false (sym h));
       reads = reads_both q rules e all.text more m n _ _ _ all.reads next;
-      settled = λ h. one.settled;
-      lays = λ h. laid empty all;
-      opened = λ h. opened empty all;
+      settled = λ h. settled;
+      lays = λ h. record {
+        head = lays.head;
+        tail = lays.tail ++ more;
+        is = ap (λ t. t ++ more) lays.is ∙ append_assoc (spaces e) (lays.head ∷ lays.tail) more;
+        lays = same ∙ ap (λ t. t ++ more) lays.lays ∙ append_assoc (new_line e cursor).text (lays.head ∷ lays.tail) more;
+      };
+      opened = λ h.
+          subst (λ ls. Opened rules e ls (entries_kind q)) (sym (lines_after_break rules.breaks12 all.text more all.reads.ends))
+          (opened_more rules e _ _ (entries_kind q) (all.opened refl));
     }
-  where
-    laid : (empty : Bool) (all : Laid q rules e cursor empty first m a) → Lays e (render_nothing cursor) own (all.text ++ more)
-    laid true all = record {
-      head = one.lays.head;
-      tail = one.lays.tail;
-      is = ap (λ t. t ++ more) (all.nothing refl).1 ∙ one.lays.is;
-      lays = one.lays.lays ∙ ap (λ (r : Rendered). r.text ++ ((new_line e r.cursor).text ++ (one.lays.head ∷ one.lays.tail))) (all.nothing refl).0;
-    }
-    laid false all =
-        let lays = all.lays refl in
-        record {
-          head = lays.head;
-          tail = lays.tail ++ more;
-          is = ap (λ t. t ++ more) lays.is ∙ append_assoc (spaces e) (lays.head ∷ lays.tail) more;
-          lays =
-              one.lays.lays
-              ∙ ap (λ t. first.text ++ (t ++ (one.lays.head ∷ one.lays.tail))) (new_line_closes e first.cursor (all.settled refl))
-              ∙ ap (λ t. first.text ++ t) (append_assoc (closing first.cursor) (spaces e) (one.lays.head ∷ one.lays.tail)
-              ∙ ap (λ t. closing first.cursor ++ t) (sym one.lays.is))
-              ∙ sym (append_assoc first.text (closing first.cursor) more)
-              ∙ ap (λ t. t ++ more) lays.lays
-              ∙ append_assoc (new_line e cursor).text (lays.head ∷ lays.tail) more;
-        }
 
-    opened : (empty : Bool) (all : Laid q rules e cursor empty first m a)
-        → Opened rules e (lines_of rules.breaks12 (all.text ++ more)) (entries_kind q)
-    opened true all = subst (λ t. Opened rules e (lines_of rules.breaks12 (t ++ more)) (entries_kind q)) (sym (all.nothing refl).1) one.opened
-    opened false all = subst (λ ls. Opened rules e ls (entries_kind q)) (sym (lines_after_break rules.breaks12 all.text more all.reads.ends))
-        (opened_more rules e _ _ (entries_kind q) (all.opened refl))
+-- up to its last line's end a text is laid out, too
+pub laid_closed : (q : Bool) (rules : Rules) (e : ℕ) (cursor : Cursor) (own : Rendered) (m : ℕ) (a : Content q) → Laid q rules e cursor false own m a
+    → Laid q rules e cursor false (with_blanks 0 own) m a
+laid_closed q rules e cursor own m a all =
+    let lays = all.lays refl in
+    record {
+      text = all.text;
+      nothing = λ h. absurd (true≢false (sym h));
+      reads = all.reads;
+      settled = λ h some. (refl, refl);
+      lays = λ h. record {
+        head = lays.head;
+        tail = lays.tail;
+        is = lays.is;
+        lays = append-nil (closed own ++ []) ∙ append-nil (closed own) ∙ lays.lays;
+      };
+      opened = all.opened;
+    }
+
+-- entries, and one more
+pub laid_and : (q : Bool) (rules : Rules) (e : ℕ) (cursor : Cursor) (empty : Bool) (first own : Rendered) (more : Text) (m n : ℕ) (a b : Content q)
+    → Laid q rules e cursor empty first m a → Reads q rules e more n (held q a) (held q b) → Entry q rules e first own more
+    → Laid q rules e cursor false own (m + n) b
+laid_and q rules e cursor true first own more m n a b all next one = record {
+  text = all.text ++ more;
+  nothing = λ h. absurd (true≢false (sym h));
+  reads = reads_both q rules e all.text more m n _ _ _ all.reads next;
+  settled = λ h. one.settled;
+  lays = λ h. record {
+    head = one.lays.head;
+    tail = one.lays.tail;
+    is = ap (λ t. t ++ more) (all.nothing refl).1 ∙ one.lays.is;
+    lays = one.lays.lays ∙ ap (λ (r : Rendered). r.text ++ ((new_line e r.cursor).text ++ (one.lays.head ∷ one.lays.tail))) (all.nothing refl).0;
+  };
+  opened = λ h. subst (λ t. Opened rules e (lines_of rules.breaks12 (t ++ more)) (entries_kind q)) (sym (all.nothing refl).1) one.opened;
+}
+laid_and q rules e cursor false first own more m n a b all next one =
+    laid_on q rules e cursor first own more m n a b all next one.settled
+    (one.lays.lays
+    ∙ ap (λ t. first.text ++ (t ++ (one.lays.head ∷ one.lays.tail))) (new_line_closes e first.cursor (all.settled refl))
+    ∙ ap (λ t. first.text ++ t) (append_assoc (closing first.cursor) (spaces e) (one.lays.head ∷ one.lays.tail)
+    ∙ ap (λ t. closing first.cursor ++ t) (sym one.lays.is))
+    ∙ sym (append_assoc first.text (closing first.cursor) more))
+
+-- entries, and one more, also with blank lines after it
+pub laid_added : (q : Bool) (rules : Rules) (e : ℕ) (cursor : Cursor) (empty : Bool) (first own : Rendered) (m n : ℕ) (a b : Content q) (bars : Bool)
+    → Laid q rules e cursor empty first m a → Added q rules e first own n a b
+    → (bars ≡ false → (count : ℕ) → Added q rules e first (with_blanks count own) n a b) → LaidOr q rules e cursor false own (m + n) b bars
+laid_added q rules e cursor empty first own m n a b bars all one spared = record {
+  laid = laid_and q rules e cursor empty first own one.text m n a b all one.reads one.entry;
+  spares = λ some allowed count.
+      let more = spared allowed count in
+      laid_and q rules e cursor empty first (with_blanks count own) more.text m n a b all more.reads more.entry;
+}

@@ -1,4 +1,6 @@
 -- A plain scalar as its own text on the lines of a block.
+use Rattle.yaml_base.specs.{CommentReading.is_keep, CommentReading.keeps_breaks, reading.ReadBlock.after_digit, reading.ReadBlock.chomping_first}
+use Rattle.yaml_base.proofs.Common.{◌||◌}
 use Rattle.yaml_base.proofs.Common.{arith, suc, ℕ, if◌then◌else◌, ◌==◌, Option, None, Some, codes, Bool, false, true, ◌&&◌, ◌||◌, [], ◌++◌, ◌∷◌, refl, ◌≡◌}
 use Rattle.yaml_base.proofs.Common.{eqb-true, true≢false, ap, sym, ◌∙◌, and_parts, or_parts, option_or, Text, is_among, is_blank, plain, is_read_break}
 use Rattle.yaml_base.proofs.Common.{is_read_white, begins_white, begins_no_plain, begins_with_hash, holds_no_plain, read_plain, ends_white, is_tidy}
@@ -90,3 +92,12 @@ own_plain rules column c t v tidy read =
   where
     own_text : Begins c → kind_of_text (c ∷ []) ≡ word_text
     own_text b = rw (b.literal, b.folded, b.square, b.curly) refl
+
+-- it is no block scalar
+pub plain_drops : (breaks12 : Bool) (column : Option ℕ) (c : ℕ) (t v rest : Text) → is_tidy plain breaks12 column (c ∷ t) ≡ true
+    → read_plain breaks12 false (c ∷ t) ≡ Some v → keeps_breaks (c ∷ rest) ≡ false
+plain_drops breaks12 column c t v rest tidy read =
+    let white = tidy_begins breaks12 c t (tidy_at_root plain breaks12 column (c ∷ t) tidy) in
+    let b = begins breaks12 c t (reads_plain breaks12 false c t v read).0 white in
+    ap (λ x. (x || c == 0x3E) && is_keep (chomping_first (after_digit rest))) b.literal
+    ∙ ap (λ x. x && is_keep (chomping_first (after_digit rest))) b.folded

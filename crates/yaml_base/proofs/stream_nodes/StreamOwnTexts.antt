@@ -5,6 +5,8 @@ use Rattle.yaml_base.proofs.Common.{is_read_break, ParsedTag, is_plain, scalar_t
 use Rattle.yaml_base.proofs.Common.{all_deeper, spaces, key_from, LinesReader, kind_of_text, text_by_kind, text_read, begins_text, not-true, kind_of_node}
 use Rattle.yaml_base.proofs.Common.{node_lines, begins_properties, after_properties, text_or_properties, Rules, Properties, properties_read, stood_in_style}
 use Rattle.yaml_base.proofs.{Common.scalar_parsed, Common.nat_tests, stream_flow.StreamPropertyWords.lead, stream_lines.StreamClosed.lines_behind}
+use Rattle.yaml_base.proofs.{CommentBlanks.blanks_kept, stream_lines.StreamLineLaws.is_closed, stream_lines.StreamClosed.closed_alike}
+use Rattle.yaml_base.specs.CommentReading.{blanks, keeps_breaks}
 use Rattle.yaml_base.proofs.{stream_lines.StreamLineLaws.text_of_lines_of, stream_nodes.StreamBegun.lead_line, stream_nodes.StreamBlocks.spaces_both}
 use Rattle.yaml_base.proofs.{stream_nodes.StreamLeads.lead_spaces, stream_nodes.StreamLeads.lead_then, stream_nodes.StreamLeafFits.TextReads}
 use Rattle.yaml_base.proofs.{stream_nodes.StreamStands.tag_meant, stream_keys.StreamNoKeys.KeyNowhere, stream_keys.StreamNoKeys.lead_nowhere}
@@ -164,7 +166,7 @@ own_uncommented rules column text value style own = by (own.head == 0x23) refl
 -- such a text reads on its lines after its properties
 pub own_reads : (rules : Rules) (column : Option ℕ) (text value : Text) (style : ScalarStyle) (anchor tag given_tag : Option Text) (bare : Bool)
     → OwnText rules column text style value → Given rules anchor tag (tag_meant given_tag bare) → (bare ≡ true → is_plain style ≡ false)
-    → TextReads rules column (lead anchor tag ++ text) (scalar_in anchor given_tag style bare value)
+    → TextReads rules column (lead anchor tag ++ text) (scalar_in anchor given_tag style bare value) (keeps_breaks text)
 own_reads rules column text value style anchor tag given_tag bare own given meant =
     let parsed = tag_meant given_tag bare in
     let lines = lines_of rules.breaks12 own.tail in
@@ -173,6 +175,22 @@ own_reads rules column text value style anchor tag given_tag bare own given mean
     let parts = and_parts (not (own.head == space)) (not (own.head == 0x26) && not (own.head == 0x21)) own.content in
     let h = headed rules anchor tag parsed own.head f given (not-true (own.head == space) parts.0) in
     let alone : Given rules None None None = record { named = tt; tagged = tt } in
+    let ending = first_ending lines in
+    let rest = lines_after_first lines in
+    let tree = scalar_in anchor given_tag style bare value in
+    let after : (rest : List Line) (reads : LinesReader) (at : ℕ)
+    → text_or_properties (begins_properties (h.head ∷ h.tail)) rules reads column at (h.head ∷ h.tail) ending rest
+    ≡ text_read rules column properties (own.head ∷ f) ending rest =
+    λ rest reads at.
+    ap (λ t. text_or_properties (begins_properties t) rules reads column at t ending rest) (sym h.is)
+    ∙ parsed_reads rules reads column at anchor tag parsed own.head f ending rest given own.content
+    (own_uncommented rules column text value style own)
+    (own_kind rules None None None own.head f alone own.no_item own.no_key (own.keyless None None None alone)) in
+    let read : text_read rules column properties (own.head ∷ f) ending rest ≡ Some tree =
+    own_read rules column properties own.head own.tail own.goes_on (deeper_all column rest own.deeper) ∙ own.read properties
+    ∙ ap (option_map (λ tagging. scalar_tree anchor tagging value)) (tagging_meant given_tag style bare meant) in
+    let whole : (own.head ∷ f) ++ (ending ++ text_of_lines rest) ≡ text =
+    sym (ap text_of_lines (lines_shown rules.breaks12 own.head own.tail own.goes_on)) ∙ text_of_lines_of rules.breaks12 (own.head ∷ own.tail) ∙ sym own.is in
     record {
       head = h.head;
       first = h.tail;
@@ -187,12 +205,11 @@ own_reads rules column text value style anchor tag given_tag bare own given mean
       kind =
           ap (kind_of_node rules) (sym h.is) ∙ own_kind rules anchor tag parsed own.head f given own.no_item own.no_key (own.keyless anchor tag parsed given);
       deeper = own.deeper;
-      read = λ reads at.
-          ap (λ t. text_or_properties (begins_properties t) rules reads column at t (first_ending lines) (lines_after_first lines)) (sym h.is)
-          ∙ parsed_reads rules reads column at anchor tag parsed own.head f (first_ending lines) (lines_after_first lines) given own.content
-          (own_uncommented rules column text value style own)
-          (own_kind rules None None None own.head f alone own.no_item own.no_key (own.keyless None None None alone))
-          ∙ own_read rules column properties own.head own.tail own.goes_on (deeper_all column (lines_after_first lines) own.deeper)
-          ∙ own.read properties
-          ∙ ap (option_map (λ tagging. scalar_tree anchor tagging value)) (tagging_meant given_tag style bare meant);
+      read = λ reads at. after rest reads at ∙ read;
+      spares = λ drops ends count reads at.
+          let closed = closed_alike rules.breaks12 [] (lead anchor tag) own.head own.tail
+          (ap (λ t. is_closed rules.breaks12 (lead anchor tag ++ t)) (sym own.is) ∙ ends) in
+          after (rest ++ blanks count) reads at
+          ∙ blanks_kept count rules column properties (own.head ∷ f) ending rest tree
+          (ap (is_closed rules.breaks12) (whole ∙ own.is) ∙ closed) (ap keeps_breaks whole ∙ drops) read;
     }

@@ -5,12 +5,12 @@ use Rattle.yaml_base.proofs.{stream_documents.StreamNoComment.no_key, stream_lin
 use Rattle.yaml_base.proofs.Common.{sym, ◌∙◌, eqb-true, and_from, Text, space, Cursor, Rendered, indicator, TagDirective, Node, Pairs}
 use Rattle.yaml_base.proofs.Common.{entry_place, as_key, as_value, Place, has_no_pairs, Effective, Tree, marker_of}
 use Rattle.yaml_base.proofs.stream_lines.StreamClosed.{closed, indicator_cursor, margin_cursor, spaces_line, lines_behind}
-use Rattle.yaml_base.{proofs.stream_lines.StreamSections.is_markerless, proofs.stream_nodes.StreamAgrees.node_tree, proofs.stream_nodes.StreamTexts.node_own}
+use Rattle.yaml_base.{proofs.stream_lines.StreamSections.is_markerless, proofs.stream_nodes.StreamTexts.node_own}
 use Rattle.yaml_base.{specs.streams.StreamNodes.kind_of_entry}
 use Rattle.yaml_base.proofs.Common.{lines_of, ends_indicator, begins_with_indicator, spaces, key_of_line, simple_entry, Rules}
 use Rattle.yaml_base.proofs.stream_lines.StreamLineLaws.{OneLine, unbroken_line}
 use Rattle.yaml_base.proofs.stream_lines.StreamInside.{begins_entry}
-use Rattle.yaml_base.proofs.stream_nodes.StreamFits.{size, Opens, Fits}
+use Rattle.yaml_base.proofs.stream_nodes.StreamFits.{Opens, Fits}
 
 -- the effect of a simple key's text on the reader, before `:` and a text that an indicator opens: a line begins with it, no indicator of an entry
 -- does, it is no marker, and it is cut off as the key
@@ -37,38 +37,32 @@ value_place simple e = entry_place false (as_value simple) e
 abbrev pub colon_cursor : Cursor → Cursor
 colon_cursor cursor = (indicator (codes ":") false false false cursor).cursor
 
--- the rendered text of a simple key, and of a key after `?`
+-- the rendered text of a simple key
 abbrev pub simple_key : Pairs → Node → Effective → List TagDirective → ℕ → Rendered
 simple_key pairs key s directives e = node_own key s directives (key_place pairs e) (margin_cursor e)
 
-abbrev pub indicated_key : Pairs → Node → Effective → List TagDirective → ℕ → Rendered
-indicated_key pairs key s directives e = node_own key s directives (key_place pairs e) (indicator_cursor e)
+-- the cursor at which a key begins, and its value
+abbrev pub key_cursor : (simple : Bool) → ℕ → Cursor
+key_cursor true e = margin_cursor e
+key_cursor false e = indicator_cursor e
 
--- the rendered text of a value after a simple key, and after a `:` of its own
-abbrev pub simple_value : Pairs → Node → Node → Effective → List TagDirective → ℕ → Rendered
-simple_value pairs key value s directives e =
-    node_own value s directives (value_place true e) (colon_cursor (simple_key pairs key s directives e).cursor)
-
-abbrev pub indicated_value : Node → Effective → List TagDirective → ℕ → Rendered
-indicated_value value s directives e = node_own value s directives (value_place false e) (indicator_cursor e)
+abbrev pub value_cursor : (simple : Bool) → ℕ → (key : Rendered) → Cursor
+value_cursor true e key = colon_cursor key.cursor
+value_cursor false e key = indicator_cursor e
 
 -- a pair from its column on and up to its line's end
-abbrev pub pair_text : (simple : Bool) → Pairs → Node → Node → Effective → List TagDirective → ℕ → Text
-pair_text true pairs key value s directives e =
-    spaces e ++ ((simple_key pairs key s directives e).text ++ (0x3A ∷ closed (simple_value pairs key value s directives e)))
-pair_text false pairs key value s directives e =
-    (spaces e ++ (0x3F ∷ closed (indicated_key pairs key s directives e))) ++ (spaces e ++ (0x3A ∷ closed (indicated_value value s directives e)))
+abbrev pub pair_text : (simple : Bool) → ℕ → (key value : Rendered) → Text
+pair_text true e key value = spaces e ++ (key.text ++ (0x3A ∷ closed value))
+pair_text false e key value = (spaces e ++ (0x3F ∷ closed key)) ++ (spaces e ++ (0x3A ∷ closed value))
 
--- a pair fits
-abbrev pub PairFits : (simple : Bool) → Rules → Effective → List TagDirective → Pairs → Node → Node → ℕ → Type 0
-PairFits true rules s directives pairs key value e =
-    KeyFits rules (simple_key pairs key s directives e).text (node_tree key s directives (key_place pairs e))
-    × Fits rules (size value) (simple_value pairs key value s directives e) (node_tree value s directives (value_place true e)) (value_place true e)
-    (colon_cursor (simple_key pairs key s directives e).cursor)
-PairFits false rules s directives pairs key value e =
-    Fits rules (size key) (indicated_key pairs key s directives e) (node_tree key s directives (key_place pairs e)) (key_place pairs e) (indicator_cursor e)
-    × Fits rules (size value) (indicated_value value s directives e) (node_tree value s directives (value_place false e)) (value_place false e)
-    (indicator_cursor e)
+-- a key fits at its place, the first one or another
+abbrev pub KeyFitsAt : (simple : Bool) → Rules → ℕ → (first : Bool) → (size : ℕ) → Rendered → Tree → Type 0
+KeyFitsAt true rules e first size key tree = KeyFits rules key.text tree
+KeyFitsAt false rules e first size key tree = Fits rules size key tree (entry_place false (as_key first) e) (indicator_cursor e)
+
+-- a value fits after its key
+abbrev pub ValueFits : (simple : Bool) → Rules → ℕ → (size : ℕ) → (key value : Rendered) → Tree → Type 0
+ValueFits x rules e size key value tree = Fits rules size value tree (value_place x e) (value_cursor x e key)
 
 -- the lines of a simple key and the text that its `:` opens
 pub keyed_lines : (rules : Rules) (text t : Text) (tree : Tree) (e : ℕ) → KeyFits rules text tree → (o : Opens rules.breaks12 t)

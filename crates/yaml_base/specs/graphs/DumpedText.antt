@@ -1,6 +1,7 @@
--- The canonical text of a dumped document: one document without directives, each node with its anchor and its tag, and two spaces for each
--- level.
-use Rattle.std.specs.Prelude.{◌≡◌, ℕ, ◌+◌, Bool, true, false, not, Option, None, Some, List, [], ◌∷◌, ◌++◌, codes}
+-- The canonical text of a dumped document or of a value: one document without directives, each node with its anchor and its tag, and two
+-- spaces for each level.
+use Rattle.std.specs.Prelude.{◌≡◌, ℕ, ◌+◌, Bool, true, false, not, Option, None, Some, List, [], ◌∷◌, ◌++◌, codes, replicate}
+use Rattle.std.specs.List.{flat_map}
 use Rattle.yaml_base.specs.Characters.{Text, line_feed, space}
 use Rattle.yaml_base.specs.Event.{Scalar, Collection, DocumentStart, Event}
 use Rattle.yaml_base.specs.Grammar.{Node, alias_node, scalar_node, sequence_node, mapping_node, Nodes, no_nodes, nodes_and, Pairs, no_pairs, pairs_and}
@@ -9,7 +10,16 @@ use Rattle.yaml_base.specs.Places.{has_no_nodes, has_no_pairs}
 use Rattle.yaml_base.specs.Tags.{default_directives, spelled, spelling}
 use Rattle.yaml_base.specs.graphs.Meetings.{Graph, document_event_list}
 use Rattle.yaml_base.specs.graphs.Unfolding.{TreeUnfolds}
-use Rattle.yaml_base.specs.values.ValueText.{in_quotes, line_at}
+use Rattle.yaml_base.specs.scalars.DoubleQuoted.{character_text, quote}
+use Rattle.yaml_base.specs.values.TypedValues.{TypedValue, value_node}
+
+-- a text between double quotes, each character as itself or as its escape
+abbrev pub in_quotes : Text → Text
+in_quotes text = quote ∷ (flat_map (character_text true) text ++ quote ∷ [])
+
+-- a new line, whose text begins at a column
+abbrev pub line_at : ℕ → Text
+line_at column = line_feed ∷ replicate column space
 
 -- `&` and the anchor, if there is one
 abbrev pub anchor_text : Option Text → Text
@@ -60,6 +70,13 @@ abbrev mutual
 -- the text of a document, by its root
 abbrev pub dumped_text : Node → Text
 dumped_text root = codes "---\n" ++ (node_text 0 root ++ line_feed ∷ [])
+
+-- a value in a line that begins at a column, and the document that holds it
+abbrev pub value_text : ℕ → TypedValue → Text
+value_text column value = node_text column (value_node value)
+
+abbrev pub document_text : TypedValue → Text
+document_text value = dumped_text (value_node value)
 
 -- a document without version and directives, whose end isn't written
 pub record IsBareDocument (start : DocumentStart) (end_implicit : Bool) : Type 0 where

@@ -1,4 +1,4 @@
-use Rattle.yaml_base.proofs.{DumpedOutputs.dump_output, DumpedOutputs.one_text, DumpedOutputs.text_output, ValueTexts.document_is}
+use Rattle.yaml_base.proofs.{DumpedOutputs.dump_output, DumpedOutputs.one_text, DumpedOutputs.text_output}
 use Rattle.yaml_base.proofs.laws.canonical_documents_have_texts.Goals as goal
 
 pub returns-clause-output : goal.returns-clause-output
@@ -11,6 +11,3 @@ returns-clause-dumped c graph events dumped bare =
 
 pub returns-clause-one : goal.returns-clause-one
 returns-clause-one c = one_text
-
-pub returns-clause-values : goal.returns-clause-values
-returns-clause-values c = document_is
