@@ -9,8 +9,7 @@ text_bytes-append e (x ∷ xs) ys =
     ap (λ l. character_bytes e x ++ l) (text_bytes-append e xs ys) ∙ sym (append_assoc (character_bytes e x) (text_bytes e xs) (text_bytes e ys))
 
 pub encode-append : (e : Encoding) (xs ys : Text) → encode (Some e) (xs ++ ys) ≡ encode (Some e) xs ++ text_bytes e ys
-encode-append e xs ys =
-    ap (text_bytes e) (sym (append_assoc (bom_text e) xs ys)) ∙ text_bytes-append e (bom_text e ++ xs) ys
+encode-append e xs ys = ap (text_bytes e) (sym (append_assoc (bom_text e) xs ys)) ∙ text_bytes-append e (bom_text e ++ xs) ys
 
 pub all_scalars-append : (xs ys : Text) → all_scalars xs ≡ true → all_scalars ys ≡ true → all_scalars (xs ++ ys) ≡ true
 all_scalars-append [] ys p q = q

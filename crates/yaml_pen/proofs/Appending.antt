@@ -15,21 +15,8 @@ pub record MadeRoom (before after : OutletState) : Type 0 where
   pub taken : after.taken ≡ before.taken
   pub output : IsPrefix before.output after.output
 
-pub room_flushed : (before after : OutletState) → Emptied before after (Ok tt) → IsPrefix before.output after.output → MadeRoom before after
-room_flushed before after emptied output =
-    let unfailed = none_from_result after.error emptied.answered in
-    record {
-      no_error = (emptied.all unfailed).0;
-      unfailed = unfailed;
-      all = ap (λ (b : OutletState). b.all) emptied.kept;
-      limit = ap (λ (b : OutletState). b.limit) emptied.kept;
-      taken = ap (λ (b : OutletState). b.taken) emptied.kept;
-      output = output;
-    }
-
 pub room_left : (bytes : OutletState) → bytes.error ≡ None → MadeRoom bytes bytes
-room_left bytes none =
-    record { no_error = none; unfailed = none; all = refl; limit = refl; taken = refl; output = prefix_itself bytes.output }
+room_left bytes none = record { no_error = none; unfailed = none; all = refl; limit = refl; taken = refl; output = prefix_itself bytes.output }
 
 pub unfailed : (error : Option yaml_error_t) → ((e : yaml_error_t) → error ≡ Some e → ⊥) → error ≡ None
 unfailed None never = refl

@@ -5,7 +5,6 @@ pub mod Adding
 pub mod Starting
 pub mod Writing
 pub mod Composing
-mod Refused
 mod Appending
 pub mod StillToWrite
 pub mod Cuts

@@ -1,5 +1,5 @@
 -- Copies of an ASCII character that is no break, line feeds, and LF before spaces.
-use Rattle.yaml_pen.proofs.Common.{suc, zero, ℕ, ◌+◌, ◌-◌, ◌<◌, ◌≤◌, replicate, false, ◌++◌, ◌∷◌, refl, ◌≡◌, ap, sym, ◌∙◌, arith, list_any, IsAscii, line_feed, space}
+use Rattle.yaml_pen.proofs.Common.{suc, zero, ℕ, ◌-◌, ◌<◌, ◌≤◌, replicate, false, ◌++◌, ◌∷◌, refl, ◌≡◌, ap, sym, ◌∙◌, arith, list_any, IsAscii, line_feed, space}
 use Rattle.yaml_pen.proofs.Common.{is_break, column_after, render_text, with_breaks_written, LineBreak, line_feed_break, Page}
 use Rattle.std.proofs.lemmas.{List.Elements.All-replicate, List.replicate-append-replicate, Str.Ascii.IsAscii-from_all}
 use Rattle.yaml_pen.proofs.Writing.{Names, unbroken-written}
@@ -16,8 +16,7 @@ copies_unbroken (suc count) character is = grind (arith, is, copies_unbroken cou
 -- a part of them, and the others
 pub copies_split : (count part character : ℕ) → part ≤ count
     → replicate count character ≡ replicate part character ++ replicate (count - part) character
-copies_split count part character le =
-    sym (replicate-append-replicate part (count - part) character ∙ ap (λ n. replicate n character) (omega arith))
+copies_split count part character le = sym (replicate-append-replicate part (count - part) character ∙ ap (λ n. replicate n character) (omega arith))
 
 -- LF and spaces are ASCII, and stay as they are if LF does
 pub line_start_ascii : (count : ℕ) → IsAscii (line_feed ∷ replicate count space)

@@ -7,10 +7,8 @@ use Rattle.yaml_base.specs.{declared.encodings.yaml_encoding_t.yaml_encoding_t}
 
 pub decode-nil : (encoding : Option Encoding) → decode encoding [] ≡ []
 unfolding decode
-decode-nil None = refl
 decode-nil (Some utf8) = chars-nil
-decode-nil (Some utf16_little) = refl
-decode-nil (Some utf16_big) = refl
+decode-nil _ = refl
 
 pub decode-empty : (encoding : Option Encoding) (bytes : List ℕ) → bytes ≡ [] → decode encoding bytes ≡ []
 decode-empty encoding bytes e = ap (decode encoding) e ∙ decode-nil encoding
@@ -80,14 +78,12 @@ page-begun encoding old line_break old_break bytes whitespace indention due old_
 -- a byte order mark is the bytes of a stream without text
 bom-encoded : (e : Encoding) → has_bom (Some e) ≡ true → encode (Some e) [] ≡ character_bytes e byte_order_mark
 bom-encoded utf8 marks = absurd (false≢true marks)
-bom-encoded utf16_little _ = refl
-bom-encoded utf16_big _ = refl
+bom-encoded _ _ = refl
 
 bom-decoded : (e : Encoding) → has_bom (Some e) ≡ true → decode (Some e) (character_bytes e byte_order_mark) ≡ []
 unfolding decode
 bom-decoded utf8 marks = absurd (false≢true marks)
-bom-decoded utf16_little _ = refl
-bom-decoded utf16_big _ = refl
+bom-decoded _ _ = refl
 
 -- a pen is one after its byte order mark
 pub IsPen-bom_written : (e : Encoding) (encoding : yaml_encoding_t) (line_break : yaml_break_t) (bytes after : OutletState) (whitespace indention due : Bool)

@@ -33,8 +33,7 @@ still_same layout {old} {new} {whole} {start} {here} is still = subst (λ (t : T
 -- the rest depends only on the text that its layout puts at the cursor
 pub still_as : {rest whole : Cursor → Rendered} (other : Cursor → Rendered) {start here : Page}
     → rest here.cursor ≡ other here.cursor → StillToWrite rest whole start here → StillToWrite other whole start here
-still_as {rest} other same still =
-    record { ready = still.ready; writes = λ after answer wrote. still.writes after answer (wrote_as rest (sym same) wrote) }
+still_as {rest} other same still = record { ready = still.ready; writes = λ after answer wrote. still.writes after answer (wrote_as rest (sym same) wrote) }
 
 -- the rest of a text is a part of it, and then another rest
 pub still_part : (part rest : Text) {left : Text} {whole : Cursor → Rendered} {start here : Page} → left ≡ part ++ rest

@@ -25,14 +25,3 @@ moved kept buffer taken left limit error =
       limit = limit;
       error = error;
     } in b) (append-nil (taken ++ left))
-
-pub still_outlet : (kept count more : ℕ) (buffer taken left : List ℕ) (limit : ℕ) (error : Option yaml_error_t)
-    → IsOutlet kept count buffer taken left limit error → more ≡ length left → IsOutlet kept (count + more) buffer (taken ++ left) [] limit error
-still_outlet kept count more buffer taken left limit error outlet is =
-    let same = sym (all_of taken left) in
-    record {
-      within = subst (λ (output : List ℕ). kept ≤ length output) same outlet.within;
-      whole = λ none. subst (λ (output : List ℕ). kept ≡ length output) same (outlet.whole none);
-      sound_output = subst (λ (output : List ℕ). IsFlushedOutput (take kept output ++ buffer) output limit error) same outlet.sound_output;
-      counted = omega (arith, outlet.counted, is, length-append taken left);
-    }

@@ -170,13 +170,11 @@ break_of line_break = break_text (line_break_of line_break)
 
 pub scalar-break : (setting : LineBreak) → all_scalars (break_text setting) ≡ true
 scalar-break carriage_return_break = refl
-scalar-break line_feed_break = refl
-scalar-break both_break = refl
+scalar-break _ = refl
 
 pub break-column : (setting : LineBreak) (column : ℕ) → column_after (break_text setting) column ≡ 0
 break-column carriage_return_break column = refl
-break-column line_feed_break column = refl
-break-column both_break column = refl
+break-column _ column = refl
 
 -- LF names the break of the setting
 pub Names-break : (page : Page) → Names (break_text page.line_break) (render_text (line_feed ∷ [])) page
@@ -190,8 +188,7 @@ Names-break page =
 pub no_bom : (encoding : Option Encoding) → IsSome encoding → has_bom encoding ≡ false → encoding ≡ Some utf8
 no_bom None some no_exclamation = absurd (false≢true some)
 no_bom (Some utf8) some no_exclamation = refl
-no_bom (Some utf16_little) some no_exclamation = cc
-no_bom (Some utf16_big) some no_exclamation = cc
+no_bom _ some no_exclamation = cc
 
 encodes-bytes : (text : Text) → encode_utf8_all text ≡ text_bytes utf8 text
 encodes-bytes [] = refl

@@ -1,4 +1,4 @@
-use Rattle.yaml_pen.proofs.Common.{subst, arith, elements, IsPrefix, OutletState}
+use Rattle.yaml_pen.proofs.Common.{subst, IsPrefix, OutletState}
 use Rattle.yaml_pen.{proofs.Outlets.last_flushes_grows, specs.Outlet.whole_output}
 use Rattle.yaml_pen.proofs.outlet.Outlet.flush.Goals as goal
 
@@ -9,9 +9,3 @@ returns-in-Err-clause-output g c =
     subst (λ (bytes : OutletState). IsPrefix bytes.output after) c.self.view_is
     (last_flushes_grows c.as_slice.result.now (whole_output taken c.self.inside.output.items) after c.self.inside.limit c.flush_after_taken-answer.result
     c.self.invariant.sound_output.within c.flush_after_taken-answer.ensures.sound_output)
-
-pub invariant_of-self-in-Err : goal.invariant_of-self-in-Err
-invariant_of-self-in-Err g c = grind (arith, elements) steps 300000
-
-pub returns-in-Err-clause-emptied : goal.returns-in-Err-clause-emptied
-returns-in-Err-clause-emptied g c = grind (arith, elements) steps 300000

@@ -1,6 +1,6 @@
-use Rattle.yaml_pen.proofs.Common.{min, ◌∷◌, ap, subst, sym, ◌∙◌, replicate, take-replicate, line_feed, column_after, render_text, decode, seen_encoding, utf8, Page}
+use Rattle.yaml_pen.proofs.Common.{min, ap, subst, sym, ◌∙◌, replicate, take-replicate, line_feed, column_after, render_text, decode, seen_encoding, utf8, Page}
 use Rattle.yaml_pen.proofs.Common.{has_bom, IsReady, arith}
-use Rattle.yaml_pen.proofs.{AsciiRuns.ascii-bytes, AsciiRuns.ascii-scalars, Composing.wrote_exit, Refused.Wrote-refused}
+use Rattle.yaml_pen.proofs.{AsciiRuns.ascii-bytes, AsciiRuns.ascii-scalars}
 use Rattle.yaml_pen.proofs.Spaces.{copies_ascii, line_feeds_names, line_feeds_column}
 use Rattle.yaml_pen.proofs.Writing.{AddsEvent-appended, IsPen-added, Wrote-added, no_bom}
 use Rattle.yaml_pen.proofs.pen.Pen.append_line_feeds.Goals as goal
@@ -18,15 +18,6 @@ invariant_of-self-2 g c =
     c.self.inside.bom_due c.self.inside.column _ c.self.invariant ready.bom_written is_utf8 (ascii-scalars raw ascii) adds
     (sym (ap (λ n. min n 4294967295)
     (line_feeds_column c.args.count (column_after (decode (seen_encoding c.self.inside.encoding) c.self.inside.outlet.all) 0) c.requires.some)))
-
-pub returns-in_err-append : goal.returns-in_err-append
-returns-in_err-append g c = record {
-  written =
-      wrote_exit c.from_residual.ensures
-      (Wrote-refused c.self.inside.encoding c.self.inside.line_break _ c.self.inside.outlet c.append.new.self c.self.inside.whitespace c.self.inside.indention
-      c.self.inside.bom_due c.self.inside.column c.args.self.now (render_text (replicate c.args.count line_feed)) _ c.self.invariant c.in_err-append.ensures
-      c.self.view_is c.requires.ready);
-}
 
 pub returns : goal.returns
 returns g c = record {

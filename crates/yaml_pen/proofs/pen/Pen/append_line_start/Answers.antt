@@ -1,7 +1,7 @@
 use Rattle.yaml_pen.proofs.Common.{min, ℕ, ◌+◌, ◌≤◌, replicate, take, List, ◌∷◌, ◌≡◌, ap, subst, sym, ◌∙◌, add-one, arith, take-replicate, line_feed, space}
 use Rattle.yaml_pen.proofs.Common.{column_after, render_text, decode, seen_encoding, utf8, line_begun, Page, has_bom, IsReady}
 use Rattle.yaml_pen.proofs.{AsciiRuns.ascii-bytes, AsciiRuns.ascii-scalars, Composing.wrote_as, NewLines.column_after-spaces, NewLines.broken_begun}
-use Rattle.yaml_pen.proofs.{Spaces.line_start_ascii, Spaces.line_start_names, Composing.wrote_exit, Refused.Wrote-refused}
+use Rattle.yaml_pen.proofs.{Spaces.line_start_ascii, Spaces.line_start_names}
 use Rattle.yaml_pen.proofs.Writing.{AddsEvent-appended, IsPen-added, Wrote-added, no_bom}
 use Rattle.yaml_pen.specs.declared.pen.new_lines.TheConstants.{LINE_START}
 use Rattle.yaml_pen.proofs.pen.Pen.append_line_start.Goals as goal
@@ -28,15 +28,6 @@ invariant_of-self-2 g c =
     c.self.inside.indention
     c.self.inside.bom_due c.self.inside.column _ c.self.invariant ready.bom_written is_utf8 (ascii-scalars raw ascii) adds
     (at_column c.args.at (column_after (decode (seen_encoding c.self.inside.encoding) c.self.inside.outlet.all) 0) c.requires.few)
-
-pub returns-in_err-append : goal.returns-in_err-append
-returns-in_err-append g c = record {
-  written =
-      wrote_exit c.from_residual.ensures
-      (Wrote-refused c.self.inside.encoding c.self.inside.line_break _ c.self.inside.outlet c.append.new.self c.self.inside.whitespace c.self.inside.indention
-      c.self.inside.bom_due c.self.inside.column c.args.self.now (line_begun c.args.at) _ c.self.invariant c.in_err-append.ensures
-      c.self.view_is c.requires.ready);
-}
 
 pub returns : goal.returns
 returns g c = record {

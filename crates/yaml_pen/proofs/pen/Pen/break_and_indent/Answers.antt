@@ -1,35 +1,9 @@
 use Rattle.yaml_pen.{proofs.NewLines.break-then-spaces, specs.Lines.render_line_break}
-use Rattle.yaml_pen.proofs.Common.{if◌then◌else◌, Ok, Bool, [], ◌∷◌, ap, subst, sym, ◌∙◌, line_feed, render_text, render_nothing, spaces_to, line_begun, Page}
+use Rattle.yaml_pen.proofs.Common.{if◌then◌else◌, Ok, Bool, [], ◌∷◌, ap, subst, sym, ◌∙◌, line_feed, render_text, render_nothing, line_begun, Page}
 use Rattle.yaml_pen.proofs.Common.{Wrote}
-use Rattle.yaml_pen.proofs.Composing.{wrote_then, wrote_failed, wrote_as, wrote_exit}
+use Rattle.yaml_pen.proofs.Composing.{wrote_then, wrote_as}
 use Rattle.yaml_pen.proofs.pen.Pen.break_and_indent.Goals as goal
 use Rattle.yaml_pen.proofs.pen.Pen.break_and_indent.Goals.{then-breaks_line+in_ok-put_break, else-breaks_line+in_ok-write_nothing}
-
-pub returns-in_err-put_break : goal.returns-in_err-put_break
-returns-in_err-put_break g c = record {
-  written =
-      let at = c.args.at in
-      let cursor = c.args.self.now.cursor in
-      wrote_exit c.from_residual.ensures
-      (wrote_as (line_begun at) (break-then-spaces at cursor)
-      (wrote_failed (spaces_to at)
-      (wrote_as (render_line_break at)
-      (ap (λ (b : Bool). if b then render_text (line_feed ∷ []) cursor else render_nothing cursor) (sym c.if-breaks_line.true ∙ c.breaks_line.ensures))
-      c.in_err-put_break.ensures.written)));
-}
-
-pub returns-in_err-write_nothing : goal.returns-in_err-write_nothing
-returns-in_err-write_nothing g c = record {
-  written =
-      let at = c.args.at in
-      let cursor = c.args.self.now.cursor in
-      wrote_exit c.from_residual-in_err-write_nothing.ensures
-      (wrote_as (line_begun at) (break-then-spaces at cursor)
-      (wrote_failed (spaces_to at)
-      (wrote_as (render_line_break at)
-      (ap (λ (b : Bool). if b then render_text (line_feed ∷ []) cursor else render_nothing cursor) (sym c.if-breaks_line.false ∙ c.breaks_line.ensures))
-      c.in_err-write_nothing.ensures)));
-}
 
 pub returns : goal.returns
 returns g c = record {

@@ -1,7 +1,6 @@
 use Rattle.yaml_pen.proofs.Common.{min, [], ◌∷◌, ap, subst, sym, ◌∙◌, line_feed, render_text, Page, IsReady}
 use Rattle.yaml_pen.proofs.Writing.{Names, AddsEvent-appended, IsPen-added, Wrote-added, known_encoding, line_break_of, break_of, scalar-break, break-column}
 use Rattle.yaml_pen.proofs.Writing.{Names-break}
-use Rattle.yaml_pen.proofs.{Composing.wrote_exit, Refused.Wrote-refused}
 use Rattle.yaml_pen.proofs.pen.Pen.put_break.Goals as goal
 
 pub invariant_of-self-2 : goal.invariant_of-self-2
@@ -14,15 +13,6 @@ invariant_of-self-2 g c =
     c.self.inside.whitespace c.self.inside.indention
     c.self.inside.bom_due c.self.inside.column _ c.self.invariant ready.bom_written e.1 (scalar-break (line_break_of c.self.inside.line_break)) adds
     (sym (ap (λ n. min n 4294967295) (break-column (line_break_of c.self.inside.line_break) _)))
-
-pub returns-in_err-append : goal.returns-in_err-append
-returns-in_err-append g c = record {
-  written =
-      wrote_exit c.from_residual.ensures
-      (Wrote-refused c.self.inside.encoding c.self.inside.line_break _ c.self.inside.outlet c.append.new.self c.self.inside.whitespace c.self.inside.indention
-      c.self.inside.bom_due c.self.inside.column c.args.self.now (render_text (line_feed ∷ [])) _ c.self.invariant c.in_err-append.ensures
-      c.self.view_is c.requires.ready);
-}
 
 pub returns : goal.returns
 returns g c = record {

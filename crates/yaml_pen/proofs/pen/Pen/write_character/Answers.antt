@@ -1,6 +1,5 @@
 use Rattle.yaml_pen.proofs.Common.{[], ◌∷◌, subst, sym, ◌∙◌, render_text, IsReady}
 use Rattle.yaml_pen.proofs.Writing.{AddsEvent-appended, IsPen-added, Wrote-added, known_encoding, character_bytes-text, scalar-text, Names-character}
-use Rattle.yaml_pen.proofs.{Composing.wrote_exit, Refused.Wrote-refused}
 use Rattle.yaml_pen.proofs.pen.Pen.write_character.Goals as goal
 
 pub invariant_of-self-2 : goal.invariant_of-self-2
@@ -13,15 +12,6 @@ invariant_of-self-2 g c =
     c.self.inside.indention
     c.self.inside.bom_due c.self.inside.column _ c.self.invariant ready.bom_written e.1 (scalar-text c.args.character c.ranges.character.0) adds
     (c.next_column-self-inside.ensures _ c.self.invariant.column)
-
-pub returns-in_err-append : goal.returns-in_err-append
-returns-in_err-append g c = record {
-  written =
-      wrote_exit c.from_residual.ensures
-      (Wrote-refused c.self.inside.encoding c.self.inside.line_break _ c.self.inside.outlet c.append.new.self c.self.inside.whitespace c.self.inside.indention
-      c.self.inside.bom_due c.self.inside.column c.args.self.now (render_text (c.args.character ∷ [])) _ c.self.invariant c.in_err-append.ensures
-      c.self.view_is c.requires.ready);
-}
 
 pub returns : goal.returns
 returns g c = record {

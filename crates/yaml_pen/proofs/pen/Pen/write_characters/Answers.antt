@@ -1,19 +1,8 @@
-use Rattle.yaml_pen.proofs.Common.{[], ◌∷◌, refl, ap, sym, ◌∙◌, or_parts, list_any, chars, chars_rest, is_break, render_text}
-use Rattle.std.proofs.lemmas.Str.{IsUtf8-past_char, chars_past_char, len_utf8_bounds, length-encode}
+use Rattle.yaml_pen.proofs.Common.{[], ◌∷◌, ap, sym, ◌∙◌, or_parts, list_any, chars, chars_rest, is_break, render_text}
+use Rattle.std.proofs.lemmas.Str.{IsUtf8-past_char, chars_past_char}
 use Rattle.yaml_pen.{proofs.Composing.wrote_exit, proofs.Writing.line_feed-break}
 use Rattle.yaml_pen.proofs.StillToWrite.{still_rest, still_failed, still_part, end_still, unfailed_after}
-use Rattle.yaml_pen.proofs.Composing.{wrote_cut}
-use Rattle.yaml_pen.proofs.Common.{ℕ, ◌<◌, length, List, ◌++◌, ◌≡◌, length-append, arith}
-use Rattle.std.specs.Char.{encode_utf8}
 use Rattle.yaml_pen.proofs.pen.Pen.write_characters.Goals as goal
-
-behind_less : (old behind : List ℕ) (c : ℕ) → old ≡ encode_utf8 c ++ behind → length behind < length old
-behind_less old behind c is =
-    let bounds = len_utf8_bounds c in
-    omega (arith, ap (λ (l : List ℕ). length l) is, length-append (encode_utf8 c) behind, length-encode c, bounds.0)
-
-pub loop-character-smaller : goal.loop-character-smaller
-loop-character-smaller g c = behind_less _ _ c.in-Some.character c.in-Some.ensures.steps.0
 
 pub write_character-requires-clause-not_line_feed : goal.write_character-requires-clause-not_line_feed
 write_character-requires-clause-not_line_feed g c =
@@ -41,13 +30,5 @@ returns-in_err-write_character g c = record {
 
 pub returns : goal.returns
 returns g c = record {
-  written =
-      (end_still render_text _ c.in_default.ensures.steps.0.0 c.loop-character.invariant.still).writes _ _ c.loop-character.invariant.unfailed;
-}
-
-pub returns-in_err-write_nothing : goal.returns-in_err-write_nothing
-returns-in_err-write_nothing g c = record {
-  written =
-      let text = chars c.args.text.now in
-      wrote_exit c.from_residual.ensures (wrote_cut (render_text text) text refl c.in_err-write_nothing.ensures);
+  written = (end_still render_text _ c.in_default.ensures.steps.0.0 c.loop-character.invariant.still).writes _ _ c.loop-character.invariant.unfailed;
 }

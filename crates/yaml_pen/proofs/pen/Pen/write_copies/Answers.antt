@@ -1,14 +1,11 @@
-use Rattle.yaml_pen.proofs.Common.{refl, ℕ, ◌-◌, ◌≤◌, replicate, List, ap, subst, ◌∙◌, take-replicate, arith, list_any, is_break, render_text, Wrote}
-use Rattle.yaml_pen.proofs.{Composing.wrote_exit, Composing.wrote_cut, Spaces.copies_split, Spaces.copies_ascii, Spaces.copies_unbroken}
+use Rattle.yaml_pen.proofs.Common.{ℕ, ◌-◌, replicate, List, ap, subst, ◌∙◌, take-replicate, arith, list_any, is_break, render_text, Wrote}
+use Rattle.yaml_pen.proofs.{Composing.wrote_exit, Spaces.copies_split, Spaces.copies_ascii, Spaces.copies_unbroken}
 use Rattle.std.proofs.lemmas.Str.{IsAscii-take}
-use Rattle.yaml_pen.proofs.StillToWrite.{still_all, still_rest, still_failed, still_part}
+use Rattle.yaml_pen.proofs.StillToWrite.{still_rest, still_failed, still_part}
 use Rattle.yaml_pen.proofs.pen.Pen.write_copies.Goals as goal
 
 pub write_ascii-requires-clause-ascii : goal.write_ascii-requires-clause-ascii
 write_ascii-requires-clause-ascii g c = copies_ascii 64 c.args.character c.requires.ascii
-
-pub write_ascii-requires-clause-no_break : goal.write_ascii-requires-clause-no_break
-write_ascii-requires-clause-no_break g c = copies_unbroken 64 c.args.character c.requires.no_break
 
 pub write_ascii-requires-2-clause-ascii : goal.write_ascii-requires-2-clause-ascii
 write_ascii-requires-2-clause-ascii g c = IsAscii-take (replicate 64 c.args.character) c.loop-left.left (copies_ascii 64 c.args.character c.requires.ascii)
@@ -32,16 +29,6 @@ returns-in_err-write_ascii g c = record {
       (copies_split c.loop-left.left 64 c.args.character (omega arith)) c.loop-left.invariant)
       c.in_err-write_ascii.ensures.written);
 }
-
-pub returns-in_err-write_nothing : goal.returns-in_err-write_nothing
-returns-in_err-write_nothing g c = record {
-  written =
-      let text = replicate c.args.count c.args.character in
-      wrote_exit c.from_residual.ensures (wrote_cut (render_text text) text refl c.in_err-write_nothing.ensures);
-}
-
-pub loop-left-init : goal.loop-left-init
-loop-left-init g c = still_all c.requires.ready
 
 pub returns : goal.returns
 returns g c = record {

@@ -1,4 +1,4 @@
-use Rattle.yaml_pen.proofs.Common.{refl, ℕ, ◌+◌, ◌-◌, Ok, replicate, List, [], ◌++◌, ◌∷◌, ◌≡◌, ap, subst, sym, ◌∙◌, arith, line_feed, render_text, Wrote}
+use Rattle.yaml_pen.proofs.Common.{ℕ, ◌+◌, ◌-◌, Ok, replicate, List, [], ◌++◌, ◌∷◌, ◌≡◌, ap, subst, sym, ◌∙◌, arith, line_feed, render_text, Wrote}
 use Rattle.std.proofs.lemmas.List.{replicate-append-replicate, replicate_more}
 use Rattle.yaml_pen.proofs.Composing.{wrote_text_then, wrote_exit, wrote_cut}
 use Rattle.yaml_pen.proofs.pen.Pen.write_each_line_feed.Goals as goal
@@ -20,16 +20,3 @@ pub loop-written-preserved : goal.loop-written-preserved
 loop-written-preserved g c =
     subst (λ (l : List ℕ). Wrote (render_text l) c.args.self.now c.put_break.new.self (Ok tt)) (replicate_more c.loop-written.written line_feed)
     (wrote_text_then c.loop-written.invariant c.in_ok-put_break.ensures.written)
-
-pub returns-in_err-write_nothing : goal.returns-in_err-write_nothing
-returns-in_err-write_nothing g c = record {
-  written =
-      let text = replicate c.args.count line_feed in
-      wrote_exit c.from_residual.ensures (wrote_cut (render_text text) text refl c.in_err-write_nothing.ensures);
-}
-
-pub returns : goal.returns
-returns g c = record {
-  written =
-      subst (λ (n : ℕ). Wrote (render_text (replicate n line_feed)) c.args.self.now c.loop-written.self (Ok tt)) (omega arith) c.loop-written.invariant;
-}

@@ -1,6 +1,6 @@
-use Rattle.yaml_pen.proofs.Common.{refl, ◌-◌, replicate, arith, line_feed, render_text}
-use Rattle.yaml_pen.proofs.{Composing.wrote_exit, Composing.wrote_cut, Spaces.copies_split}
-use Rattle.yaml_pen.proofs.StillToWrite.{still_all, still_rest, still_failed, still_part}
+use Rattle.yaml_pen.proofs.Common.{◌-◌, replicate, arith, line_feed, render_text}
+use Rattle.yaml_pen.proofs.{Composing.wrote_exit, Spaces.copies_split}
+use Rattle.yaml_pen.proofs.StillToWrite.{still_rest, still_failed, still_part}
 use Rattle.yaml_pen.proofs.pen.Pen.write_line_feeds.Goals as goal
 
 pub loop-left-preserved : goal.loop-left-preserved
@@ -17,16 +17,6 @@ returns-in_err-write_few_line_feeds g c = record {
       (copies_split c.loop-left.left 64 line_feed (omega arith)) c.loop-left.invariant)
       c.in_err-write_few_line_feeds.ensures.written);
 }
-
-pub returns-in_err-write_nothing : goal.returns-in_err-write_nothing
-returns-in_err-write_nothing g c = record {
-  written =
-      let text = replicate c.args.count line_feed in
-      wrote_exit c.from_residual.ensures (wrote_cut (render_text text) text refl c.in_err-write_nothing.ensures);
-}
-
-pub loop-left-init : goal.loop-left-init
-loop-left-init g c = still_all c.requires.ready
 
 pub returns : goal.returns
 returns g c = record { written = c.loop-left.invariant.writes _ _ c.write_few_line_feeds-2.ensures.written }

@@ -1,6 +1,5 @@
 use Rattle.yaml_pen.proofs.Common.{ap, subst, sym, ◌∙◌, scalars-chars, chars, render_text, utf8, Page, has_bom, IsReady}
 use Rattle.yaml_pen.proofs.Writing.{AddsEvent-appended, IsPen-added, Wrote-added, no_bom, utf8-bytes, Names-run, piece-column}
-use Rattle.yaml_pen.proofs.{Composing.wrote_exit, Refused.Wrote-refused}
 use Rattle.yaml_pen.proofs.pen.Pen.write_piece.Goals as goal
 
 pub invariant_of-self-2 : goal.invariant_of-self-2
@@ -15,15 +14,6 @@ invariant_of-self-2 g c =
     c.self.inside.bom_due c.self.inside.column _ c.self.invariant ready.bom_written is_utf8 (scalars-chars c.args.text.now c.utf8.text) adds
     (c.saturating_add-self-inside.ensures
     ∙ piece-column text _ c.self.inside.column c.character_count.result c.requires.no_break c.self.invariant.column c.character_count.ensures)
-
-pub returns-in_err-append : goal.returns-in_err-append
-returns-in_err-append g c = record {
-  written =
-      wrote_exit c.from_residual.ensures
-      (Wrote-refused c.self.inside.encoding c.self.inside.line_break _ c.self.inside.outlet c.append.new.self c.self.inside.whitespace c.self.inside.indention
-      c.self.inside.bom_due c.self.inside.column c.args.self.now (render_text (chars c.args.text.now)) _ c.self.invariant c.in_err-append.ensures
-      c.self.view_is c.requires.ready);
-}
 
 pub returns : goal.returns
 returns g c = record {

@@ -1,8 +1,8 @@
-use Rattle.yaml_pen.proofs.Common.{refl, ap, sym, ◌∙◌, arith, list_any, chars, is_break, render_text, has_bom}
+use Rattle.yaml_pen.proofs.Common.{ap, sym, ◌∙◌, arith, list_any, chars, is_break, render_text, has_bom}
 use Rattle.std.proofs.lemmas.Str.{IsUtf8-drop}
-use Rattle.yaml_pen.proofs.Composing.{wrote_exit, wrote_cut}
+use Rattle.yaml_pen.proofs.Composing.{wrote_exit}
 use Rattle.yaml_pen.{proofs.Cuts.chars-cut, proofs.Cuts.cut-forward, proofs.Cuts.unbroken_parts, specs.Page.buffer_size}
-use Rattle.yaml_pen.proofs.StillToWrite.{still_all, still_rest, still_failed, still_part}
+use Rattle.yaml_pen.proofs.StillToWrite.{still_rest, still_failed, still_part}
 use Rattle.yaml_pen.proofs.pen.Pen.write_pieces.Goals as goal
 
 pub write_piece-requires-clause-no_break : goal.write_piece-requires-clause-no_break
@@ -41,14 +41,3 @@ returns-in_err-write_piece g c = record {
 
 pub returns : goal.returns
 returns g c = record { written = c.loop-rest.invariant.still.writes _ _ c.write_piece-2.ensures.written }
-
-pub returns-in_err-write_nothing : goal.returns-in_err-write_nothing
-returns-in_err-write_nothing g c = record {
-  written =
-      let text = chars c.args.text.now in
-      wrote_exit c.from_residual.ensures (wrote_cut (render_text text) text refl c.in_err-write_nothing.ensures);
-}
-
-pub loop-rest-init : goal.loop-rest-init
-loop-rest-init g c =
-    record { still = still_all c.requires.ready; is_text = c.utf8.text; no_break = c.requires.no_break; no_bom = c.requires.no_bom }
