@@ -1,16 +1,16 @@
 -- Escaping by bytes is escaping by characters.
-use Rattle.yaml_mark.proofs.Common.{suc, ℕ, ◌%◌, ◌+◌, ◌<◌, ◌==◌, flat_map, MatchOption, IsUtf8, Option, None, Some, Err, Ok, drop, length, take, Bool, cond, []}
-use Rattle.yaml_mark.proofs.Common.{slice_index_or as get_or, encode_utf8_all as encodes, false, not, true, ◌||◌, List, ◌++◌, ◌∷◌, ◌≢◌, refl, ◌≡◌, ne_eqb, lit<}
-use Rattle.yaml_mark.proofs.Common.{take-append-drop, ⊎_elim, ap, subst, sym, ◌∙◌, arith, cases_lt, and_parts, and_from, prefix_len-le-length, encode_ascii}
-use Rattle.yaml_mark.proofs.Common.{IsCharBoundary-before_ascii, IsUtf8-past_char, encodes-chars, chars_past_char, list_all, list_any, position_or_len, chars}
+use Rattle.yaml_mark.proofs.Common.{suc, ℕ, ◌%◌, ◌+◌, ◌<◌, ◌==◌, flat_map, MatchOption, IsUtf8, Option, Err, Ok, drop, length, take, Bool, cond, []}
+use Rattle.yaml_mark.proofs.Common.{slice_index_or as get_or, encode_utf8_all as encodes, false, not, true, List, ◌++◌, ◌∷◌, ◌≢◌, refl, ◌≡◌, ne_eqb, lit<}
+use Rattle.yaml_mark.proofs.Common.{take-append-drop, ap, subst, sym, ◌∙◌, arith, cases_lt, and_parts, and_from, prefix_len-le-length, encode_ascii}
+use Rattle.yaml_mark.proofs.Common.{IsUtf8-past_char, encodes-chars, chars_past_char, list_all, list_any, position_or_len, chars}
 use Rattle.yaml_mark.proofs.Common.{IsCharBoundary, Text, is_break, hex_digit, render_text, is_tag_character, byte_escaped, percent_escaped, suffix_escaped}
 use Rattle.yaml_mark.proofs.Common.{prefix_escaped, exclamation_mark, IsPrefixRun, wrote_text_then, wrote_cut, Wrote}
-use Rattle.yaml_base.proofs.Common.{◌/◌, ◌≤◌, if◌then◌else◌, codes, nat_le, ◌&&◌, leb-true, true≢false, append-nil, inl, inr, not-true, nat_tests}
+use Rattle.yaml_base.proofs.Common.{◌/◌, ◌≤◌, if◌then◌else◌, codes, nat_le, ◌&&◌, leb-true, true≢false, append-nil, not-true, nat_tests}
 use Rattle.yaml_base.proofs.Common.{flat_map-append, chars-IsAscii, is_among, space, Cursor, Rendered, render_then, column_after, space_if, indicator}
 use Rattle.yaml_base.proofs.Common.{character_written, is_suffix_character}
-use Rattle.std.{proofs.Common.Bor, proofs.Common.Result, proofs.lemmas.List.take_all, proofs.lemmas.List.take_more, proofs.lemmas.List.Sums.passes_at_first}
+use Rattle.std.{proofs.Common.Bor, proofs.Common.Result, proofs.lemmas.List.take_more, proofs.lemmas.List.Sums.passes_at_first}
 use Rattle.std.{proofs.lemmas.Str.Ascii.IsAscii-nil, proofs.lemmas.Str.Ascii.IsAscii-cons, specs.List.prefix_len, specs.Str.IsAscii}
-use Rattle.std.proofs.lemmas.Str.{IsUtf8-drop, IsUtf8-from_ascii, IsCharBoundary-end, IsCharBoundary-from_take}
+use Rattle.std.proofs.lemmas.Str.{IsUtf8-drop, IsUtf8-from_ascii, IsCharBoundary-from_take}
 use lib.Utf8.{encode}
 use Rattle.yaml_base.specs.{Cursor.render_name, declared.errors.yaml_error_t.yaml_error_t}
 use Rattle.yaml_pen.{proofs.Composing.wrote_then, proofs.Composing.wrote_as, specs.Page.Page}
@@ -25,12 +25,10 @@ no_suffix_character : (portable : Bool) (c : ℕ) → is_tag_character c ≡ fal
 no_suffix_character portable c h = by (portable && is_among (codes ",[]") c)
   where
     by : (barred : Bool) → (not barred && is_tag_character c) ≡ false
-    by true = refl
-    by false = h
+    by barred = grind (arith, nat_tests)
 
 suffix_character_is_ascii : (portable : Bool) (c : ℕ) → is_suffix_character portable c ≡ true → c < 128
-suffix_character_is_ascii portable c h =
-    tag_character_is_ascii c (and_parts (not (portable && is_among (codes ",[]") c)) (is_tag_character c) h).1
+suffix_character_is_ascii portable c h = grind (arith, nat_tests, tag_character_is_ascii, and_parts, not, is_among, codes, is_tag_character)
 
 many_bytes : (c : ℕ) → 128 ≤ c → list_all (λ b. nat_le 128 b) (encode c) ≡ true
 unfolding encode
@@ -46,22 +44,14 @@ module _ (portable : Bool) where
 
   high_bytes : (bytes : List ℕ) → list_all (λ b. nat_le 128 b) bytes ≡ true → none_stands bytes ≡ true
   high_bytes [] h = refl
-  high_bytes (b ∷ bytes) h =
-      let both = and_parts (nat_le 128 b) (list_all (λ x. nat_le 128 x) bytes) h in
-      rw (no_suffix_character portable b (others_are_none b (leb-true 128 b both.0)), high_bytes bytes both.1) refl
+  high_bytes (b ∷ bytes) h = grind (arith, nat_tests, and_parts, nat_le, list_all, no_suffix_character, others_are_none, leb-true, high_bytes bytes)
 
   escaped_bytes : (bytes : List ℕ) → none_stands bytes ≡ true → flat_map (byte_written portable) bytes ≡ flat_map byte_escaped bytes
   escaped_bytes [] h = refl
-  escaped_bytes (b ∷ bytes) h =
-      let both = and_parts (not (is_suffix_character portable b)) (none_stands bytes) h in
-      rw (not-true _ both.0) (ap (λ x. byte_escaped b ++ x) (escaped_bytes bytes both.1))
+  escaped_bytes (b ∷ bytes) h = grind (arith, nat_tests, and_parts, not, is_suffix_character, none_stands, not-true, byte_escaped, escaped_bytes bytes)
 
   none_of : (c : ℕ) → is_suffix_character portable c ≡ false → none_stands (encode c) ≡ true
-  none_of c h =
-      ⊎_elim
-      (λ low. let P : List ℕ → Type 0 = λ x. none_stands x ≡ true in subst P (sym (encode_ascii c low)) (rw h refl))
-      (λ high. high_bytes (encode c) (many_bytes c high))
-      (cases_lt c 128)
+  none_of c h = grind (arith, nat_tests, none_stands, encode_ascii, high_bytes, encode, many_bytes, cases_lt)
 
   character_by_bytes : (kept : Bool) (c : ℕ) → is_suffix_character portable c ≡ kept → flat_map (byte_written portable) (encode c) ≡ character_written kept c
   character_by_bytes true c k = ap (flat_map (byte_written portable)) (encode_ascii c (suffix_character_is_ascii portable c k)) ∙ rw k refl
@@ -69,10 +59,7 @@ module _ (portable : Bool) where
 
   text_by_bytes : (text : Text) → flat_map (byte_written portable) (encodes text) ≡ suffix_escaped portable text
   text_by_bytes [] = refl
-  text_by_bytes (c ∷ text) =
-      flat_map-append (byte_written portable) (encode c) (encodes text)
-      ∙ ap (λ x. x ++ flat_map (byte_written portable) (encodes text)) (character_by_bytes (is_suffix_character portable c) c refl)
-      ∙ ap (λ x. character_written (is_suffix_character portable c) c ++ x) (text_by_bytes text)
+  text_by_bytes (c ∷ text) = grind (arith, nat_tests, flat_map-append, character_by_bytes, text_by_bytes text)
 
   pub escaped_by_bytes : (bytes : List ℕ) → IsUtf8 bytes → flat_map (byte_written portable) bytes ≡ suffix_escaped portable (chars bytes)
   escaped_by_bytes bytes u = ap (flat_map (byte_written portable)) (sym (encodes-chars bytes u)) ∙ text_by_bytes (chars bytes)
@@ -103,10 +90,7 @@ content_by : (separated indention : Bool) (column : ℕ) (text : Text)
           ++ text;
       cursor = record { column = column_after (cond separated (space ∷ []) [] ++ text) column; whitespace = false; indention = false };
     }
-content_by true true column text = refl
-content_by true false column text = refl
-content_by false true column text = refl
-content_by false false column text = refl
+content_by separated indention column text = grind (arith, nat_tests)
 
 -- an indicator without an indicator, and then a name's text
 pub render_content : (need : Bool) (text : Text) (cursor : Cursor)
@@ -115,9 +99,7 @@ render_content need text cursor = content_by (need && not cursor.whitespace) cur
 
 -- the three characters of a percent form
 pub form_is : (byte high low : ℕ) → byte < 256 → high ≡ hex_digit (byte / 16) → low ≡ hex_digit (byte % 16) → (0x25 ∷ high ∷ []) ++ low ∷ [] ≡ byte_escaped byte
-form_is byte high low h e f =
-    let once : byte / 16 ≡ byte / 16 % 16 = omega arith in
-    ap (λ x. 0x25 ∷ x ∷ low ∷ []) (e ∙ ap hex_digit once) ∙ ap (λ x. 0x25 ∷ hex_digit (byte / 16 % 16) ∷ x ∷ []) f
+form_is byte high low h e f = grind (arith, nat_tests, hex_digit)
 
 -- A text after a space if one is needed.
 
@@ -152,12 +134,6 @@ module _ (f : ℕ → Text) where
   bytes_failed bytes n h one two =
       wrote_cut (render_text (flat_map f bytes)) (flat_map f (drop (n + 1) bytes)) (written_rest f bytes n h) (wrote_text_then one two)
 
-  pub bytes_whole : {before after : Page} (bytes : List ℕ) (n : ℕ) → length bytes ≤ n
-      → Wrote (render_text (flat_map f (take n bytes))) before after (Ok tt)
-      → Wrote (render_text (flat_map f bytes)) before after (Ok tt)
-  bytes_whole {before} {after} bytes n h one =
-      subst (λ (t : List ℕ). Wrote (render_text (flat_map f t)) before after (Ok tt)) (take_all n bytes h) one
-
   -- bytes that are the same
   pub same_bytes : {given bytes : List ℕ} {before after : Page} {answer : Result (Unit {0}) yaml_error_t} → given ≡ bytes
       → Wrote (render_text (flat_map f given)) before after answer → Wrote (render_text (flat_map f bytes)) before after answer
@@ -171,10 +147,7 @@ passing p [] = refl
 passing p (x ∷ xs) = by (p x) refl (passing p xs)
   where
     by : (b : Bool) → p x ≡ b → list_all p (take (prefix_len p xs) xs) ≡ true → list_all p (take (cond b (1 + prefix_len p xs) 0) (x ∷ xs)) ≡ true
-    by true e rest =
-        let more : 1 + prefix_len p xs ≡ suc (prefix_len p xs) = omega arith in
-        ap (λ n. list_all p (take n (x ∷ xs))) more ∙ and_from _ _ e rest
-    by false e rest = refl
+    by b e rest = grind (arith, nat_tests, prefix_len, list_all, take, and_from)
 
 tag_character_is_no_break : (c : ℕ) → is_tag_character c ≡ true → is_break c ≡ false
 tag_character_is_no_break c h = grind (arith, nat_tests)
@@ -190,9 +163,7 @@ module _ (portable : Bool) where
 
   stands_alone : (bytes : List ℕ) → list_all (is_suffix_character portable) bytes ≡ true → flat_map (byte_written portable) bytes ≡ bytes
   stands_alone [] h = refl
-  stands_alone (b ∷ bytes) h =
-      let both = and_parts (is_suffix_character portable b) (list_all (is_suffix_character portable) bytes) h in
-      rw both.0 (ap (λ l. b ∷ l) (stands_alone bytes both.1))
+  stands_alone (b ∷ bytes) h = grind (arith, nat_tests, and_parts, is_suffix_character, list_all, stands_alone bytes)
 
   stands_ascii : (bytes : List ℕ) → list_all (is_suffix_character portable) bytes ≡ true → IsAscii bytes
   stands_ascii [] h = IsAscii-nil
@@ -202,10 +173,7 @@ module _ (portable : Bool) where
 
   stands_unbroken : (bytes : List ℕ) → list_all (is_suffix_character portable) bytes ≡ true → list_any is_break bytes ≡ false
   stands_unbroken [] h = refl
-  stands_unbroken (b ∷ bytes) h =
-      let both = and_parts _ _ h in
-      let tag_character = (and_parts _ _ both.0).1 in
-      ap (λ x. x || list_any is_break bytes) (tag_character_is_no_break b tag_character) ∙ stands_unbroken bytes both.1
+  stands_unbroken (b ∷ bytes) h = grind (arith, nat_tests, and_parts, list_any, is_break, tag_character_is_no_break, stands_unbroken bytes)
 
   -- a run is ASCII without a break
   pub run_ascii : (bytes : List ℕ) → IsAscii (take (run_end bytes) bytes)
@@ -221,12 +189,8 @@ module _ (portable : Bool) where
       (IsUtf8-from_ascii _ (run_ascii bytes))
 
   pub next_boundary : (bytes : List ℕ) → IsCharBoundary bytes (next_run bytes)
-  next_boundary bytes = elim (cases_lt (next_run bytes) (length bytes)) [
-    | inl inside ↦ IsCharBoundary-before_ascii bytes (next_run bytes) inside
-        (suffix_character_is_ascii portable _ (passes_at_first (is_suffix_character portable) bytes 0 inside))
-    | inr past ↦ subst (λ n. IsCharBoundary bytes n)
-        (omega (arith, past, prefix_len-le-length (λ b. not (is_suffix_character portable b)) bytes)) (IsCharBoundary-end bytes)
-  ]
+  next_boundary bytes =
+      grind (arith, nat_tests, cases_lt, next_run, length, suffix_character_is_ascii, passes_at_first, is_suffix_character, prefix_len-le-length, not)
 
   -- a text is the part of its bytes up to a place, and the text of the rest
   cut_at : (bytes : List ℕ) (n : ℕ) → IsUtf8 bytes → IsCharBoundary bytes n
@@ -295,14 +259,11 @@ module _ (portable : Bool) where
     where
       by : (kept : Bool) → is_suffix_character portable b ≡ kept
           → 0 < cond kept (1 + run_end bytes) 0 + next_run (drop (cond kept (1 + run_end bytes) 0) (b ∷ bytes))
-      by true e = omega arith
-      by false e = rw e (omega arith)
+      by kept e = grind (arith, nat_tests)
 
   pub moves_on : (bytes others : List ℕ) (n m : ℕ) → (length bytes == 0) ≡ false → n ≡ run_end bytes → others ≡ drop n bytes → m ≡ next_run others
       → 0 < n + m
-  moves_on bytes others n m some e back f =
-      let behind : others ≡ drop (run_end bytes) bytes = back ∙ ap (λ k. drop k bytes) e in
-      omega (arith, moves_by bytes some, e, f, ap (λ (l : List ℕ). next_run l) behind)
+  moves_on bytes others n m some e back f = grind (arith, nat_tests, drop, run_end, moves_by, next_run)
 
 -- A prefix by its bytes.
 
@@ -312,13 +273,10 @@ pub prefix_markerless : (bytes : List ℕ) → IsUtf8 bytes → ((rest : List �
 prefix_markerless bytes u h = by (chars bytes) (encodes-chars bytes u)
   where
     other : (c : ℕ) (text : Text) → encodes (c ∷ text) ≡ bytes → (c == exclamation_mark) ≡ false
-    other c text e =
-        ne_eqb c exclamation_mark (λ same. h (encodes text)
-        (sym e ∙ ap (λ x. encode x ++ encodes text) same ∙ ap (λ x. x ++ encodes text) (encode_ascii exclamation_mark (lit< tt))))
+    other c text e = grind (arith, nat_tests, ne_eqb, exclamation_mark, encodes, encode, encode_ascii, lit<)
 
     by : (text : Text) → encodes text ≡ bytes → prefix_escaped true text ≡ percent_escaped text
-    by [] e = refl
-    by (c ∷ text) e = rw (other c text e) refl
+    by text e = grind (arith, nat_tests, other)
 
 -- and if one does, the `!` stays raw
 pub prefix_marked : (bytes rest : List ℕ) → IsUtf8 bytes → bytes ≡ exclamation_mark ∷ rest
@@ -331,8 +289,7 @@ pub prefix_answer : (bytes : List ℕ) (portable : Bool) (answer : Option (Bor (
     → MatchOption answer ((rest : List ℕ) → bytes ≢ exclamation_mark ∷ rest) (λ rest. bytes ≡ exclamation_mark ∷ rest.now)
     → MatchOption answer (prefix_escaped portable (chars bytes) ≡ percent_escaped (chars bytes))
     (λ rest. (bytes ≡ exclamation_mark ∷ rest.now) × (prefix_escaped portable (chars bytes) ≡ exclamation_mark ∷ percent_escaped (chars rest.now)))
-prefix_answer bytes portable None e u h = ap (λ b. prefix_escaped b (chars bytes)) e ∙ prefix_markerless bytes u h
-prefix_answer bytes portable (Some rest) e u h = (h, ap (λ b. prefix_escaped b (chars bytes)) e ∙ prefix_marked bytes rest.now u h)
+prefix_answer bytes portable answer e u h = grind (arith, nat_tests, prefix_escaped, chars, prefix_markerless, prefix_marked)
 
 -- without a raw `!` a prefix begins with the run of a tag
 pub prefix_run : (portable : Bool) (bytes : List ℕ) → IsUtf8 bytes → prefix_escaped portable (chars bytes) ≡ percent_escaped (chars bytes)
@@ -370,12 +327,8 @@ marked_run portable bytes rest u e is =
 -- a prefix is its run and the rest
 pub prefix_parts : {portable : Bool} {prefix run rest : List ℕ} {n : ℕ} → IsPrefixRun portable prefix n → run ≡ take n prefix → rest ≡ drop n prefix
     → chars run ++ percent_escaped (chars rest) ≡ prefix_escaped portable (chars prefix)
-prefix_parts {portable} {prefix} {run} {rest} {n} is head back =
-    ap (λ x. x ++ percent_escaped (chars rest)) (ap chars head ∙ chars-IsAscii (take n prefix) is.run)
-    ∙ ap (λ x. take n prefix ++ percent_escaped (chars x)) back
-    ∙ sym is.written
+prefix_parts {portable} {prefix} {run} {rest} {n} is head back = grind (arith, nat_tests, percent_escaped, chars, chars-IsAscii, take)
 
 pub prefix_unbroken : {portable : Bool} {prefix run : List ℕ} {n : ℕ} → IsPrefixRun portable prefix n → run ≡ take n prefix
     → list_any is_break (chars run) ≡ false
-prefix_unbroken {portable} {prefix} {run} {n} is head =
-    ap (λ x. list_any is_break (chars x)) head ∙ ap (list_any is_break) (chars-IsAscii (take n prefix) is.run) ∙ is.unbroken
+prefix_unbroken {portable} {prefix} {run} {n} is head = grind (arith, nat_tests, list_any, is_break, chars, chars-IsAscii, take)

@@ -3,7 +3,7 @@ use Rattle.yaml_mark.proofs.Common.{ℕ, ◌<◌, ◌==◌, IsUtf8, Option, None
 use Rattle.yaml_mark.proofs.Common.{encode_utf8_all as encodes, List, [], ◌++◌, ◌∷◌, ◌≢◌, refl, ◌≡◌, eqb-true, ne_eqb, lit<, length-append, ap, subst, sym, ◌∙◌}
 use Rattle.yaml_mark.proofs.Common.{arith, take-append_seam, chars-nil, encode_ascii, encodes-append, IsCharBoundary-before_ascii, IsUtf8-past_char, list_all}
 use Rattle.yaml_mark.proofs.Common.{encodes-chars, chars-append, chars_past_char, Text, exclamation_mark}
-use Rattle.yaml_base.proofs.Common.{option_or, is_alpha, name_fault, handle_fault, prefix_fault}
+use Rattle.yaml_base.proofs.Common.{option_or, is_alpha, name_fault, handle_fault, prefix_fault, nat_tests}
 use Rattle.std.{proofs.lemmas.Grind.common_steps, proofs.lemmas.Str.IsUtf8-take, specs.Str.chars}
 use Rattle.yaml_base.proofs.TagForms.{last-append, without_last-append, prefix_and_last}
 use Rattle.yaml_base.specs.{Tags.last_from, Tags.without_last, declared.errors.yaml_error_t.yaml_error_t}
@@ -29,10 +29,7 @@ empty_name bytes a b h = rw (no_characters bytes h) refl
 
 good : (text : Text) (if_empty if_other : yaml_error_t) (c : ℕ) (rest : Text) → text ≡ c ∷ rest → list_all is_alpha text ≡ true
     → None ≡ name_fault if_empty if_other text
-good text a b c rest e h =
-    let P : Text → Type 0 = λ t. list_all is_alpha t ≡ true → None ≡ name_fault a b t in
-    let Q : (list_all is_alpha (c ∷ rest) ≡ true) → None ≡ name_fault a b (c ∷ rest) = λ k. rw k refl in
-    subst P (sym e) Q h
+good text a b c rest e h = grind (arith, nat_tests, list_all, is_alpha, name_fault)
 
 pub good_name : (bytes : List ℕ) (if_empty if_other : yaml_error_t) → IsUtf8 bytes → (length bytes == 0) ≡ false → list_all is_alpha (chars bytes) ≡ true
     → None ≡ name_fault if_empty if_other (chars bytes)
@@ -48,9 +45,7 @@ started c rest h = rw h refl
 
 begins_otherwise : (bytes : List ℕ) (c : ℕ) (rest : Text) → encodes (c ∷ rest) ≡ bytes → ((more : List ℕ) → bytes ≢ exclamation_mark ∷ more)
     → (c == exclamation_mark) ≡ false
-begins_otherwise bytes c rest e h =
-    ne_eqb c exclamation_mark (λ same. h (encodes rest)
-    (sym e ∙ ap (λ x. encode x ++ encodes rest) same ∙ ap (λ x. x ++ encodes rest) (encode_ascii exclamation_mark (lit< tt))))
+begins_otherwise bytes c rest e h = grind (arith, nat_tests, ne_eqb, exclamation_mark, encodes, encode, encode_ascii, lit<)
 
 pub no_start : (bytes : List ℕ) → IsUtf8 bytes → (length bytes == 0) ≡ false → ((more : List ℕ) → bytes ≢ exclamation_mark ∷ more)
     → Some TagHandleStart ≡ handle_fault (chars bytes)
@@ -133,6 +128,4 @@ good_prefix bytes u h = rw (characters_begin bytes u h).2 refl
 pub by_prefix : (handle prefix handle_got prefix_got : List ℕ) (fault : Option yaml_error_t) → handle_got ≡ handle → prefix_got ≡ prefix
     → None ≡ handle_fault (chars handle_got) → fault ≡ prefix_fault (chars prefix_got)
     → fault ≡ option_or (handle_fault (chars handle)) (prefix_fault (chars prefix))
-by_prefix handle prefix handle_got prefix_got fault e f h k =
-    k ∙ ap (λ x. prefix_fault (chars x)) f
-    ∙ ap (λ x. option_or x (prefix_fault (chars prefix))) (h ∙ ap (λ x. handle_fault (chars x)) e)
+by_prefix handle prefix handle_got prefix_got fault e f h k = grind (arith, nat_tests, prefix_fault, chars, option_or, handle_fault)

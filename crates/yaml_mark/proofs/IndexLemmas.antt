@@ -16,57 +16,35 @@ use Rattle.yaml_mark.proofs.TagLemmas.{first_place, position-first}
 -- The first of two lists, and by two tests.
 
 from_zero : (o : Option ℕ) → o ≡ option_map (λ i. 0 + i) o
-from_zero None = refl
-from_zero (Some i) = ap Some (omega arith)
+from_zero o = grind (arith, nat_tests)
 
 behind_one : (passes : Bool) (n : ℕ) (o p : Option ℕ)
     → cond passes (Some 0) (option_map suc (option_or o (option_map (λ i. n + i) p)))
     ≡ option_or (cond passes (Some 0) (option_map suc o)) (option_map (λ i. suc n + i) p)
-behind_one true n o p = refl
-behind_one false n (Some i) p = refl
-behind_one false n None None = refl
-behind_one false n None (Some j) = ap Some (omega arith)
+behind_one passes n o p = grind (arith, nat_tests)
 
 first-append : {X : Type 0} (p : X → Bool) (xs ys : List X)
     → first_place p (xs ++ ys) ≡ option_or (first_place p xs) (option_map (λ i. length xs + i) (first_place p ys))
 first-append p [] ys = from_zero (first_place p ys)
-first-append p (x ∷ xs) ys =
-    ap (λ o. cond (p x) (Some 0) (option_map suc o)) (first-append p xs ys)
-    ∙ behind_one (p x) (length xs) (first_place p xs) (first_place p ys)
+first-append p (x ∷ xs) ys = grind (arith, nat_tests, cond, option_map, behind_one, length, first_place, first-append p xs ys, p x)
 
 pub position-append : {X : Type 0} (p : X → Bool) (xs ys : List X)
     → position p (xs ++ ys) ≡ option_or (position p xs) (option_map (λ i. length xs + i) (position p ys))
-position-append p xs ys =
-    position-first p (xs ++ ys)
-    ∙ first-append p xs ys
-    ∙ ap (λ o. option_or o (option_map (λ i. length xs + i) (first_place p ys))) (sym (position-first p xs))
-    ∙ ap (λ o. option_or (position p xs) (option_map (λ i. length xs + i) o)) (sym (position-first p ys))
+position-append p xs ys = grind (arith, nat_tests, position-first, first-append, option_or, option_map, length, first_place, position)
 
 either_one : (a b : Bool) (o p : Option ℕ)
     → cond (a || b) (Some 0) (option_map suc (earlier o p)) ≡ earlier (cond a (Some 0) (option_map suc o)) (cond b (Some 0) (option_map suc p))
-either_one true true o p = refl
-either_one true false o None = refl
-either_one true false o (Some j) = rw (le-leb 0 (suc j) (omega arith)) refl
-either_one false true None p = refl
-either_one false true (Some i) p = rw (le-ltb i 0 (omega arith)) refl
-either_one false false None p = refl
-either_one false false (Some i) None = refl
-either_one false false (Some i) (Some j) = grind (arith, nat_tests)
+either_one a b o p = grind (arith, nat_tests, le-leb, le-ltb)
 
 first-or : {X : Type 0} (p q : X → Bool) (xs : List X) → first_place (λ x. p x || q x) xs ≡ earlier (first_place p xs) (first_place q xs)
 first-or p q [] = refl
-first-or p q (x ∷ xs) =
-    ap (λ o. cond (p x || q x) (Some 0) (option_map suc o)) (first-or p q xs)
-    ∙ either_one (p x) (q x) (first_place p xs) (first_place q xs)
+first-or p q (x ∷ xs) = grind (arith, nat_tests, cond, option_map, either_one, first_place, first-or p q xs, p x, q x)
 
 -- tests that agree on each element that passes a third
 first-same : {X : Type 0} (p q r : X → Bool) → ((x : X) → r x ≡ true → p x ≡ q x) → (xs : List X) → list_all r xs ≡ true
     → first_place p xs ≡ first_place q xs
 first-same p q r same [] h = refl
-first-same p q r same (x ∷ xs) h =
-    let both = and_parts (r x) (list_all r xs) h in
-    ap (λ b. cond b (Some 0) (option_map suc (first_place p xs))) (same x both.0)
-    ∙ ap (λ o. cond (q x) (Some 0) (option_map suc o)) (first-same p q r same xs both.1)
+first-same p q r same (x ∷ xs) h = grind (arith, nat_tests, and_parts, list_all, cond, option_map, first_place, first-same p q r same xs, r x, q x)
 
 position-same : {X : Type 0} (p q r : X → Bool) → ((x : X) → r x ≡ true → p x ≡ q x) → (xs : List X) → list_all r xs ≡ true → position p xs ≡ position q xs
 position-same p q r same xs h = position-first p xs ∙ first-same p q r same xs h ∙ sym (position-first q xs)
@@ -88,31 +66,24 @@ position-none p never xs = first-none xs ∙ sym (position-first (λ _. false) x
 -- One more directive.
 
 or-false : (b : Bool) → b || false ≡ b
-or-false true = refl
-or-false false = refl
+or-false b = grind (arith, nat_tests)
 
 pub any_more : {X : Type 0} (p : X → Bool) (xs : List X) (x : X) → list_any p (xs ++ x ∷ []) ≡ list_any p xs || p x
 any_more p xs x = list_any-append p xs (x ∷ []) ∙ ap (λ b. list_any p xs || b) (or-false (p x))
 
 last_one : (passes : Bool) (n : ℕ) (o : Option ℕ)
     → option_or o (option_map (λ i. n + i) (cond passes (Some 0) None)) ≡ option_or o (if passes then Some n else None)
-last_one passes n (Some i) = refl
-last_one true n None = ap Some (omega arith)
-last_one false n None = refl
+last_one passes n o = grind (arith, nat_tests)
 
 position_more : {X : Type 0} (p : X → Bool) (xs : List X) (x : X)
     → position p (xs ++ x ∷ []) ≡ option_or (position p xs) (if p x then Some (length xs) else None)
-position_more p xs x =
-    position-append p xs (x ∷ [])
-    ∙ ap (λ o. option_or (position p xs) (option_map (λ i. length xs + i) o)) (position-first p (x ∷ []))
-    ∙ last_one (p x) (length xs) (position p xs)
+position_more p xs x = grind (arith, nat_tests, position-append, option_or, position, option_map, length, position-first, last_one)
 
 or-true : (b c : Bool) → b ≡ true → b || c ≡ true
 or-true b c h = rw h refl
 
 true_or : (b c : Bool) → c ≡ true → b || c ≡ true
-true_or true c h = refl
-true_or false c h = h
+true_or b c h = grind (arith, nat_tests)
 
 -- By one length, and by all.
 
@@ -121,28 +92,14 @@ from_start n bytes = ap (λ m. take m bytes) (omega arith)
 
 by_length : (tag prefix : List ℕ) (n : ℕ) → n < length tag
     → bytes_eq prefix (take n tag) ≡ ((length prefix == n) && begins_and_is_shorter prefix tag)
-by_length tag prefix n h =
-    same_from_decides _ _ (bytes_eq-Decides prefix (take n tag)) (
-      (λ b.
-          let both = and_parts _ _ b in
-          let long : length prefix ≡ n = (Decides-eqb _ _).0 both.0 in
-          (bytes_eq-Decides prefix (take (length prefix) tag)).0 (and_parts _ _ both.1).1 ∙ ap (λ m. take m tag) long),
-      (λ e.
-          let long : length prefix ≡ n = ap length e ∙ length-take-le n tag (omega arith) in
-          and_from _ _ ((Decides-eqb _ _).1 long)
-          (and_from _ _ (lt-ltb _ _ (omega (arith, long)))
-          ((bytes_eq-Decides prefix (take (length prefix) tag)).1 (e ∙ ap (λ m. take m tag) (sym long))))),
-    )
+by_length tag prefix n h = grind (arith, nat_tests, same_from_decides, bytes_eq-Decides, take, and_parts, length, length-take-le, and_from, lt-ltb)
 
 any-and : (p : ℕ → Bool) (b : Bool) (xs : List ℕ) → list_any (λ n. p n && b) xs ≡ list_any p xs && b
 any-and p b [] = refl
 any-and p b (x ∷ xs) = ap (λ c. (p x && b) || c) (any-and p b xs) ∙ out (p x) b (list_any p xs)
   where
     out : (a b c : Bool) → (a && b) || (c && b) ≡ (a || c) && b
-    out true true c = refl
-    out true false true = refl
-    out true false false = refl
-    out false b c = refl
+    out a b c = grind (arith, nat_tests)
 
 module _ {A : Type 0} where
   -- the lengths of the directives are there still
@@ -152,9 +109,7 @@ module _ {A : Type 0} where
   lengths_stay : (lengths more : List ℕ) (length_of : ℕ) → ((test : ℕ → Bool) → list_any test more ≡ list_any test lengths || test length_of)
       → (list : List (yaml_tag_directive_t A)) → HasLengths lengths list → HasLengths more list
   lengths_stay lengths more length_of h [] all = refl
-  lengths_stay lengths more length_of h (d ∷ list) all =
-      let both = and_parts _ _ all in
-      and_from _ _ (h (is_prefix_length d) ∙ or-true _ _ both.0) (lengths_stay lengths more length_of h list both.1)
+  lengths_stay lengths more length_of h (d ∷ list) all = grind (arith, nat_tests, or-true, lengths_stay lengths more length_of h list, h (is_prefix_length d))
 
   pub finds_more : (old new : Index A) (list : List (yaml_tag_directive_t A)) (d : yaml_tag_directive_t A) (place : ℕ) → place ≡ length list → Finds old list
       → ((bytes : List ℕ) → contains_text new.handles bytes ≡ (contains_text old.handles bytes || bytes_eq (string_bytes d.handle) bytes))
@@ -180,8 +135,7 @@ module _ {A : Type 0} where
 
   pub found_by_length : (tag : List ℕ) (n : ℕ) (index : Index A) (list : List (yaml_tag_directive_t A)) → n < length tag → Finds index list
       → get_by_text index.prefixes (take n tag) ≡ position (fits_by tag n) list
-  found_by_length tag n index list h finds =
-      finds.prefixes (take n tag) ∙ position-alike (has_prefix (take n tag)) (fits_by tag n) (λ d. by_length tag (string_bytes d.prefix) n h) list
+  found_by_length tag n index list h finds = grind (arith, nat_tests, position-alike, fits_by, by_length, finds.prefixes (take n tag))
 
   -- if a tag can't be cut, no prefix of that length begins it
   pub none_by_length : (tag : List ℕ) (n : ℕ) → IsUtf8 tag → (n < length tag → IsCharBoundary tag n → ⊥) → (list : List (yaml_tag_directive_t A))
@@ -230,9 +184,6 @@ module _ {A : Type 0} where
 
 -- The first directives, and those after them.
 
-pub any_split : {X : Type 0} (p : X → Bool) (n : ℕ) (xs : List X) → list_any p (take n xs) || list_any p (drop n xs) ≡ list_any p xs
-any_split p n xs = sym (list_any-append p (take n xs) (drop n xs)) ∙ ap (list_any p) (take-append-drop n xs)
-
 pub position_split : {X : Type 0} (p : X → Bool) (n : ℕ) (xs : List X) → n ≤ length xs
     → position p xs ≡ option_or (position p (take n xs)) (option_map (λ i. n + i) (position p (drop n xs)))
 position_split p n xs h =
@@ -243,26 +194,17 @@ position_split p n xs h =
 -- Elements that are added to a field of an index.
 
 pub or_last : (added kept : Bool) → cond added true kept ≡ kept || added
-or_last true true = refl
-or_last true false = refl
-or_last false true = refl
-or_last false false = refl
+or_last added kept = grind (arith, nat_tests)
 
 pub set_absent : (there : Bool) (old : Option ℕ) (number : ℕ) → (there ≡ true → is_some old ≡ false)
     → cond there (Some number) old ≡ option_or old (if there then Some number else None)
-set_absent true None number h = refl
-set_absent true (Some other) number h = absurd (true≢false (h refl))
-set_absent false None number h = refl
-set_absent false (Some other) number h = refl
+set_absent there old number h = grind (arith, nat_tests, true≢false)
 
 stays : (a b c : Bool) → b ≡ b || c → a || b ≡ (a || b) || c
-stays true b c h = refl
-stays false b c h = h
+stays a b c h = grind (arith, nat_tests)
 
 twice : (a b : Bool) → a || b ≡ (a || b) || a
-twice true b = refl
-twice false true = refl
-twice false false = refl
+twice a b = grind (arith, nat_tests)
 
 -- a number that is there already settles no test anew
 pub any_again : (number : ℕ) (test : ℕ → Bool) (xs : List ℕ) → list_any (λ x. x == number) xs ≡ true → list_any test xs ≡ list_any test xs || test number
@@ -271,10 +213,7 @@ any_again number test (x ∷ xs) h = by (x == number) refl (any_again number tes
   where
     by : (same : Bool) → (x == number) ≡ same → (list_any (λ y. y == number) xs ≡ true → list_any test xs ≡ list_any test xs || test number)
         → same || list_any (λ y. y == number) xs ≡ true → list_any test (x ∷ xs) ≡ list_any test (x ∷ xs) || test number
-    by true e again _ =
-        subst (λ (n : ℕ). test x || list_any test xs ≡ (test x || list_any test xs) || test n) ((Decides-eqb x number).0 e)
-        (twice (test x) (list_any test xs))
-    by false e again rest = stays (test x) (list_any test xs) (test number) (again rest)
+    by same e again rest = grind (arith, nat_tests, list_any, twice)
 
 -- The index of the first directives of a list.
 
@@ -284,27 +223,19 @@ module _ {A : Type 0} where
       → number ≡ length list → place ≡ number - n → n ≤ length list → Finds old (drop n list)
       → ((list : List (yaml_tag_directive_t A)) → place ≡ length list → Finds old list → Finds new (list ++ d ∷ []))
       → (n ≤ length (list ++ d ∷ [])) × Finds new (drop n (list ++ d ∷ []))
-  indexed_more old new n number place list d at is long finds adds = (
-    omega (arith, long, length-append list (d ∷ [])),
-    subst (λ (l : List (yaml_tag_directive_t A)). Finds new l) (sym (drop-append-le n list (d ∷ []) long))
-        (adds (drop n list) (omega (arith, at, is, long, length-drop n list)) finds),
-  )
+  indexed_more old new n number place list d at is long finds adds =
+      grind (arith, nat_tests, length-append, drop-append-le, drop, length-drop, adds (drop n list) (omega (arith, at, is, long, length-drop n list)) finds)
 
 -- there is an index
 pub indexed : {A : Type 0} (index : Option (Box (Index A) A)) (list : List (yaml_tag_directive_t A)) (box : Box (Index A) A) (inside : Index A)
     → IsIndexed 8 index list → index ≡ Some box → inside ≡ box.value → (8 ≤ length list) × Finds inside (drop 8 list)
-indexed {A} index list box inside h is same =
-    let found = subst (λ (o : Option (Box (Index A) A)). IsIndexed 8 o list) is h in
-    (found.0, subst (λ (i : Index A). Finds i (drop 8 list)) (sym same) found.1)
+indexed {A} index list box inside h is same = grind (arith, nat_tests, drop)
 
 pub drop_all : {X : Type 0} (n : ℕ) (xs : List X) → n ≡ length xs → drop n xs ≡ []
 drop_all n xs h = ap (λ m. drop m xs) h ∙ drop-length xs
 
 within : (k n i : ℕ) (b : Bool) → nat_lt k n ≡ b → Some i ≡ cond b (Some k) None → i < n
-within k n i false e h = absurd (cc)
-within k n i true e h =
-    let same : i ≡ k = cc in
-    subst (λ (m : ℕ). m < n) (sym same) (ltb-true k n e)
+within k n i b e h = grind (arith, nat_tests, ltb-true)
 
 pub position_within : {X : Type 0} (p : X → Bool) (xs : List X) (i : ℕ) → Some i ≡ position p xs → i < length xs
 position_within p xs i h = within (position_or_len p xs) (length xs) i (nat_lt (position_or_len p xs) (length xs)) refl h

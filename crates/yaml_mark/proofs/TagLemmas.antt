@@ -1,11 +1,11 @@
 -- The spelling of a tag, which is defined by characters, follows from its bytes.
 use Rattle.yaml_mark.proofs.Common.{suc, ℕ, ◌+◌, ◌<◌, ◌==◌, slice_get, position, MatchOption, IsUtf8, bytes_eq, Option, None, Some, string_bytes, drop}
 use Rattle.yaml_mark.proofs.Common.{length, slice_index_or as get_or, take, encode_utf8 as encode, encode_utf8_all as encodes, Bool, cond, false, not, true}
-use Rattle.yaml_mark.proofs.Common.{List, [], map, ◌++◌, ◌∷◌, refl, ◌≡◌, length-append, take-append-drop, ⊎_elim, ap, subst, sym, ◌∙◌, arith}
+use Rattle.yaml_mark.proofs.Common.{List, [], map, ◌++◌, ◌∷◌, refl, ◌≡◌, length-append, take-append-drop, ap, subst, sym, ◌∙◌, arith}
 use Rattle.yaml_mark.proofs.Common.{take-append_seam, cases_lt, and_parts, and_from, same_from_decides, bytes_eq-Decides, encodes-append, IsUtf8-past_char}
 use Rattle.yaml_mark.proofs.Common.{encodes-chars, chars-append, IsUtf8-string_bytes, position_or_len, IsCharBoundary, chars, Text, seen_directive, fits}
 use Rattle.yaml_base.proofs.Common.{is_some, option_map, nat_lt, eq-eqb, le-ltb, lt-ltb, ltb-true, append_assoc, length-map, chars-encodes, length-le-encodes}
-use Rattle.yaml_base.proofs.Common.{scalars, TagDirective, tag_fault, Spelling, shorthand, verbatim, spelling}
+use Rattle.yaml_base.proofs.Common.{scalars, TagDirective, tag_fault, Spelling, shorthand, verbatim, spelling, nat_tests}
 use Rattle.std.{proofs.Math.Seq.drop-append_seam, proofs.lemmas.List.length-drop, proofs.lemmas.Option.slice_get_within, proofs.lemmas.Option.slice_get_read}
 use Rattle.std.{proofs.lemmas.Option.slice_get-map, proofs.lemmas.Str.IsCharBoundary-at_seam, proofs.lemmas.Str.scalars-chars, specs.Bool.Decides}
 use Rattle.std.{specs.List.starts_with}
@@ -53,8 +53,7 @@ text_after_quote prefix rest u v =
     text_past (chars prefix) rest (subst P (sym (encodes-chars prefix u)) v)
 
 some_behind : (o : Option Text) → is_some o ≡ true → (rest : Text) × (o ≡ Some rest)
-some_behind None h = absurd (cc)
-some_behind (Some rest) h = (rest, refl)
+some_behind o h = grind (arith, nat_tests)
 
 behind-append : (prefix : Text) (c : ℕ) (rest : Text) → behind prefix (prefix ++ (c ∷ rest)) ≡ Some (c ∷ rest)
 behind-append [] c rest = refl
@@ -109,23 +108,15 @@ first_place p (x ∷ xs) = cond (p x) (Some 0) (option_map suc (first_place p xs
 at_first : (passes : Bool) (n l : ℕ)
     → cond (nat_lt (cond (not passes) (1 + n) 0) (suc l)) (Some (cond (not passes) (1 + n) 0)) None
     ≡ cond passes (Some 0) (option_map suc (cond (nat_lt n l) (Some n) None))
-at_first true n l = rw (lt-ltb 0 (suc l) (omega arith)) refl
-at_first false n l =
-    ⊎_elim
-    (λ h. rw (lt-ltb (1 + n) (suc l) (omega arith), lt-ltb n l h) (ap Some (omega arith)))
-    (λ h. rw (le-ltb (1 + n) (suc l) (omega arith), le-ltb n l h) refl)
-    (cases_lt n l)
+at_first passes n l = grind (arith, nat_tests, lt-ltb, le-ltb, cases_lt)
 
 pub position-first : {X : Type 0} (p : X → Bool) (xs : List X) → position p xs ≡ first_place p xs
 position-first p [] = refl
-position-first p (x ∷ xs) =
-    at_first (p x) (position_or_len p xs) (length xs) ∙ ap (λ o. cond (p x) (Some 0) (option_map suc o)) (position-first p xs)
+position-first p (x ∷ xs) = grind (arith, nat_tests, at_first, position_or_len, length, cond, option_map, position-first p xs, p x)
 
 first-map : {X Y : Type 0} (p : Y → Bool) (q : X → Bool) (f : X → Y) → ((x : X) → q x ≡ p (f x)) → (xs : List X) → first_place q xs ≡ first_place p (map f xs)
 first-map p q f h [] = refl
-first-map p q f h (x ∷ xs) =
-    ap (λ b. cond b (Some 0) (option_map suc (first_place q xs))) (h x)
-    ∙ ap (λ o. cond (p (f x)) (Some 0) (option_map suc o)) (first-map p q f h xs)
+first-map p q f h (x ∷ xs) = grind (arith, nat_tests, cond, option_map, first_place, first-map p q f h xs, h x, p (f x), f x)
 
 pub first_by_bytes : {A : Type 0} (tag : List ℕ) → IsUtf8 tag → (list : List (yaml_tag_directive_t A))
     → position (λ d. begins_and_is_shorter (string_bytes d.prefix) tag) list ≡ position (fits tag) (map seen_directive list)
@@ -145,21 +136,18 @@ SpelledAt directives tag number spelled_as =
 
 next_place : (directive : TagDirective) (directives : List TagDirective) (tag : Text) (number : Option ℕ) (s : Spelling) → SpelledAt directives tag number s
     → SpelledAt (directive ∷ directives) tag (option_map suc number) s
-next_place directive directives tag None s h = h
-next_place directive directives tag (Some n) s h = h
+next_place directive directives tag number s h = grind (arith, nat_tests)
 
 place_of : (directive : TagDirective) (directives : List TagDirective) (tag : Text) (suffix : Option Text) → behind directive.prefix tag ≡ suffix
     → SpelledAt directives tag (first_place (λ d. is_some (behind d.prefix tag)) directives) (spelling directives tag)
     → SpelledAt (directive ∷ directives) tag (cond (is_some suffix) (Some 0) (option_map suc (first_place (λ d. is_some (behind d.prefix tag)) directives)))
     (spelling_by directive.handle suffix (spelling directives tag))
-place_of directive directives tag None e h = next_place directive directives tag _ _ h
-place_of directive directives tag (Some suffix) e h = (directive, suffix, refl, e, refl)
+place_of directive directives tag suffix e h = grind (arith, nat_tests, next_place)
 
 spelled_at : (directives : List TagDirective) (tag : Text)
     → SpelledAt directives tag (first_place (λ d. is_some (behind d.prefix tag)) directives) (spelling directives tag)
 spelled_at [] tag = refl
-spelled_at (directive ∷ directives) tag =
-    place_of directive directives tag (behind directive.prefix tag) refl (spelled_at directives tag)
+spelled_at (directive ∷ directives) tag = grind (arith, nat_tests, place_of, behind, spelled_at directives tag)
 
 at_position : (directives : List TagDirective) (tag : List ℕ) (number : Option ℕ) → number ≡ position (fits tag) directives
     → SpelledAt directives (chars tag) number (spelling directives (chars tag))

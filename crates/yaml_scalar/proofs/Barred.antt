@@ -13,14 +13,7 @@ use Rattle.yaml_scalar.specs.Barred.{with_indicator}
 
 same : {a b : BarredStyles} → a.multiline ≡ b.multiline → a.flow_plain ≡ b.flow_plain → a.block_plain ≡ b.block_plain
     → a.single_quoted ≡ b.single_quoted → a.block ≡ b.block → a ≡ b
-same {a} {b} m f p s k =
-    let whole : Bool → Bool → Bool → Bool → Bool
-    → BarredStyles = λ m f p s k. record { multiline = m; flow_plain = f; block_plain = p; single_quoted = s; block = k } in
-    ap (λ x. whole x a.flow_plain a.block_plain a.single_quoted a.block) m
-    ∙ ap (λ x. whole b.multiline x a.block_plain a.single_quoted a.block) f
-    ∙ ap (λ x. whole b.multiline b.flow_plain x a.single_quoted a.block) p
-    ∙ ap (λ x. whole b.multiline b.flow_plain b.block_plain x a.block) s
-    ∙ ap (λ x. whole b.multiline b.flow_plain b.block_plain b.single_quoted x) k
+same {a} {b} m f p s k = grind (arith, nat_tests)
 
 pub either_none : (a : BarredStyles) → either a none_barred ≡ a
 either_none a = same (or-false a.multiline) (or-false a.flow_plain) (or-false a.block_plain) (or-false a.single_quoted) (or-false a.block)
@@ -42,8 +35,7 @@ barred_more charset whole found {after} old new rest c is_text e follows h more 
 -- all was read
 pub barred_whole : (charset : Charset) (whole found : BarredStyles) (old : List ℕ) → length old ≡ 0 → whole ≡ either found (barred_in charset (chars old))
     → found ≡ whole
-barred_whole charset whole found old e h =
-    sym (h ∙ ap (λ t. either found (barred_in charset t)) (ap chars (nil_from_length old e) ∙ chars-nil) ∙ either_none found)
+barred_whole charset whole found old e h = grind (arith, nat_tests, either, barred_in, chars, nil_from_length, chars-nil, either_none)
 
 -- The styles that quiet characters bar: each passes the tests of one character.
 record Quiet (charset : Charset) (c : ℕ) : Type 0 where
@@ -58,15 +50,11 @@ quiet_parts : (charset : Charset) (c : ℕ) → is_quiet charset c ≡ true → 
 quiet_parts charset c h = grind (arith, or_parts, not-true)
 
 no_colon : (a b c rest : Bool) → (a || (b || (c || rest))) ≡ false → c ≡ false
-no_colon true b c rest h = cc
-no_colon false true c rest h = cc
-no_colon false false true rest h = cc
-no_colon false false false rest h = refl
+no_colon a b c rest h = grind (arith, nat_tests)
 
 gap_before : (spaced tabbed broken nul hash : Bool) → tabbed ≡ false → broken ≡ false → nul ≡ false → (spaced && hash) ≡ false
     → ((spaced || tabbed || broken || nul) && hash) ≡ false
-gap_before true tabbed broken nul hash e f g h = h
-gap_before false tabbed broken nul hash e f g h = rw (e, f, g)
+gap_before spaced tabbed broken nul hash e f g h = grind (arith, nat_tests)
 
 -- nor any test of a character and the rest
 quiet_bars : (charset : Charset) (c : ℕ) (rest : Text) → Quiet charset c → (is_space c && is_empty rest) ≡ false
@@ -104,8 +92,7 @@ each_member [] test c all is = cc
 each_member (k ∷ set) test c all is = by (c == k) refl (λ rest. each_member set test c (and_parts (test k) (list_all test set) all).1 rest)
   where
     by : (same : Bool) → (c == k) ≡ same → (is_among set c ≡ true → test c ≡ true) → test c ≡ true
-    by true e later = ap test (eqb-true c k e) ∙ (and_parts (test k) (list_all test set) all).0
-    by false e later = later (sym (ap (λ b. b || is_among set c) e) ∙ is)
+    by same e later = grind (arith, nat_tests, eqb-true, and_parts, list_all, is_among)
 
 -- A letter or a digit bars nothing.
 ordinary_range : (c : ℕ) → is_ordinary c ≡ true → (48 ≤ c) × (c ≤ 122)
@@ -136,9 +123,7 @@ ordinary_quiet charset c h =
 
 pub ordinary_seen : (charset : Charset) (found : BarredStyles) (c : ℕ) (rest : Text) → is_ordinary c ≡ true → found ≡ either found (barred_by charset c rest)
 ordinary_seen charset found c rest h =
-    let spaced : is_space c ≡ false = other_than c space h refl in
-    sym (either_none found) ∙ ap (either found) (sym (quiet_bars charset c rest (ordinary_quiet charset c h) (and_left _ (is_empty rest) spaced)
-    (and_left _ (begins_with (λ d. d == 35) rest) spaced) (and_left _ (begins_with is_break rest) spaced)))
+    grind (arith, nat_tests, is_space, other_than, space, either_none, either, quiet_bars, ordinary_quiet, and_left, is_empty, begins_with, is_break)
 
 indicator_bars : (charset : Charset) (c : ℕ) (rest : Text) → is_among (codes ",?:[]{}") c ≡ true
     → barred_by charset c rest ≡ with_indicator none_barred c rest

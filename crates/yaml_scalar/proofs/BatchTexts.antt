@@ -35,14 +35,11 @@ batched_more {unicode} {before} c after are next passes =
     }
 
 left_of : (a b : Bool) → b ≡ false → (a || b) ≡ true → a ≡ true
-left_of true b e h = refl
-left_of false true e h = cc
-left_of false false e h = cc
+left_of a b e h = grind (arith, nat_tests)
 
 -- one that isn't escaped is of ASCII
 pub batched_ascii : (unicode : Bool) (c : ℕ) → needs_escape unicode c ≡ false → is_batched unicode c ≡ true → is_ascii c ≡ true
-batched_ascii unicode c is h =
-    left_of (is_ascii c) (needs_escape unicode c) is (and_parts (not (is_space c)) (is_ascii c || needs_escape unicode c) h).1
+batched_ascii unicode c is h = grind (arith, nat_tests, left_of, is_ascii, needs_escape, and_parts, not, is_space)
 
 low : (c : ℕ) → is_ascii c ≡ true → nat_lt c 128 ≡ true
 low c h = grind (arith, nat_tests)
@@ -110,18 +107,13 @@ batched_still unicode limit indent {whole} {before} {last} {text} {rest} {bytes}
 pub wrote_batch : {unicode : Bool} {before last : ℕ} {text : Text} {bytes rest : List ℕ} {old new : Page} {next : ℕ × Bor (List ℕ)}
     → AreBatched unicode before text bytes last (chars rest) → last ≡ next.0 → rest ≡ next.1.now → Wrote (render_text bytes) old new (Ok tt)
     → WroteBatch unicode before text old new (Ok next)
-wrote_batch {unicode} {before} {last} {text} {bytes} {rest} are last_is rest_is wrote =
-    record { bytes = bytes; last = last; rest = chars rest; are = are; wrote = wrote; next = (sym last_is, ap chars (sym rest_is)) }
+wrote_batch {unicode} {before} {last} {text} {bytes} {rest} are last_is rest_is wrote = grind (arith, nat_tests, chars)
 
 pub failed_batched : {unicode : Bool} {before last : ℕ} {text rest : Text} {bytes : List ℕ} {old new : Page} {error : yaml_error_t}
     (answer : Result (ℕ × Bor (List ℕ)) yaml_error_t) → IsErr answer × IsErrAnd answer (λ returned. returned ≡ error)
     → AreBatched unicode before text bytes last rest → Wrote (render_text bytes) old new (Err error)
     → WroteBatch unicode before text old new answer
-failed_batched {unicode} {before} {last} {text} {rest} {bytes} {old} {new} {error} answer is are wrote =
-    let p = err_from_is_err_and answer is.1 in
-    subst (λ (r : Result (ℕ × Bor (List ℕ)) yaml_error_t). WroteBatch unicode before text old new r)
-    (sym (p.1 ∙ ap (λ (e : yaml_error_t). let r : Result (ℕ × Bor (List ℕ)) yaml_error_t = Err e in r) p.2))
-    (record { bytes = bytes; last = last; rest = rest; are = are; wrote = wrote; next = tt })
+failed_batched {unicode} {before} {last} {text} {rest} {bytes} {old} {new} {error} answer is are wrote = grind (arith, nat_tests, err_from_is_err_and)
 
 -- and the rest is still to be written
 pub batched_left : (unicode : Bool) (limit : Option ℕ) (indent : ℕ) {whole : Cursor → Rendered} {before : ℕ} {text : Text} {next : ℕ × Bor (List ℕ)}

@@ -33,9 +33,7 @@ all_pass : (classes : ℕ) (test : ℕ → Bool) → ImpliesTest classes test �
     → list_all test text ≡ true
 all_pass classes test tells [] s h = refl
 all_pass classes test tells (c ∷ rest) s h =
-    let p = and_parts (scalar c) (scalars rest) s in
-    let q = and_parts _ _ (sym (list_all-append (is_free classes) (encode c) (encodes rest)) ∙ h) in
-    and_from _ _ (tells c p.0 q.0) (all_pass classes test tells rest p.1 q.1)
+    grind (arith, nat_tests, and_parts, scalars, list_all-append, is_free, encode, encodes, and_from, all_pass classes test tells rest)
 
 -- the characters of such a run pass
 pub free_passes : {classes : ℕ} {test : ℕ → Bool} {text : List ℕ} {size : ℕ} → ImpliesTest classes test → IsUtf8 text → IsFreeRun classes text size
@@ -73,18 +71,10 @@ pub record Unbroken (c : ℕ) : Type 0 where
 
 pub wide_unbroken : (classes c : ℕ) → is_free classes 0xC2 ≡ false → is_free classes 0xE2 ≡ false → list_all (is_free classes) (encode c) ≡ true → Unbroken c
 unfolding encode
-wide_unbroken classes c two three free =
-    record {
-      next_line = is_other_than classes c 0x85 0xC2 _ refl two free;
-      line_separator = is_other_than classes c 0x2028 0xE2 _ refl three free;
-      paragraph_separator = is_other_than classes c 0x2029 0xE2 _ refl three free;
-    }
+wide_unbroken classes c two three free = grind (arith, nat_tests, is_other_than)
 
 pub wide_no_break : (c : ℕ) → 128 ≤ c → Unbroken c → is_break c ≡ false
-wide_no_break c wide is =
-    let lf : (c == 0xA) ≡ false = grind (arith, nat_tests) in
-    let cr : (c == 0xD) ≡ false = grind (arith, nat_tests) in
-    rw (lf, cr, is.next_line, is.line_separator, is.paragraph_separator)
+wide_no_break c wide is = grind (arith, nat_tests)
 
 -- printable
 below_two : (c : ℕ) → 128 ≤ c → c < 160 → encode c ≡ 0xC2 ∷ (128 + c % 64) ∷ []
@@ -103,20 +93,7 @@ printable_where c s low near = elim (scalar_cases c s) [
 
 pub wide_printable : (classes c : ℕ) → is_free classes 0xC2 ≡ false → is_free classes 0xEF ≡ false → 128 ≤ c → scalar c ≡ true
     → list_all (is_free classes) (encode c) ≡ true → is_printable c ≡ true
-wide_printable classes c two three wide s free =
-    let past : 160 ≤ c = elim (cases_lt c 160) [
-      | inl below ↦ absurd (first_is_free classes 0xC2 ((128 + c % 64) ∷ []) (ap (list_all (is_free classes)) (sym (below_two c wide below)) ∙ free) two)
-      | inr above ↦ above
-    ] in
-    let near : (c < 0xF000) ⊎ (0x10000 ≤ c) = elim (cases_lt c 0xF000) [
-      | inl below ↦ inl below
-      | inr above ↦ elim (cases_lt c 0x10000) [
-        | inl within ↦ absurd (first_is_free classes 0xEF ((128 + (c / 64) % 64) ∷ (128 + c % 64) ∷ [])
-            (ap (list_all (is_free classes)) (sym (below_last c above within)) ∙ free) three)
-        | inr past ↦ inr past
-      ]
-    ] in
-    printable_where c s past near
+wide_printable classes c two three wide s free = grind (arith, nat_tests, cases_lt, first_is_free, list_all, is_free, below_two, below_last, printable_where)
 
 -- none is free of the class of all first bytes past ASCII
 pub wide_never : (classes c : ℕ) → agree_below (λ k. is_free classes (k + 192)) (λ k. false) 64 ≡ true → 128 ≤ c → scalar c ≡ true
@@ -179,10 +156,7 @@ free_characters classes test {text} computed none ascii is_text =
 -- a test by its results for ASCII and beyond
 pub tells_by : (classes : ℕ) (test : ℕ → Bool) → agree_below (λ b. not (is_free classes b) || test b) (λ b. true) 128 ≡ true
     → ((c : ℕ) → 128 ≤ c → scalar c ≡ true → list_all (is_free classes) (encode c) ≡ true → test c ≡ true) → ImpliesTest classes test
-tells_by classes test computed past c s free = elim (cases_lt c 128) [
-  | inl low ↦ ascii_tells classes test computed c low free
-  | inr wide ↦ past c wide s free
-]
+tells_by classes test computed past c s free = grind (arith, nat_tests, cases_lt, ascii_tells)
 
 other_than : (c k : ℕ) → 128 ≤ c → k < 128 → (c == k) ≡ false
 other_than c k wide below = grind (arith, nat_tests)
@@ -214,8 +188,7 @@ unicode_tells classes folds computed two three four =
 
 pub ascii_only_tells : (classes : ℕ) (test : ℕ → Bool) → agree_below (λ b. not (is_free classes b) || test b) (λ b. true) 128 ≡ true
     → agree_below (λ k. is_free classes (k + 192)) (λ k. false) 64 ≡ true → ImpliesTest classes test
-ascii_only_tells classes test computed none =
-    tells_by classes test computed (λ c wide s free. absurd (wide_never classes c none wide s free))
+ascii_only_tells classes test computed none = grind (arith, nat_tests, tells_by, wide_never)
 
 -- and of those that an analysis passes over
 pub quiet_tells : (classes : ℕ) (breaks12 : Bool)

@@ -1,28 +1,21 @@
 -- The style of a value that only double quotes can write doesn't depend on its breaks.
-use Rattle.yaml_scalar.proofs.Common.{arith, if◌then◌else◌, Bool, false, not, true, ◌&&◌, ◌||◌, [], ◌∷◌, refl, ◌≡◌, ap, sym, ◌∙◌, and_parts, Text, Charset}
-use Rattle.yaml_scalar.proofs.Common.{Allowances, allowances, ChosenStyle, chosen, BarredStyles, barred_in, allowed_by}
-use Rattle.yaml_base.proofs.Common.{ScalarStyle, any_style, plain, single_quoted, double_quoted, literal, folded, is_plain, quoted_style, fitting_style}
+use Rattle.yaml_scalar.proofs.Common.{arith, if◌then◌else◌, Bool, false, not, true, ◌&&◌, ◌||◌, refl, ◌≡◌, ap, sym, ◌∙◌, and_parts, Text, Charset}
+use Rattle.yaml_scalar.proofs.Common.{Allowances, allowances, ChosenStyle, chosen, BarredStyles, barred_in, allowed_by, nat_tests}
+use Rattle.yaml_base.proofs.Common.{ScalarStyle, double_quoted, is_plain, quoted_style, fitting_style}
 use Rattle.std.proofs.Math.Bool.{or-false}
 use Rattle.yaml_scalar.{specs.Barred.all_styles, specs.ScalarData.ChooseAlike}
 
 -- a value allows the styles that its characters don't bar
 pub allowed_whole : (charset : Charset) (value : Text) → allowances charset value ≡ allowed_by (barred_in charset value) value
-allowed_whole charset [] = refl
-allowed_whole charset (c ∷ rest) = refl
+allowed_whole charset value = grind (arith, nat_tests)
 
 -- if nothing else fits, double quotes do
 none_fits : (allowed : Allowances) (plain_fits block_fits : Bool) (asked : ScalarStyle) → plain_fits ≡ false → allowed.single_quoted_allowed ≡ false
     → block_fits ≡ false → fitting_style allowed plain_fits block_fits asked ≡ double_quoted
-none_fits allowed plain_fits block_fits plain p s b =
-    ap (λ (x : Bool). if x then plain else quoted_style allowed) p ∙ ap (λ (x : Bool). if x then single_quoted else double_quoted) s
-none_fits allowed plain_fits block_fits single_quoted p s b = ap (λ (x : Bool). if x then single_quoted else double_quoted) s
-none_fits allowed plain_fits block_fits literal p s b = ap (λ (x : Bool). if x then literal else double_quoted) b
-none_fits allowed plain_fits block_fits folded p s b = ap (λ (x : Bool). if x then folded else double_quoted) b
-none_fits allowed plain_fits block_fits _ p s b = refl
+none_fits allowed plain_fits block_fits asked p s b = grind (arith, nat_tests, quoted_style)
 
 neither_plain : (flow one other a b : Bool) → one ≡ false → other ≡ false → ((if flow then one else other) && a && b) ≡ false
-neither_plain true one other a b e f = ap (λ x. x && a && b) e
-neither_plain false one other a b e f = ap (λ x. x && a && b) f
+neither_plain flow one other a b e f = grind (arith, nat_tests)
 
 nothing_allowed : (allowed : Allowances) → allowed.flow_plain_allowed ≡ false → allowed.block_plain_allowed ≡ false
     → allowed.single_quoted_allowed ≡ false → allowed.block_allowed ≡ false
@@ -33,12 +26,10 @@ nothing_allowed allowed f p s b asked empty tag_written plain_implicit quoted_im
     grind (arith, none_fits, neither_plain)
 
 not_plain : (a b x : Bool) → x ≡ true → (a && not (b || x)) ≡ false
-not_plain true false x e = ap not e
-not_plain _ _ x e = refl
+not_plain a b x e = grind (arith, nat_tests, not)
 
 not_either : (a x : Bool) → x ≡ true → not (a || x) ≡ false
-not_either true x e = refl
-not_either false x e = ap not e
+not_either a x e = grind (arith, nat_tests, not)
 
 barred_double : (found : BarredStyles) (value : Text) → all_styles found ≡ true
     → (asked : ScalarStyle) (empty tag_written plain_implicit quoted_implicit flow simple_key canonical : Bool)

@@ -1,8 +1,8 @@
 -- Texts whose lines after the first begin with at least `count` spaces, and in which no space precedes a break: how they
 -- are put together.
-use Rattle.yaml_scalar.proofs.Common.{suc, zero, ℕ, ◌≤◌, ◌==◌, replicate, Bool, false, not, true, [], ◌++◌, ◌∷◌, refl, ◌≡◌, eqb-true, ap, arith, ◌∙◌, ◌||◌, tab}
-use Rattle.yaml_scalar.proofs.Common.{◌&&◌, or_from, is_blank, and_from, or_left, or_right, false≢true, Text, space, is_read_break, begins_with_spaces}
-use Rattle.yaml_scalar.proofs.Common.{begins_with_blank_line, begins_with_deep_line, has_deep_lines, begins_with_break}
+use Rattle.yaml_scalar.proofs.Common.{suc, zero, ℕ, ◌≤◌, ◌==◌, replicate, Bool, false, not, true, [], ◌++◌, ◌∷◌, refl, ◌≡◌, eqb-true, ap, arith, tab}
+use Rattle.yaml_scalar.proofs.Common.{or_from, is_blank, and_from, or_left, or_right, false≢true, Text, space, is_read_break, begins_with_spaces}
+use Rattle.yaml_scalar.proofs.Common.{begins_with_blank_line, begins_with_deep_line, has_deep_lines, begins_with_break, nat_tests}
 use Rattle.yaml_base.proofs.Common.{has_no_space_before_break}
 
 -- neither a blank nor a break of a reader
@@ -28,8 +28,7 @@ Unbroken breaks12 (c ∷ rest) = (is_read_break breaks12 c ≡ false) × Unbroke
 
 -- a space is no break
 pub space_unbroken : (breaks12 : Bool) → is_read_break breaks12 space ≡ false
-space_unbroken true = refl
-space_unbroken false = refl
+space_unbroken breaks12 = grind (arith, nat_tests)
 
 -- a break is no space
 break_no_space : (breaks12 : Bool) (b : ℕ) → is_read_break breaks12 b ≡ true → (b == space) ≡ false
@@ -38,13 +37,11 @@ break_no_space breaks12 b h = grind (arith, eqb-true, false≢true, space_unbrok
 module _ (breaks12 : Bool) where
   -- ink is no break
   pub ink_unbroken : (text : Text) → BeginsInk breaks12 text → begins_with_break breaks12 text ≡ false
-  ink_unbroken [] h = absurd h
-  ink_unbroken (c ∷ rest) h = h.no_break
+  ink_unbroken text h = grind (arith, nat_tests)
 
   -- a line that begins with neither a blank nor a break isn't blank
   pub unblank_line : (c : ℕ) (rest : Text) → is_read_break breaks12 c ≡ false → is_blank c ≡ false → begins_with_blank_line breaks12 (c ∷ rest) ≡ false
-  unblank_line c rest goes_on shows =
-      ap (λ x. x || (is_blank c && begins_with_blank_line breaks12 rest)) goes_on ∙ ap (λ x. x && begins_with_blank_line breaks12 rest) shows
+  unblank_line c rest goes_on shows = grind (arith, nat_tests, is_blank, begins_with_blank_line)
 
   -- a line of spaces and then ink isn't blank
   blank_spaces : (n : ℕ) (text : Text) → BeginsInk breaks12 text → begins_with_blank_line breaks12 (replicate n space ++ text) ≡ false
@@ -61,13 +58,11 @@ module _ (breaks12 : Bool) where
   -- after a break: ink after enough spaces, or another break
   pub deep_indent : (count indent : ℕ) (text : Text) → count ≤ indent → BeginsInk breaks12 text
       → begins_with_deep_line breaks12 count (replicate indent space ++ text) ≡ true
-  deep_indent count indent text enough h =
-      or_right _ _ (and_from _ _ (enough_spaces count indent text enough) (ap not (blank_spaces indent text h)))
+  deep_indent count indent text enough h = grind (arith, nat_tests, or_right, and_from, enough_spaces, not, blank_spaces)
 
   -- a line that a break ends at once
   pub deep_break : (count : ℕ) (text : Text) → begins_with_break breaks12 text ≡ true → begins_with_deep_line breaks12 count text ≡ true
-  deep_break count [] h = absurd (false≢true h)
-  deep_break count (c ∷ rest) h = or_left _ _ h
+  deep_break count text h = grind (arith, nat_tests, false≢true, or_left)
 
   -- Deep lines
 
@@ -113,8 +108,7 @@ module _ (breaks12 : Bool) where
 
   -- spaces before ink begin with no break
   spaces_before : (n : ℕ) (text : Text) → BeginsInk breaks12 text → begins_with_break breaks12 (replicate n space ++ text) ≡ false
-  spaces_before zero text h = ink_unbroken text h
-  spaces_before (suc n) text h = space_unbroken breaks12
+  spaces_before n text h = grind (arith, nat_tests, ink_unbroken, space_unbroken)
 
   -- spaces before ink
   pub even_spaces : (count n : ℕ) (text : Text) → BeginsInk breaks12 text → IsEven count text → IsEven count (replicate n space ++ text)

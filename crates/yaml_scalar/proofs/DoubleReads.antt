@@ -1,6 +1,6 @@
 -- The text between double quotes reads as the value, and its later lines are indented.
 use Rattle.yaml_scalar.proofs.Common.{suc, zero, ℕ, ◌+◌, ◌≤◌, if◌then◌else◌, Option, None, Some, replicate, Bool, false, true, ◌&&◌, List, []}
-use Rattle.yaml_scalar.proofs.Common.{◌++◌, ◌∷◌, ◌⊎◌, refl, ◌≡◌, eqb-true, lt-ltb, true≢false, append-nil, append_assoc, inl, inr, ap, subst, sym, ◌∙◌, arith}
+use Rattle.yaml_scalar.proofs.Common.{◌++◌, ◌∷◌, ◌⊎◌, refl, ◌≡◌, eqb-true, lt-ltb, true≢false, append-nil, append_assoc, ap, subst, sym, ◌∙◌, arith}
 use Rattle.yaml_scalar.proofs.Common.{scalar, and_parts, and_right, or_left, or_right, nat_tests, all_scalars, breaks-round, rendered-append, indented-written}
 use Rattle.yaml_scalar.proofs.Common.{Text, line_feed, space, is_space, is_blank}
 use Rattle.yaml_scalar.proofs.Common.{is_printable, Cursor, Rendered, render_then, column_after, render_text, breaks_line, is_past_width, with_breaks_written}
@@ -34,8 +34,7 @@ character-reads breaks12 unicode c rest h s = go (needs_escape unicode c) refl
 
 -- a space is written as itself
 pub space-text : (unicode : Bool) → character_text unicode space ≡ space ∷ []
-space-text true = refl
-space-text false = refl
+space-text unicode = grind (arith, nat_tests)
 
 -- the units of a text between the quotes, from its start up to the closing quote
 record SeenAs (breaks12 : Bool) (text tail : Text) (prefix : FoldState) : Type 0 where
@@ -91,8 +90,7 @@ blank-kept c blanks breaks rest e = rw e
 
 -- a fold follows a character that is no space
 pub may-fold-other : (before : Option ℕ) (rest : Text) → may_fold before rest ≡ true → is_some_non_space before ≡ true
-may-fold-other before [] h = cc
-may-fold-other before (c ∷ rest) h = h
+may-fold-other before rest h = grind (arith, nat_tests)
 
 -- after such a character the column is past the indentation
 abbrev pub margin : Option ℕ → ℕ
@@ -104,8 +102,7 @@ Fits indent before cursor = (cursor.indention ≡ false) ⊎ (indent + margin be
 
 pub fits-breaks : (indent : ℕ) (before : Option ℕ) (cursor : Cursor) → is_some_non_space before ≡ true → Fits indent before cursor
     → breaks_line indent cursor ≡ true
-fits-breaks indent before cursor h (inl e) = rw e
-fits-breaks indent before cursor h (inr le) = grind (arith, or_left, or_right, lt-ltb)
+fits-breaks indent before cursor h x = grind (arith, nat_tests, or_left, or_right, lt-ltb)
 
 -- the text between the quotes for a value, after a character or at the start
 record Inside (breaks12 : Bool) (tail : Text) (before : Option ℕ) (value text : Text) : Type 0 where
@@ -166,13 +163,11 @@ inside-space breaks12 tail before rest text ih = record {
 -- the part of a line that a fold's indentation leaves
 fold-indented : (indent : ℕ) (rest : Text) → 2 ≤ indent → is_indented_text rest ≡ true
     → is_indented_text (line_feed ∷ (replicate indent space ++ rest)) ≡ true
-fold-indented zero rest h k = absurd (omega arith)
-fold-indented (suc zero) rest h k = absurd (omega arith)
 fold-indented (suc (suc n)) rest h k = unbroken-indented (replicate n space) rest (unbroken-replicate n) k
+fold-indented _ rest h k = absurd (omega arith)
 
 kept-unbroken : (rest : Text) → is_unbroken (space_kept rest) ≡ true
-kept-unbroken [] = refl
-kept-unbroken (c ∷ rest) = grind (arith)
+kept-unbroken rest = grind (arith, nat_tests)
 
 -- a space that is folded
 inside-fold : (breaks12 : Bool) (tail : Text) (before : Option ℕ) (indent : ℕ) (rest text : Text)
@@ -208,8 +203,7 @@ margin-small before = grind (arith)
 -- the cursor after a character's text
 pub fits-character : (unicode : Bool) (indent : ℕ) (before : Option ℕ) (c : ℕ) (cursor : Cursor) → Fits indent before cursor
     → Fits indent (Some c) (render_text (character_text unicode c) cursor).cursor
-fits-character unicode indent before c cursor (inl e) = inl e
-fits-character unicode indent before c cursor (inr le) = grind (arith, unbroken-column, character-unbroken, character-long, margin-small)
+fits-character unicode indent before c cursor x = grind (arith, nat_tests, unbroken-column, character-unbroken, character-long, margin-small)
 
 module _ (breaks12 unicode : Bool) (limit : Option ℕ) (indent : ℕ) (wide : 2 ≤ indent) (tail : Text) where
   -- the text after a character
@@ -263,8 +257,7 @@ quoted_cursor cursor = (render_quote cursor).cursor
 body-inside : (breaks12 unicode : Bool) (limit : Option ℕ) (indent : ℕ) (value : Text) (cursor : Cursor) (tail : Text)
     → 2 ≤ indent → all_scalars value ≡ true
     → Inside breaks12 tail None value (double_inside unicode limit indent None value (quoted_cursor cursor)).text
-body-inside breaks12 unicode limit indent value cursor tail wide h =
-    inside-reads breaks12 unicode limit indent wide tail value None (quoted_cursor cursor) h (inl (and_right cursor.indention false refl))
+body-inside breaks12 unicode limit indent value cursor tail wide h = grind (arith, nat_tests, inside-reads, quoted_cursor, and_right)
 
 abbrev reading_before : (rest value : Text) → Option QuotedReading
 reading_before rest value = Some (record { value = value; rest = rest })

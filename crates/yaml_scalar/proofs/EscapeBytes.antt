@@ -1,16 +1,13 @@
 -- An escape is short, of ASCII, and holds no break.
-use Rattle.yaml_scalar.proofs.Common.{suc, zero, ℕ, ◌%◌, ◌/◌, ◌≤◌, if◌then◌else◌, ◌==◌, Option, None, Some, nat_le, nat_lt, length, Bool, false, not, true}
-use Rattle.yaml_scalar.proofs.Common.{◌&&◌, List, [], ◌∷◌, refl, ◌≡◌, arith, and_parts, and_from, or_from, agree_below_at, not-true, list_all-append}
+use Rattle.yaml_scalar.proofs.Common.{suc, zero, ℕ, ◌%◌, ◌/◌, ◌≤◌, if◌then◌else◌, Option, Some, nat_le, nat_lt, length, Bool, false, not, true}
+use Rattle.yaml_scalar.proofs.Common.{◌&&◌, List, [], ◌∷◌, refl, ◌≡◌, arith, and_parts, and_from, or_from, agree_below_at, not-true, list_all-append, nat_tests}
 use Rattle.yaml_scalar.proofs.Common.{list_all, list_any, IsAscii, Text, is_break, hex_digit, hex_digits, ShortEscape, short_escapes, letter_among}
 use Rattle.yaml_scalar.proofs.Common.{escape_after_backslash, escape_text, is_unbroken_ascii}
 use Rattle.yaml_base.proofs.Common.{ltb-true}
 
 pub plain-unbroken : (text : Text) → list_all is_unbroken_ascii text ≡ true → list_any is_break text ≡ false
 plain-unbroken [] h = refl
-plain-unbroken (b ∷ rest) h =
-    let p = and_parts (is_unbroken_ascii b) (list_all is_unbroken_ascii rest) h in
-    let q = and_parts (nat_lt b 128) (not (is_break b)) p.0 in
-    or_from _ _ (not-true _ q.1) (plain-unbroken rest p.1)
+plain-unbroken (b ∷ rest) h = grind (arith, nat_tests, and_parts, is_unbroken_ascii, list_all, nat_lt, not, is_break, or_from, not-true, plain-unbroken rest)
 
 pub plain-ascii : (text : Text) → list_all is_unbroken_ascii text ≡ true → IsAscii text
 plain-ascii [] h i = omega arith
@@ -24,14 +21,12 @@ letters_plain (entry ∷ more) = is_unbroken_ascii entry.letter && letters_plain
 letter-here : (entry : ShortEscape) (other : Option ℕ) (letter : ℕ) (b : Bool) → is_unbroken_ascii entry.letter ≡ true
     → (other ≡ Some letter → is_unbroken_ascii letter ≡ true)
     → (if b then Some entry.letter else other) ≡ Some letter → is_unbroken_ascii letter ≡ true
-letter-here entry other letter true here later h = let e : entry.letter ≡ letter = cc in rw (← e) here
-letter-here entry other letter false here later h = later h
+letter-here entry other letter b here later h = grind (arith, nat_tests)
 
 letter-found : (table : List ShortEscape) (c letter : ℕ) → letters_plain table ≡ true → letter_among table c ≡ Some letter → is_unbroken_ascii letter ≡ true
 letter-found [] c letter h found = cc
 letter-found (entry ∷ more) c letter h found =
-    let p = and_parts (is_unbroken_ascii entry.letter) (letters_plain more) h in
-    letter-here entry (letter_among more c) letter (c == entry.character) p.0 (letter-found more c letter p.1) found
+    grind (arith, nat_tests, and_parts, is_unbroken_ascii, letters_plain, letter-here, letter_among, letter-found more c letter)
 
 digit-plain : (n : ℕ) → is_unbroken_ascii (hex_digit (n % 16)) ≡ true
 digit-plain n = agree_below_at (λ d. is_unbroken_ascii (hex_digit d)) (λ d. true) 16 (n % 16) refl (omega arith)
@@ -49,17 +44,13 @@ number-plain c false true = digits-plain 4 c
 number-plain c false false = digits-plain 8 c
 
 number-short : (c : ℕ) (two four : Bool) → length (number_text two four c) ≤ 9
-number-short c true four = omega arith
-number-short c false true = omega arith
-number-short c false false = omega arith
+number-short c two four = grind (arith, nat_tests)
 
 rest-plain : (c : ℕ) (found : Option ℕ) → letter_among short_escapes c ≡ found → list_all is_unbroken_ascii (escape_after_backslash found c) ≡ true
-rest-plain c (Some letter) found = and_from _ true (letter-found short_escapes c letter refl found) refl
-rest-plain c None found = number-plain c (nat_le c 0xFF) (nat_le c 0xFFFF)
+rest-plain c found x = grind (arith, nat_tests, and_from, letter-found, short_escapes, number-plain, nat_le)
 
 rest-short : (c : ℕ) (found : Option ℕ) → length (escape_after_backslash found c) ≤ 9
-rest-short c (Some letter) = omega arith
-rest-short c None = number-short c (nat_le c 0xFF) (nat_le c 0xFFFF)
+rest-short c found = grind (arith, nat_tests, number-short, nat_le)
 
 pub escape-plain : (c : ℕ) → list_all is_unbroken_ascii (escape_text c) ≡ true
 escape-plain c = rest-plain c (letter_among short_escapes c) refl

@@ -1,6 +1,6 @@
 -- The text of a character between double quotes reads as that character.
 use Rattle.yaml_scalar.proofs.Common.{suc, zero, ℕ, ◌%◌, ◌+◌, ◌/◌, ◌<◌, ◌≤◌, if◌then◌else◌, ◌==◌, Option, None, Some, nat_le, Bool, false, true, ◌&&◌, List}
-use Rattle.yaml_scalar.proofs.Common.{[], ◌++◌, ◌∷◌, refl, ◌≡◌, eqb-true, leb-true, append_assoc, ap, arith, scalar, and_parts, agree_below_at}
+use Rattle.yaml_scalar.proofs.Common.{[], ◌++◌, ◌∷◌, refl, ◌≡◌, eqb-true, leb-true, append_assoc, arith, scalar, and_parts, agree_below_at, nat_tests}
 use Rattle.yaml_scalar.proofs.Common.{Text, hex_digit, hex_digits, between, with_unit, quoted_from, itself, ShortEscape, short_escapes}
 use Rattle.yaml_scalar.proofs.Common.{letter_among, escape_after_backslash, escape_text}
 use Rattle.std.{proofs.Math.Utf8.scalar_cases, specs.Prelude.◌*◌}
@@ -12,8 +12,7 @@ is_answer None n = false
 is_answer (Some m) n = m == n
 
 is_answer-is : (o : Option ℕ) (n : ℕ) → is_answer o n ≡ true → o ≡ Some n
-is_answer-is None n h = cc
-is_answer-is (Some m) n h = ap (λ k. Some k) (eqb-true m n h)
+is_answer-is o n h = grind (arith, nat_tests, eqb-true)
 
 -- each letter of a table reads as its character
 abbrev letters_read : List ShortEscape → Bool
@@ -31,8 +30,7 @@ letter-reads : (table : List ShortEscape) (c letter : ℕ) → letters_read tabl
     → letter_among table c ≡ Some letter → letter_meaning letter ≡ Some c
 letter-reads [] c letter h found = cc
 letter-reads (entry ∷ more) c letter h found =
-    let p : (is_answer (letter_meaning entry.letter) entry.character ≡ true) × (letters_read more ≡ true) = and_parts _ _ h in
-    letter-found more entry c letter (c == entry.character) refl p.0 (letter-reads more c letter p.1) found
+    grind (arith, nat_tests, is_answer, letter_meaning, letters_read, and_parts, letter-found, letter-reads more c letter)
 
 -- a digit reads as its value
 abbrev digit_reads : ℕ → Bool
@@ -58,13 +56,7 @@ digits-go : (breaks12 : Bool) (count more number n at : ℕ) (rest : Text) → a
     ≡ quoted_from breaks12 (within_digits more (number * sixteen_to count + n)) rest
 digits-go breaks12 zero more number n at rest e h = grind (arith)
 digits-go breaks12 (suc count) more number n at rest e h =
-    let here : n / 16 < sixteen_to count = omega arith in
-    let digit : n % 16 < 16 = omega arith in
-    let later : at ≡ count + suc more = omega arith in
-    let sums : (number * sixteen_to count + n / 16) * 16 + n % 16 ≡ number * (sixteen_to count * 16) + n = omega arith in
-    let prefix = digits-go breaks12 count (suc more) number (n / 16) at (hex_digit (n % 16) ∷ rest) later here in
-    let last = digit-steps breaks12 more (number * sixteen_to count + n / 16) (n % 16) rest digit in
-    rw (append_assoc (hex_digits count (n / 16)) (hex_digit (n % 16) ∷ []) rest, prefix, last, sums)
+    grind (arith, nat_tests, sixteen_to, hex_digit, digit-steps, append_assoc, hex_digits, digits-go breaks12 count (suc more) number (n / 16), suc more)
 
 -- the last digit gives the number
 digit-ends : (breaks12 : Bool) (number d n : ℕ) (rest : Text) → d < 16 → number * 16 + d ≡ n → is_scalar_number n ≡ true
@@ -109,8 +101,7 @@ number-reads breaks12 c rest false false is_two is_four h =
 rest-reads : (breaks12 : Bool) (c : ℕ) (rest : Text) (found : Option ℕ) → letter_among short_escapes c ≡ found → scalar c ≡ true
     → quoted_from breaks12 after_backslash (escape_after_backslash found c ++ rest)
     ≡ with_unit (itself c) (quoted_from breaks12 between rest)
-rest-reads breaks12 c rest (Some letter) found h = rw (letter-reads short_escapes c letter refl found)
-rest-reads breaks12 c rest None found h = number-reads breaks12 c rest (nat_le c 0xFF) (nat_le c 0xFFFF) refl refl h
+rest-reads breaks12 c rest found x h = grind (arith, nat_tests, letter-reads, short_escapes, number-reads, nat_le)
 
 -- an escape reads as its character, whatever follows
 pub escape-reads : (breaks12 : Bool) (c : ℕ) (rest : Text) → scalar c ≡ true

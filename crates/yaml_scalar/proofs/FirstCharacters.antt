@@ -1,6 +1,6 @@
 -- A text's first characters, as they are taken one after another.
-use Rattle.yaml_scalar.proofs.Common.{arith, ℕ, ◌==◌, chars, IsUtf8, length, false, true, ◌&&◌, ◌||◌, List, [], ◌++◌, ◌∷◌, refl, ◌≡◌, eqb-true, true≢false, ap}
-use Rattle.yaml_scalar.proofs.Common.{sym, ◌∙◌, IsUtf8-past_char, chars_past_char, encode_utf8, Text, begins_like_marker, begins_unlike_plain}
+use Rattle.yaml_scalar.proofs.Common.{arith, ℕ, ◌==◌, chars, IsUtf8, length, false, true, ◌&&◌, ◌||◌, List, ◌++◌, ◌∷◌, ◌≡◌, eqb-true, true≢false, ap}
+use Rattle.yaml_scalar.proofs.Common.{sym, ◌∙◌, IsUtf8-past_char, chars_past_char, encode_utf8, Text, begins_like_marker, begins_unlike_plain, nat_tests}
 use Rattle.yaml_scalar.proofs.Common.{is_ordinary, false_from_ne_true}
 use Rattle.std.proofs.StrCases.{chars_of_empty}
 
@@ -28,8 +28,7 @@ pub other_than : (c k : ℕ) → is_ordinary c ≡ true → is_ordinary k ≡ fa
 other_than c k h e = false_from_ne_true (c == k) (λ same. true≢false (sym h ∙ ap is_ordinary (eqb-true c k same) ∙ e))
 
 no_exclamation : (c : ℕ) (rest : Text) → (c == 45) ≡ false → (c == 46) ≡ false → begins_like_marker (c ∷ rest) ≡ false
-no_exclamation c (a ∷ b ∷ rest) e f = rw (e, f)
-no_exclamation c _ e f = refl
+no_exclamation c rest e f = grind (arith, nat_tests)
 
 -- so a text that begins with one begins as plain text may
 pub ordinary_plain : (c : ℕ) (rest : Text) → is_ordinary c ≡ true → begins_unlike_plain (c ∷ rest) ≡ false

@@ -1,9 +1,9 @@
 -- The text between double quotes is written one character after another, and runs of unescaped ones as a whole.
-use Rattle.yaml_scalar.proofs.Common.{ℕ, if◌then◌else◌, ◌==◌, chars, Option, None, Some, nat_lt, Bool, false, not, true, ◌&&◌, ◌||◌, List, [], ◌∷◌, refl, ◌≡◌}
+use Rattle.yaml_scalar.proofs.Common.{ℕ, if◌then◌else◌, chars, Option, None, Some, nat_lt, Bool, false, not, true, ◌&&◌, ◌||◌, List, [], ◌∷◌, refl, ◌≡◌}
 use Rattle.yaml_scalar.proofs.Common.{ap, ◌∙◌, arith, and_parts, and_from, not-false, not-true, nat_tests, list_all, Text, is_ascii, is_space, is_break}
 use Rattle.yaml_scalar.proofs.Common.{is_printable, Cursor, Rendered, render_then, next_column, render_text, is_past_width, quote, backslash, escape_text}
 use Rattle.yaml_scalar.proofs.Common.{needs_escape, character_text, may_fold, double_fold, double_character, double_inside, Page, is_unbroken_ascii, has_limit}
-use Rattle.yaml_scalar.proofs.Common.{stays_where, stays, sym, Result, Wrote, wrote_as}
+use Rattle.yaml_scalar.proofs.Common.{stays_where, stays, Result, Wrote, wrote_as}
 use Rattle.yaml_base.specs.declared.errors.yaml_error_t.{yaml_error_t}
 use Rattle.yaml_pen.proofs.StillToWrite.{StillToWrite}
 use Rattle.yaml_scalar.proofs.{RunsWritten.StandAlone, Unbroken.unescaped, WholeRuns.no_fold}
@@ -48,19 +48,14 @@ pub inside_stays : (unicode : Bool) (limit : Option ℕ) (indent : ℕ) (before 
     → list_all (stays unicode limit) run ≡ true → double_inside unicode limit indent before run cursor ≡ render_text run cursor
 inside_stays unicode limit indent before [] cursor h = refl
 inside_stays unicode limit indent before (c ∷ run) cursor h =
-    let p = and_parts (stays unicode limit c) (list_all (stays unicode limit) run) h in
-    let next : Cursor = record cursor { column = next_column c cursor.column } in
-    ap (λ (l : Rendered). render_then l (double_inside unicode limit indent (Some c) run)) (character_stays unicode limit indent before c run cursor p.0)
-    ∙ ap (λ (l : Rendered). let m : Rendered = record { text = c ∷ l.text; cursor = l.cursor } in m) (inside_stays unicode limit indent (Some c) run next p.1)
+    grind (arith, nat_tests, and_parts, list_all, next_column, render_then, double_inside, character_stays, inside_stays unicode limit indent (Some c) run)
 
 -- a character that isn't escaped with `unicode` off isn't with it on
 escaped_parts : (a b c d e : Bool) → (a || b || c || d || e) ≡ false → (b ≡ false) × ((a || false || c || d || e) ≡ false)
-escaped_parts false false c d e h = (refl, h)
-escaped_parts _ _ c d e h = cc
+escaped_parts a b c d e h = grind (arith, nat_tests)
 
 ascii_unescaped : (unicode : Bool) (c : ℕ) → needs_escape false c ≡ false → needs_escape unicode c ≡ false
-ascii_unescaped false c h = h
-ascii_unescaped true c h = (escaped_parts (not (is_printable c)) (not (is_ascii c)) (is_break c) (c == quote) (c == backslash) h).1
+ascii_unescaped unicode c h = grind (arith, nat_tests, escaped_parts, not, is_printable, is_ascii, is_break, quote, backslash)
 
 pub ascii_stays : (unicode folds : Bool) (c : ℕ) → stays_where false folds c ≡ true → stays_where unicode folds c ≡ true
 ascii_stays unicode folds c h = grind (arith, and_parts, and_from, ascii_unescaped, not-true)
@@ -78,13 +73,11 @@ pub wrote_fold : (unicode : Bool) (limit : Option ℕ) (indent : ℕ) (before : 
     → Wrote (double_fold indent rest) start after answer
     → Wrote (double_character unicode limit indent before c rest) start after answer
 wrote_fold unicode limit indent before c rest {start} folds wrote =
-    wrote_as (double_character unicode limit indent before c rest)
-    (ap (λ (b : Bool). if b then double_fold indent rest start.cursor else render_text (character_text unicode c) start.cursor) (sym folds)) wrote
+    grind (arith, nat_tests, wrote_as, double_character, double_fold, render_text, character_text)
 
 pub wrote_unfolded : (unicode : Bool) (limit : Option ℕ) (indent : ℕ) (before : Option ℕ) (c : ℕ) (rest : Text) {start after : Page}
     {answer : Result (Unit {0}) yaml_error_t} → (is_space c && may_fold before rest && is_past_width limit start.cursor) ≡ false
     → Wrote (render_text (character_text unicode c)) start after answer
     → Wrote (double_character unicode limit indent before c rest) start after answer
 wrote_unfolded unicode limit indent before c rest {start} unfolded wrote =
-    wrote_as (double_character unicode limit indent before c rest)
-    (ap (λ (b : Bool). if b then double_fold indent rest start.cursor else render_text (character_text unicode c) start.cursor) (sym unfolded)) wrote
+    grind (arith, nat_tests, wrote_as, double_character, double_fold, render_text, character_text)

@@ -5,6 +5,7 @@ pub mod Repeated
 pub mod EscapesRead
 pub mod EscapeBytes
 pub mod EscapedBytes
+pub mod AppendedTexts
 pub mod Unbroken
 pub mod DoubleReads
 pub mod LineTexts

@@ -1,5 +1,6 @@
 -- The text of one character of a line, by its kind.
-use Rattle.yaml_scalar.proofs.Common.{ℕ, if◌then◌else◌, ◌==◌, Bool, false, not, true, ◌&&◌, ◌||◌, [], ◌++◌, ◌∷◌, refl, ◌≡◌, eqb-true, ap, sym, ◌∙◌, Text}
+use Rattle.yaml_scalar.proofs.Common.{arith, nat_tests}
+use Rattle.yaml_scalar.proofs.Common.{ℕ, if◌then◌else◌, ◌==◌, Bool, not, ◌&&◌, ◌||◌, [], ◌++◌, ◌∷◌, refl, ◌≡◌, eqb-true, Text}
 use Rattle.yaml_scalar.proofs.Common.{Option, Result, Page, Wrote, wrote_as, is_past_width, render_text, written_as, line_feed, space, is_space, is_break}
 use Rattle.yaml_scalar.proofs.Common.{is_empty, CharacterKind, Space, Break, Other, kind_of, is_same_kind, indentation, begins_kind, step_text}
 use Rattle.yaml_base.specs.declared.errors.yaml_error_t.{yaml_error_t}
@@ -9,9 +10,7 @@ space_of_kind : (c : ℕ) → Space ≡ kind_of c → space ≡ c
 space_of_kind c kind = by (is_space c) (is_break c) refl kind
   where
     by : (spaced broken : Bool) → is_space c ≡ spaced → Space ≡ (if spaced then Space else if broken then Break else Other) → space ≡ c
-    by true broken e k = sym (eqb-true c space e)
-    by false true e k = cc
-    by false false e k = cc
+    by spaced broken e k = grind (arith, nat_tests, eqb-true, space)
 
 -- A character's text is written as its step.
 module _ (quoted : Bool) (limit : Option ℕ) (indent : ℕ) (before : CharacterKind) (c : ℕ) (rest : Text) where
@@ -20,26 +19,19 @@ module _ (quoted : Bool) (limit : Option ℕ) (indent : ℕ) (before : Character
 
   by_kind : {at to : Page} {answer : Result (Unit {0}) yaml_error_t} {text : Text} (kind : CharacterKind) → kind ≡ kind_of c
       → text ≡ step_text (written_as quoted) (is_past_width limit at.cursor) indent before kind c rest → Writes at to answer text
-  by_kind {at} kind is same =
-      wrote_as (render_line_step (written_as quoted) limit indent before c rest) (ap (λ (t : Text). render_text t at.cursor)
-      (same ∙ ap (λ (k : CharacterKind). step_text (written_as quoted) (is_past_width limit at.cursor) indent before k c rest) is))
+  by_kind {at} kind is same = grind (arith, nat_tests, wrote_as, render_line_step, written_as, render_text, step_text, is_past_width)
 
   -- a space, or a fold in its place
   pub space_written : {at to : Page} {answer : Result (Unit {0}) yaml_error_t} (folds : Bool) → Space ≡ kind_of c
       → folds ≡ (is_past_width limit at.cursor && not (is_same_kind before Space || (is_empty rest || begins_kind Space rest)))
       → Writes at to answer (if folds then line_feed ∷ indentation indent else space ∷ [])
-  space_written {at} folds kind is =
-      by_kind Space kind (ap (λ (b : Bool). if b then line_feed ∷ indentation indent else space ∷ []) is
-      ∙ ap (λ (d : ℕ). step_text (written_as quoted) (is_past_width limit at.cursor) indent before Space d rest) (space_of_kind c kind))
+  space_written {at} folds kind is = grind (arith, nat_tests, by_kind, line_feed, indentation, space, step_text, written_as, is_past_width, space_of_kind)
 
   -- a break, with the text before and after it
   pub break_written : {at to : Page} {answer : Result (Unit {0}) yaml_error_t} (doubled goes_on : Bool) → Break ≡ kind_of c
       → doubled ≡ (c == line_feed && not (is_same_kind before Break)) → goes_on ≡ begins_kind Break rest
       → Writes at to answer ((if doubled then line_feed ∷ [] else []) ++ (c ∷ (if goes_on then [] else indentation indent)))
-  break_written doubled goes_on kind twice goes =
-      by_kind Break kind (ap (λ (b : Bool). (if b then line_feed ∷ [] else []) ++ (c ∷ (if goes_on then [] else indentation indent))) twice
-      ∙ ap (λ (b : Bool). (if (c == line_feed && not (is_same_kind before Break)) then line_feed ∷ [] else [])
-      ++ (c ∷ (if b then [] else indentation indent))) goes)
+  break_written doubled goes_on kind twice goes = grind (arith, nat_tests, by_kind, line_feed, indentation, not, is_same_kind)
 
   -- any other character
   pub other_written : {at to : Page} {answer : Result (Unit {0}) yaml_error_t} → Other ≡ kind_of c → Writes at to answer (written_as quoted (c ∷ []))

@@ -1,7 +1,7 @@
 -- Folding reads the lines of plain and single-quoted text as the value.
 use Rattle.yaml_scalar.proofs.Common.{arith, suc, zero, ℕ, if◌then◌else◌, ◌==◌, Option, Bool, false, not, true, ◌&&◌, ◌||◌, [], map, ◌++◌, ◌∷◌, refl, ◌≡◌}
-use Rattle.yaml_scalar.proofs.Common.{eqb-true, ap, subst, sym, ◌∙◌, and-false, and_parts, and_from, or_parts, not_from_false, not-false, not-true, list_any}
-use Rattle.yaml_scalar.proofs.Common.{Text, line_feed, carriage_return, next_line, space, is_space, is_break, is_printable, Cursor, is_past_width}
+use Rattle.yaml_scalar.proofs.Common.{eqb-true, ap, sym, ◌∙◌, and-false, and_parts, and_from, or_parts, not_from_false, not-false, not-true, list_any}
+use Rattle.yaml_scalar.proofs.Common.{Text, line_feed, carriage_return, next_line, space, is_space, is_break, is_printable, Cursor, is_past_width, nat_tests}
 use Rattle.yaml_scalar.proofs.Common.{is_rendered_text, FoldUnit, literal_blank, literal_break, itself, unit_of, FoldState, fold_state_text, prepend_unit}
 use Rattle.yaml_scalar.proofs.Common.{fold_state_of, folding_read, Charset, somewhere, begins_with, is_empty, is_special, bars_single_quoted, CharacterKind}
 use Rattle.yaml_scalar.proofs.Common.{Space, Break, Other, kind_of, is_same_kind, indentation, begins_kind, step_text}
@@ -83,15 +83,12 @@ own_step :
     (before : CharacterKind) (c : ℕ) (rest : Text) (prefix : FoldState) →
     fold_state_text prefix ≡ rest →
     ReadsAfter before (c ∷ rest) (prepend_unit (itself c) prefix)
-own_step Space c rest prefix read = grind (arith)
-own_step Break c rest prefix read = λ _. record { no_blanks = refl; whole = ap (λ (t : Text). c ∷ t) read }
-own_step Other c rest prefix read = ap (λ (t : Text). c ∷ t) read
+own_step before c rest prefix read = grind (arith, nat_tests)
 
 -- if no break comes first, a fold state reads as its blanks and its rest
 clear_read :
     (value : Text) (prefix : FoldState) → prefix.breaks ≡ [] → fold_state_text prefix ≡ value → prefix.blanks ++ prefix.rest ≡ value
-clear_read value prefix clear read =
-    subst (λ (run : Text). prefix.blanks ++ (run_read run ++ prefix.rest) ≡ value) clear read
+clear_read value prefix clear read = grind (arith, nat_tests, run_read)
 
 -- a space before such a fold state is read
 space_read :
@@ -105,14 +102,11 @@ space_step :
     AfterSpace rest prefix →
     begins_with is_break rest ≡ false →
     ReadsAfter before (space ∷ rest) (prepend_unit (literal_blank space) prefix)
-space_step Space rest prefix after clear = grind (arith, space_read)
-space_step Break rest prefix after clear = λ e. cc
-space_step Other rest prefix after clear = space_read rest prefix (after.no_breaks clear) after.whole
+space_step before rest prefix after clear = grind (arith, nat_tests, space_read)
 
 -- if no blank comes first either, it reads as its rest
 bare_read : (value : Text) (prefix : FoldState) → prefix.breaks ≡ [] → prefix.blanks ≡ [] → fold_state_text prefix ≡ value → prefix.rest ≡ value
-bare_read value prefix clear none read =
-    subst (λ (blanks : Text). blanks ++ prefix.rest ≡ value) none (clear_read value prefix clear read)
+bare_read value prefix clear none read = grind (arith, nat_tests, clear_read)
 
 -- a fold before such a fold state is read as a space
 fold_read :
@@ -128,15 +122,11 @@ fold_step :
     begins_with is_break rest ≡ false →
     begins_with is_space rest ≡ false →
     ReadsAfter before (space ∷ rest) (record { blanks = []; breaks = line_feed ∷ prefix.breaks; rest = prefix.rest })
-fold_step Space rest prefix other after clear own = cc
-fold_step Break rest prefix other after clear own = λ e. cc
-fold_step Other rest prefix other after clear own =
-    fold_read rest prefix (after.no_breaks clear) (after.no_blanks own) after.whole
+fold_step before rest prefix other after clear x = grind (arith, nat_tests, fold_read)
 
 -- a run that doesn't begin with LF is kept
 run_kept : (c : ℕ) (more : Text) → (c == line_feed) ≡ false → run_read (c ∷ more) ≡ c ∷ more
-run_kept c [] e = simp e
-run_kept c (d ∷ more) e = simp e
+run_kept c more e = grind (arith, nat_tests)
 
 -- a run of breaks, its first one LF written twice or not
 abbrev broken : Bool → ℕ → Text → Text → FoldState
@@ -147,8 +137,7 @@ broken doubled c more rest =
 broken_read :
     (c : ℕ) (value more rest : Text) (feed : Bool) → (c == line_feed) ≡ feed → more ++ rest ≡ value →
     fold_state_text (broken (feed && true) c more rest) ≡ c ∷ value
-broken_read c value more rest true e whole = ap (λ (t : Text). c ∷ t) whole
-broken_read c value more rest false e whole = rw (run_kept c more e) (ap (λ (t : Text). c ∷ t) whole)
+broken_read c value more rest feed e x = grind (arith, nat_tests, run_kept)
 
 -- LF is written twice if no break precedes it
 break_step :
@@ -156,10 +145,7 @@ break_step :
     is_break c ≡ true →
     more ++ rest ≡ value →
     ReadsAfter before (c ∷ value) (broken (c == line_feed && not (is_same_kind before Break)) c more rest)
-break_step Space c value more rest b whole = grind (arith, broken_read)
-break_step Break c value more rest b whole =
-    λ _. record { no_blanks = refl; whole = rw (and-false (c == line_feed)) (ap (λ (t : Text). c ∷ t) whole) }
-break_step Other c value more rest b whole = broken_read c value more rest _ refl whole
+break_step before c value more rest b x = grind (arith, nat_tests, broken_read, and-false, line_feed)
 
 -- the fold state of a break as it is rendered
 broken_prefix :
@@ -168,32 +154,23 @@ broken_prefix :
     fold_state_at breaks12
     (((if doubled then line_feed ∷ [] else []) ++ (c ∷ (if goes_on then [] else indentation indent))) ++ text) ≡
     broken doubled c (fold_state_at breaks12 text).breaks (fold_state_at breaks12 text).rest
-broken_prefix breaks12 true true indent c text u = rw u
-broken_prefix breaks12 false true indent c text u = rw u
-broken_prefix breaks12 true false indent c text u = rw u (simp (indentation-breaks, indentation-rest))
-broken_prefix breaks12 false false indent c text u = rw u (simp (indentation-breaks, indentation-rest))
+broken_prefix breaks12 doubled goes_on indent c text u = grind (arith, nat_tests, indentation-breaks, indentation-rest)
 
 -- a kind is spaces only at a space
 pub spaces_only : (s b : Bool) → (if s then Space else if b then Break else Other) ≡ Space → s ≡ true
-spaces_only true b e = refl
-spaces_only false true e = cc
-spaces_only false false e = cc
+spaces_only s b e = grind (arith, nat_tests)
 
 -- and breaks only at a break
 pub breaks_only : (s b : Bool) → (if s then Space else if b then Break else Other) ≡ Break → b ≡ true
-breaks_only false true e = refl
-breaks_only _ _ e = cc
+breaks_only s b e = grind (arith, nat_tests)
 
 -- a kind is spaces exactly at a space
 same_as_space : (s b : Bool) → is_same_kind Space (if s then Space else if b then Break else Other) ≡ s
-same_as_space true b = refl
-same_as_space false true = refl
-same_as_space false false = refl
+same_as_space s b = grind (arith, nat_tests)
 
 -- a text begins with a character of that kind exactly if it begins with a space
 begins_space : (rest : Text) → begins_kind Space rest ≡ begins_with is_space rest
-begins_space [] = refl
-begins_space (c ∷ rest) = same_as_space (is_space c) (is_break c)
+begins_space rest = grind (arith, nat_tests, same_as_space, is_space, is_break)
 
 -- the conditions of a fold
 record Folds (before : CharacterKind) (rest : Text) : Type 0 where
@@ -239,18 +216,14 @@ clear_after :
     kind_of c ≡ kind →
     bars_single_quoted charset c rest ≡ false →
     clashes kind rest ≡ false
-clear_after charset c rest Space k clean = grind (arith, or_parts, spaces_only)
-clear_after charset c rest Break k clean =
-    sym (ap (λ (b : Bool). b && begins_with is_space rest) (breaks_only (is_space c) (is_break c) k)) ∙ (or_parts _ _ clean).1
-clear_after charset c rest Other k clean = refl
+clear_after charset c rest kind k clean = grind (arith, nat_tests, or_parts, spaces_only, begins_with, is_space, breaks_only, is_break)
 
 -- a value that quotes may hold, from some character on
 pub lines_read :
     (charset : Charset) (written : Text → Text) (limit : Option ℕ) (indent : ℕ) (before : CharacterKind) (value : Text) (cursor : Cursor) →
     somewhere (bars_single_quoted charset) value ≡ false →
     ReadsAfter before value (fold_state_at charset.breaks12 (bare_steps written limit indent before value cursor))
-lines_read charset written limit indent Space [] cursor clean =
-    record { whole = refl; no_breaks = λ _. refl; no_blanks = λ _. refl }
+lines_read charset written limit indent Space [] cursor clean = grind (arith, nat_tests)
 lines_read charset written limit indent Break [] cursor clean = λ _. record { no_blanks = refl; whole = refl }
 lines_read charset written limit indent Other [] cursor clean = refl
 lines_read charset written limit indent before (c ∷ rest) cursor clean =
@@ -279,14 +252,9 @@ pub no_returns :
     list_any is_return value ≡ false
 no_returns charset [] clean = refl
 no_returns charset (c ∷ rest) clean =
-    let parts = or_parts (bars_single_quoted charset c rest) (somewhere (bars_single_quoted charset) rest) clean in
-    let ordinary = (or_parts _ _ (or_parts _ _ parts.0).0).0 in
-    let printable : is_printable c ≡ true = not-false _ (or_parts _ _ (or_parts _ _ ordinary).0).0 in
-    simp (unlike c carriage_return printable refl, unlike c next_line printable refl) (no_returns charset rest parts.1)
+    grind (arith, nat_tests, or_parts, bars_single_quoted, somewhere, is_printable, not-false, unlike, carriage_return, next_line, no_returns charset rest)
 
 -- a text that has none is rendered with LF
 pub rendered_without_returns : (text : Text) → list_any is_return text ≡ false → is_rendered_text text ≡ true
 rendered_without_returns [] clean = refl
-rendered_without_returns (c ∷ rest) clean =
-    let parts = or_parts (is_return c) (list_any is_return rest) clean in
-    and_from _ _ (not_from_false _ parts.0) (rendered_without_returns rest parts.1)
+rendered_without_returns (c ∷ rest) clean = grind (arith, nat_tests, or_parts, is_return, list_any, and_from, not_from_false, rendered_without_returns rest)

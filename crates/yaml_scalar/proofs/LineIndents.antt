@@ -1,5 +1,5 @@
 -- Each nonempty line of plain and single-quoted text after the first begins with two spaces.
-use Rattle.yaml_scalar.proofs.Common.{suc, zero, ℕ, ◌≤◌, if◌then◌else◌, Option, Bool, false, not, true, [], ◌++◌, ◌∷◌, refl, ◌≡◌, eqb-true}
+use Rattle.yaml_scalar.proofs.Common.{suc, ℕ, ◌≤◌, if◌then◌else◌, Option, Bool, false, not, true, [], ◌++◌, ◌∷◌, refl, ◌≡◌, eqb-true, nat_tests}
 use Rattle.yaml_scalar.proofs.Common.{append_assoc, arith, and-false, and_from, or_right, Text, line_feed, space, is_space, is_break, Cursor, render_text}
 use Rattle.yaml_scalar.proofs.Common.{is_past_width, begins_indented, is_indented_text, CharacterKind, Space, Break, Other, kind_of, is_same_kind}
 use Rattle.yaml_scalar.proofs.Common.{indentation, begins_kind, step_text, render_steps}
@@ -13,9 +13,7 @@ indentation-begins _ wide text = absurd (omega arith)
 
 -- a kind is others only at a character that is no break
 pub others_only : (s b : Bool) → (if s then Space else if b then Break else Other) ≡ Other → b ≡ false
-others_only true b e = cc
-others_only false true e = cc
-others_only false false e = refl
+others_only s b e = grind (arith, nat_tests)
 
 -- a break and the line that begins after it
 after_break : (c : ℕ) (text : Text) → begins_indented text ≡ true → is_indented_text text ≡ true → is_indented_text (c ∷ text) ≡ true
@@ -38,15 +36,13 @@ broken_line :
     is_indented_text text ≡ true →
     (goes_on ≡ true → begins_indented text ≡ true) →
     is_indented_text ((c ∷ (if goes_on then [] else indentation indent)) ++ text) ≡ true
-broken_line true indent wide c text lines begins = after_break c text (begins refl) lines
-broken_line false indent wide c text lines begins = indented_line indent wide c text lines
+broken_line goes_on indent wide c text lines begins = grind (arith, nat_tests, after_break, indented_line)
 
 -- LF before a break
 doubled_line :
     (doubled : Bool) (c : ℕ) (text : Text) → is_break c ≡ true → is_indented_text (c ∷ text) ≡ true →
     is_indented_text ((if doubled then line_feed ∷ [] else []) ++ (c ∷ text)) ≡ true
-doubled_line true c text b lines = after_break line_feed (c ∷ text) (break-begins c text b) lines
-doubled_line false c text b lines = lines
+doubled_line doubled c text b lines = grind (arith, nat_tests, after_break, line_feed, break-begins)
 
 -- one character's text before lines that are indented
 step_indented :
@@ -70,9 +66,7 @@ run_begins :
     is_same_kind before Break ≡ true →
     is_same_kind Break kind ≡ true →
     begins_indented (step_text written folds indent before kind c rest ++ text) ≡ true
-run_begins written limit indent before Break c rest text folds k same here =
-    simp (same, and-false) (break-begins c _ (breaks_only (is_space c) (is_break c) k))
-run_begins written limit indent before _ c rest text folds k same here = cc
+run_begins written limit indent before kind c rest text folds k x here = grind (arith, nat_tests, and-false, break-begins, breaks_only, is_space, is_break)
 
 -- a run that goes on begins its line with a break
 text_begins :
@@ -80,8 +74,7 @@ text_begins :
     is_same_kind before Break ≡ true →
     begins_kind Break value ≡ true →
     begins_indented ((render_steps written limit indent before value cursor).text ++ after) ≡ true
-text_begins written limit indent before [] after cursor same here = cc
-text_begins written limit indent before (c ∷ rest) after cursor same here = grind (arith, append_assoc, run_begins)
+text_begins written limit indent before value after cursor x here = grind (arith, nat_tests, append_assoc, run_begins)
 
 -- lines before a text whose later lines are indented
 pub lines_indented :

@@ -1,6 +1,6 @@
 -- Plain and single-quoted lines rendered character by character, and that this is their layout by runs.
-use Rattle.yaml_scalar.proofs.Common.{arith, CharacterKind, Space, Break, Other}
-use Rattle.yaml_base.proofs.Common.{ℕ, ◌==◌, Option, Bool, false, not, true, ◌&&◌, ◌||◌, List, [], ◌++◌, ◌∷◌, refl, ◌≡◌, append_assoc, ap, subst, sym, ◌∙◌}
+use Rattle.yaml_scalar.proofs.Common.{arith, CharacterKind, Space, Break, Other, nat_tests}
+use Rattle.yaml_base.proofs.Common.{ℕ, ◌==◌, Option, Bool, false, not, true, ◌&&◌, ◌||◌, List, [], ◌++◌, ◌∷◌, refl, ◌≡◌, append_assoc, ap, subst, sym}
 use Rattle.yaml_base.proofs.Common.{Text, is_break, Cursor, Rendered, render_nothing, render_then, is_past_width, is_empty, runs, render_runs}
 use Rattle.std.proofs.Math.Bool.{and-false, and-true, or-false}
 use Rattle.yaml_base.specs.Cursor.{render_text}
@@ -93,15 +93,7 @@ edge_text written folds indent _ text last = refl
 
 -- kinds that compare as the same are equal
 pub same_kind : (a b : CharacterKind) → is_same_kind a b ≡ true → a ≡ b
-same_kind Space Space e = refl
-same_kind Break Break e = refl
-same_kind Other Other e = refl
-same_kind Space Break e = cc
-same_kind Space Other e = cc
-same_kind Break Space e = cc
-same_kind Break Other e = cc
-same_kind Other Space e = cc
-same_kind Other Break e = cc
+same_kind a b e = grind (arith, nat_tests)
 
 -- the runs of a value that begins with this character
 record Shape (d : ℕ) (after : List Run) : Type 0 where
@@ -138,8 +130,7 @@ agrees_by :
     (limit : Option ℕ) (indent : ℕ) (before : CharacterKind) (c d : ℕ) (rest text : Text) (more : List Run) (cursor : Cursor) →
     (same : Bool) → is_same_kind (kind_of c) (kind_of d) ≡ same →
     Agrees written limit indent before c (d ∷ rest) (record { kind = kind_of d; text = d ∷ text } ∷ more) cursor
-agrees_by written w limit indent before c d rest text more cursor true e = grind (arith, two_texts, joined_kinds, same_kind)
-agrees_by written w limit indent before c d rest text more cursor false e = grind (arith, lone_text)
+agrees_by written w limit indent before c d rest text more cursor same e = grind (arith, nat_tests, two_texts, joined_kinds, same_kind, lone_text)
 
 -- they agree
 agrees :
@@ -159,10 +150,7 @@ steps_continue :
     render_steps written limit indent before value cursor ≡ continued written limit indent before (runs value) cursor
 steps_continue written w limit indent before [] cursor = refl
 steps_continue written w limit indent before (c ∷ rest) cursor =
-    let step = step_text written (is_past_width limit cursor) indent before (kind_of c) c rest in
-    ap (λ (after : Rendered). record { text = step ++ after.text; cursor = after.cursor })
-    (steps_continue written w limit indent (kind_of c) rest (render_text step cursor).cursor)
-    ∙ agrees written w limit indent before c rest cursor
+    grind (arith, nat_tests, step_text, is_past_width, kind_of, render_text, agrees, steps_continue written w limit indent (kind_of c) rest)
 
 -- the start of a value counts as if a space preceded it
 edge_continues :

@@ -1,5 +1,5 @@
 -- The text of plain and single-quoted lines before quotes are doubled: each character is the value's, or of a break or indentation.
-use Rattle.yaml_scalar.proofs.Common.{arith, suc, zero, ℕ, if◌then◌else◌, ◌==◌, Option, Bool, false, true, [], ◌++◌, ◌∷◌, refl, ◌≡◌, eqb-true, ap}
+use Rattle.yaml_scalar.proofs.Common.{arith, suc, zero, ℕ, if◌then◌else◌, ◌==◌, Option, Bool, false, [], ◌++◌, ◌∷◌, refl, ◌≡◌, eqb-true, nat_tests}
 use Rattle.yaml_scalar.proofs.Common.{sym, ◌∙◌, or_parts, list_any-append, list_any, Text, line_feed, space, Cursor, render_text, is_past_width, CharacterKind}
 use Rattle.yaml_scalar.proofs.Common.{Space, Break, Other, kind_of, is_same_kind, indentation, step_text, render_steps}
 use Rattle.yaml_scalar.proofs.LineRuns.{WritesEach}
@@ -19,8 +19,7 @@ pub any_cond :
     list_any test x ≡ false →
     list_any test y ≡ false →
     list_any test (if b then x else y) ≡ false
-any_cond test true x y a b = a
-any_cond test false x y a b = b
+any_cond test b x y a z = grind (arith, nat_tests)
 
 -- nor in both together
 pub any_both :
@@ -43,9 +42,7 @@ pub any_step :
     test space ≡ false →
     test c ≡ false →
     list_any test (step_text (λ t. t) folds indent before kind c rest) ≡ false
-any_step test folds indent before Space c rest feed blank own = grind (arith, any_cond, any_one, any_indentation)
-any_step test folds indent before Break c rest feed blank own = grind (arith, any_both, any_cond, any_one, any_indentation)
-any_step test folds indent before Other c rest feed blank own = any_one test c [] own refl
+any_step test folds indent before kind c rest feed x y = grind (arith, nat_tests, any_cond, any_one, any_indentation, any_both)
 
 -- no character of all lines passes a test that none of the value's does
 pub any_bare :
@@ -67,8 +64,7 @@ is_quote c = c == 39
 -- a quote is no space and no break
 not_quote_by :
     (c : ℕ) (kind : CharacterKind) (quote : Bool) → is_quote c ≡ quote → kind_of c ≡ kind → is_same_kind kind Other ≡ false → quote ≡ false
-not_quote_by c kind false q k e = refl
-not_quote_by c kind true q k e = grind (arith, eqb-true)
+not_quote_by c kind quote q k e = grind (arith, nat_tests, eqb-true)
 
 -- a space or a break is no quote
 not_quote : (c : ℕ) (kind : CharacterKind) → kind_of c ≡ kind → is_same_kind kind Other ≡ false → is_quote c ≡ false
@@ -78,10 +74,7 @@ not_quote c kind k e = not_quote_by c kind _ refl k e
 written_kept : (written : Text → Text) → WritesEach written → (text : Text) → list_any is_quote text ≡ false → written text ≡ text
 written_kept written w [] clean = w.nothing
 written_kept written w (c ∷ rest) clean =
-    let parts = or_parts (is_quote c) (list_any is_quote rest) clean in
-    w.joined (c ∷ []) rest
-    ∙ (ap (λ (t : Text). t ++ written rest) (w.kept c parts.0)
-    ∙ ap (λ (t : Text). c ∷ t) (written_kept written w rest parts.1))
+    grind (arith, nat_tests, or_parts, is_quote, list_any, written_kept written w rest, w.joined (c ∷ []) rest, written rest)
 
 -- a step of bare text, written, is the step
 step_written :
@@ -102,10 +95,4 @@ pub bare_written :
     (render_steps written limit indent before value cursor).text ≡ written (bare_steps written limit indent before value cursor)
 bare_written written w limit indent before [] cursor = sym w.nothing
 bare_written written w limit indent before (c ∷ rest) cursor =
-    let folds = is_past_width limit cursor in
-    let step = step_text written folds indent before (kind_of c) c rest in
-    let after = (render_text step cursor).cursor in
-    ap (λ (t : Text). step ++ t) (bare_written written w limit indent (kind_of c) rest after)
-    ∙ (ap (λ (t : Text). t ++ written (bare_steps written limit indent (kind_of c) rest after))
-    (sym (step_written written w folds indent before (kind_of c) c rest refl))
-    ∙ sym (w.joined (step_text (λ t. t) folds indent before (kind_of c) c rest) _))
+    grind (arith, nat_tests, is_past_width, step_text, kind_of, render_text, bare_steps, step_written, bare_written written w limit indent (kind_of c) rest)

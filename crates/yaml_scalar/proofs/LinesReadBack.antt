@@ -1,7 +1,7 @@
 -- The text of a plain or single-quoted scalar reads back.
-use Rattle.yaml_scalar.proofs.Common.{ℕ, ◌≤◌, IfOk, Option, Some, Result, Err, Ok, negsuc, pos, ℤ, ◌≤ℤ◌, Bool, true, ◌++◌, ◌≡◌, ap, ◌∙◌, arith, ints, list_all}
+use Rattle.yaml_scalar.proofs.Common.{ℕ, ◌≤◌, IfOk, Option, Some, Result, Err, Ok, pos, ℤ, ◌≤ℤ◌, Bool, true, ◌≡◌, arith, ints, list_all}
 use Rattle.yaml_scalar.proofs.Common.{Text, is_space, Cursor, Rendered, render_then, render_text, space_if, with_breaks_written, with_line_breaks_read}
-use Rattle.yaml_scalar.proofs.Common.{is_indented_text, LineBreak, read_plain, read_single, Charset, allows_plain, allows_single_quoted, plain_body}
+use Rattle.yaml_scalar.proofs.Common.{is_indented_text, LineBreak, read_plain, read_single, Charset, allows_plain, allows_single_quoted, plain_body, nat_tests}
 use Rattle.yaml_scalar.proofs.Common.{render_plain, single_quoted_body, render_single_quoted, wrote_all, Page, natural, Wrote, ReadsBack}
 use Rattle.yaml_base.specs.declared.errors.yaml_error_t.{yaml_error_t}
 use Rattle.yaml_pen.proofs.Composing.{with_breaks_written-append}
@@ -9,8 +9,7 @@ use Rattle.yaml_scalar.proofs.{PlainReads.plain-reads, PlainReads.plain-indented
 
 -- an `i32` of two or more
 pub two_or_more : (n : ℤ) → pos 2 ≤ℤ n → 2 ≤ natural n
-two_or_more (pos n) h = omega (arith, ints)
-two_or_more (negsuc n) h = omega (arith, ints)
+two_or_more n h = grind (arith, nat_tests, ints)
 
 -- a lead is spaces alone
 lead_spaces : (setting : LineBreak) (space_stands : Bool) (cursor : Cursor)
@@ -25,16 +24,7 @@ pub body_back :
     Wrote (λ cursor. render_then (render_text (space_if need cursor) cursor) body) before after (Ok tt) →
     ReadsBack read value before.text after.text
 body_back read value need body {before} {after} reads indented wrote =
-    let lead = space_if need before.cursor in
-    let start = (render_text lead before.cursor).cursor in
-    record {
-      lead = with_breaks_written before.line_break lead;
-      body = with_breaks_written before.line_break (body start).text;
-      grown = (wrote_all wrote).text ∙ ap (λ (t : Text). before.text ++ t) (with_breaks_written-append before.line_break lead (body start).text);
-      spaces = lead_spaces before.line_break need before.cursor;
-      reads = reads start before.line_break;
-      indented = indented start before.line_break;
-    }
+    grind (arith, nat_tests, space_if, render_text, with_breaks_written, wrote_all, with_breaks_written-append, lead_spaces)
 
 -- after Ok a plain body reads back
 pub plain_back :

@@ -1,7 +1,7 @@
 -- Lines written character by character are the lines by runs, and between quotes the single-quoted layout.
-use Rattle.yaml_scalar.proofs.Common.{ℕ, if◌then◌else◌, ◌==◌, Option, Result, Bool, false, true, ◌&&◌, [], ◌++◌, ◌∷◌, refl, ◌≡◌, eqb-true, subst, sym, Text}
+use Rattle.yaml_scalar.proofs.Common.{ℕ, if◌then◌else◌, ◌==◌, Option, Result, Bool, false, true, ◌&&◌, [], ◌++◌, ◌∷◌, ◌≡◌, eqb-true, Text}
 use Rattle.yaml_scalar.proofs.Common.{Cursor, Rendered, render_then, render_text, space_if, indicator, CharacterKind, Space, runs, render_runs, quotes_doubled}
-use Rattle.yaml_scalar.proofs.Common.{single_quote, render_single_quoted, wrote_as, Page, Wrote, written_as, render_steps}
+use Rattle.yaml_scalar.proofs.Common.{single_quote, render_single_quoted, wrote_as, Page, Wrote, written_as, render_steps, arith, nat_tests}
 use Rattle.yaml_base.specs.declared.errors.yaml_error_t.{yaml_error_t}
 use Rattle.yaml_pen.proofs.StillToWrite.{StillToWrite}
 use Rattle.yaml_scalar.proofs.{LineRuns.WritesEach, LineRuns.runs_by_steps, PlainReads.itself_writes, SingleReads.doubled_writes}
@@ -10,15 +10,13 @@ use Rattle.yaml_scalar.proofs.{LineRuns.WritesEach, LineRuns.runs_by_steps, Plai
 quote_text_by :
     (c : ℕ) (quote : Bool) → (c == 39) ≡ quote →
     (if quote then 39 ∷ [] else []) ++ (c ∷ []) ≡ (if quote then 39 ∷ 39 ∷ [] else c ∷ []) ++ []
-quote_text_by c true e = rw (eqb-true c 39 e)
-quote_text_by c false e = refl
+quote_text_by c quote e = grind (arith, nat_tests, eqb-true)
 
 -- between quotes `'` follows another one
 pub quote_text :
     (quoted : Bool) (c : ℕ) (extra : Bool) → extra ≡ (quoted && c == 39) →
     (if extra then 39 ∷ [] else []) ++ (c ∷ []) ≡ written_as quoted (c ∷ [])
-quote_text true c extra e = rw e (quote_text_by c (c == 39) refl)
-quote_text false c extra e = rw e refl
+quote_text quoted c extra e = grind (arith, nat_tests, quote_text_by)
 
 -- lines of a value, after a character of a kind, of which some are left to be written, after another
 abbrev pub LinesLeft :
@@ -28,8 +26,7 @@ LinesLeft written limit indent first value left kind before now =
 
 -- both ways of writing go character by character
 pub written_each : (quoted : Bool) → WritesEach (written_as quoted)
-written_each true = doubled_writes
-written_each false = itself_writes
+written_each quoted = grind (arith, nat_tests, doubled_writes, itself_writes)
 
 -- lines by characters are those by runs
 pub wrote_runs :
@@ -37,8 +34,7 @@ pub wrote_runs :
     Wrote (render_steps (written_as quoted) limit indent Space value) before after answer →
     Wrote (render_runs (written_as quoted) limit indent true (runs value)) before after answer
 wrote_runs quoted limit indent value {before} {after} {answer} wrote =
-    wrote_as (render_runs (written_as quoted) limit indent true (runs value))
-    (sym (runs_by_steps (written_as quoted) (written_each quoted) limit indent value before.cursor)) wrote
+    grind (arith, nat_tests, wrote_as, render_runs, written_as, runs, runs_by_steps, written_each)
 
 -- without quotes, lines are those of plain text
 pub wrote_unquoted :
@@ -46,8 +42,7 @@ pub wrote_unquoted :
     quoted ≡ false →
     Wrote (render_runs (written_as quoted) limit indent true (runs value)) before after answer →
     Wrote (render_runs (λ text. text) limit indent true (runs value)) before after answer
-wrote_unquoted quoted limit indent value {before} {after} {answer} e wrote =
-    subst (λ (q : Bool). Wrote (render_runs (written_as q) limit indent true (runs value)) before after answer) e wrote
+wrote_unquoted quoted limit indent value {before} {after} {answer} e wrote = grind (arith, nat_tests, render_runs, written_as, runs)
 
 -- between quotes, lines have each `'` doubled
 pub wrote_quoted :
@@ -55,16 +50,14 @@ pub wrote_quoted :
     quoted ≡ true →
     Wrote (render_runs (written_as quoted) limit indent true (runs value)) before after answer →
     Wrote (render_runs quotes_doubled limit indent true (runs value)) before after answer
-wrote_quoted quoted limit indent value {before} {after} {answer} e wrote =
-    subst (λ (q : Bool). Wrote (render_runs (written_as q) limit indent true (runs value)) before after answer) e wrote
+wrote_quoted quoted limit indent value {before} {after} {answer} e wrote = grind (arith, nat_tests, render_runs, written_as, runs)
 
 -- an opening quote after the space that it needs
 opened : (column : ℕ) (whitespace indention : Bool) (next : Cursor → Rendered) →
     let cursor : Cursor = record { column = column; whitespace = whitespace; indention = indention } in
     render_then (indicator (39 ∷ []) true false false cursor) next ≡
     render_then (render_text (space_if true cursor) cursor) (λ after. render_then (single_quote after) next)
-opened column true indention next = refl
-opened column false indention next = refl
+opened column whitespace indention next = grind (arith, nat_tests)
 
 -- the lines and the closing quote
 abbrev pub after_quote : (limit : Option ℕ) (indent : ℕ) (value : Text) → Cursor → Rendered
@@ -76,6 +69,4 @@ pub wrote_single :
     (limit : Option ℕ) (indent : ℕ) (value : Text) {before after : Page} {answer : Result (Unit {0}) yaml_error_t} →
     Wrote (λ cursor. render_then (indicator (39 ∷ []) true false false cursor) (after_quote limit indent value)) before after answer →
     Wrote (render_single_quoted limit indent value) before after answer
-wrote_single limit indent value {before} {after} {answer} wrote =
-    wrote_as (render_single_quoted limit indent value)
-    (opened before.cursor.column before.cursor.whitespace before.cursor.indention (after_quote limit indent value)) wrote
+wrote_single limit indent value {before} {after} {answer} wrote = grind (arith, nat_tests, wrote_as, render_single_quoted, opened)

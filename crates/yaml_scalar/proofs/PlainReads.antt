@@ -1,6 +1,6 @@
 -- A plain body reads as its value, and its later lines are indented.
 use Rattle.yaml_scalar.proofs.Common.{arith, ℕ, ◌≤◌, Option, Some, Bool, false, true, ◌&&◌, [], map, ◌++◌, ◌∷◌, refl, ◌≡◌, append-nil, ap, ◌∙◌, and-false}
-use Rattle.yaml_scalar.proofs.Common.{and_parts, or_parts, or_from, not-true, breaks-round, indented-written, Text, is_space, is_break, Cursor}
+use Rattle.yaml_scalar.proofs.Common.{and_parts, or_parts, or_from, not-true, breaks-round, indented-written, Text, is_space, is_break, Cursor, nat_tests}
 use Rattle.yaml_scalar.proofs.Common.{with_breaks_written, with_line_breaks_read, is_rendered_text, is_indented_text, LineBreak, unit_of, folding_read}
 use Rattle.yaml_scalar.proofs.Common.{begins_no_plain, holds_no_plain, read_plain, Charset, somewhere, begins_with, is_empty, begins_unlike_plain, bars_plain}
 use Rattle.yaml_scalar.proofs.Common.{bars_single_quoted, allows_plain, Space, plain_body, render_steps}
@@ -10,12 +10,7 @@ use Rattle.yaml_scalar.proofs.LineFolds.{folding_reads, no_returns, rendered_wit
 
 -- plain characters are written one by one
 pub itself_writes : WritesEach (λ text. text)
-itself_writes = record {
-  nothing = refl;
-  kept = λ c e. refl;
-  unbroken = λ c e. simp e;
-  joined = λ prefix rest. refl;
-}
+itself_writes = grind (arith, nat_tests)
 
 -- the lines of a plain body
 abbrev pub lines : (limit : Option ℕ) (indent : ℕ) (value : Text) → Cursor → Text
@@ -32,9 +27,7 @@ no_break_begins :
     (charset : Charset) (flow : Bool) (value : Text) →
     somewhere (bars_plain charset flow) value ≡ false →
     begins_with is_break value ≡ false
-no_break_begins charset flow [] clean = refl
-no_break_begins charset flow (c ∷ rest) clean =
-    (or_parts _ _ (or_parts _ _ (or_parts _ _ (or_parts _ _ (or_parts _ _ clean).0).0).0).0).1
+no_break_begins charset flow value clean = grind (arith, nat_tests, or_parts)
 
 -- a value that allows plain text allows single quotes
 pub plain_is_single :
@@ -82,8 +75,7 @@ unbarred_read :
     begins_no_plain breaks12 text ≡ false →
     holds_no_plain breaks12 flow text ≡ false →
     read_plain breaks12 flow text ≡ Some (folding_read (map (unit_of breaks12) text))
-unbarred_read breaks12 flow [] full begins holds = simp full
-unbarred_read breaks12 flow (c ∷ rest) full begins holds = simp (begins, holds)
+unbarred_read breaks12 flow text full begins holds = grind (arith, nat_tests)
 
 -- the lines of such a value are read by folding
 value_reads :
@@ -91,16 +83,8 @@ value_reads :
     allows_plain charset flow value ≡ true →
     read_plain charset.breaks12 flow (lines limit indent value cursor) ≡
     Some (folding_read (map (unit_of charset.breaks12) (lines limit indent value cursor)))
-value_reads charset flow limit indent [] cursor allowed =
-    unbarred_read charset.breaks12 flow [] (not-true _ (and_parts _ _ allowed).0) refl refl
-value_reads charset flow limit indent (c ∷ rest) cursor allowed =
-    let bars = plain_bars charset flow (c ∷ rest) allowed in
-    let begins = plain_begins charset flow (c ∷ rest) allowed in
-    let whole = no_break_begins charset flow (c ∷ rest) bars in
-    unbarred_read charset.breaks12 flow (lines limit indent (c ∷ rest) cursor)
-    (lines_full (λ text. text) limit indent Space c rest cursor begins whole flow)
-    (lines_begin charset.breaks12 (λ text. text) limit indent Space c rest cursor begins whole)
-    (lines_hold charset flow (λ text. text) limit indent Space (c ∷ rest) cursor bars)
+value_reads charset flow limit indent value cursor allowed =
+    grind (arith, nat_tests, unbarred_read, not-true, and_parts, plain_bars, plain_begins, no_break_begins, lines, lines_full, lines_begin, lines_hold)
 
 -- a body, however its line breaks are written, reads as the value
 pub plain-reads :

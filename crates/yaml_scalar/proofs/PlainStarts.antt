@@ -3,7 +3,7 @@ use Rattle.yaml_scalar.proofs.Common.{arith, suc, zero, ℕ, if◌then◌else◌
 use Rattle.yaml_scalar.proofs.Common.{eqb-true, true≢false, ap, subst, sym, ◌∙◌, and-false, and-true, or_parts, or_from, Text, is_among, line_feed, space}
 use Rattle.yaml_scalar.proofs.Common.{is_space, is_break, Cursor, render_text, is_past_width, is_read_white, begins_no_plain, holds_no_plain, Charset}
 use Rattle.yaml_scalar.proofs.Common.{somewhere, begins_with, is_empty, is_gap, ends_word, begins_like_marker, begins_unlike_plain, bars_plain, CharacterKind}
-use Rattle.yaml_scalar.proofs.Common.{Space, Break, Other, kind_of, is_same_kind, indentation, begins_kind, step_text}
+use Rattle.yaml_scalar.proofs.Common.{Space, Break, Other, kind_of, is_same_kind, indentation, begins_kind, step_text, nat_tests}
 use Rattle.yaml_base.proofs.Common.{begins_white, begins_with_three, begins_with_hash}
 use Rattle.std.proofs.Math.Bool.{and_assoc}
 use Rattle.yaml_scalar.proofs.{LineFolds.spaces_only, LineFolds.breaks_only, LineTexts.bare_steps}
@@ -13,21 +13,11 @@ gap_by :
     (sp tab lf cr nel ls ps zero_indicator breaks12 : Bool) →
     ((sp || tab) || (lf || cr || nel || ls || ps) || zero_indicator) ≡ false →
     ((sp || tab) || (lf || (not breaks12 && (ls || ps)))) ≡ false
-gap_by false false false cr nel false false zero_indicator breaks12 e = and-false (not breaks12)
-gap_by true tab lf cr nel ls ps zero_indicator breaks12 e = cc
-gap_by false true lf cr nel ls ps zero_indicator breaks12 e = cc
-gap_by false false true cr nel ls ps zero_indicator breaks12 e = cc
-gap_by false false false true nel true ps zero_indicator breaks12 e = cc
-gap_by false false false true nel false true zero_indicator breaks12 e = cc
-gap_by false false false false true true ps zero_indicator breaks12 e = cc
-gap_by false false false false true false true zero_indicator breaks12 e = cc
-gap_by false false false false false true ps zero_indicator breaks12 e = cc
-gap_by false false false false false false true zero_indicator breaks12 e = cc
+gap_by sp tab lf cr nel ls ps zero_indicator breaks12 e = grind (arith, nat_tests, and-false, not)
 
 -- a character that is no gap is no white space for a reader
 pub white_is_gap : (breaks12 : Bool) (c : ℕ) → is_gap c ≡ false → is_read_white breaks12 c ≡ false
-white_is_gap breaks12 c e =
-    gap_by (c == 32) (c == 9) (c == 10) (c == 13) (c == 0x85) (c == 0x2028) (c == 0x2029) (c == 0) breaks12 e
+white_is_gap breaks12 c e = grind (arith, nat_tests, gap_by)
 
 -- a break is a gap
 break_is_gap : (c : ℕ) → is_break c ≡ true → is_gap c ≡ false → false ≡ true
@@ -39,35 +29,28 @@ step_white :
     kind_of c ≡ kind →
     is_gap c ≡ false →
     begins_white breaks12 (step_text (λ t. t) folds indent before kind c rest ++ text) ≡ false
-step_white breaks12 folds indent before Space c rest text k e =
-    absurd (true≢false (sym (ap is_gap (eqb-true c 32 (spaces_only (is_space c) (is_break c) k))) ∙ e))
-step_white breaks12 folds indent before Break c rest text k e =
-    absurd (true≢false (sym (break_is_gap c (breaks_only (is_space c) (is_break c) k) e)))
-step_white breaks12 folds indent before Other c rest text k e = white_is_gap breaks12 c e
+step_white breaks12 folds indent before kind c rest text k e =
+    grind (arith, nat_tests, true≢false, is_gap, eqb-true, spaces_only, is_space, is_break, break_is_gap, breaks_only, white_is_gap)
 
 -- lines begin white only if the value begins with a gap
 pub lines_white :
     (breaks12 : Bool) (written : Text → Text) (limit : Option ℕ) (indent : ℕ) (before : CharacterKind) (rest : Text) (cursor : Cursor) →
     ends_word rest ≡ false →
     begins_white breaks12 (bare_steps written limit indent before rest cursor) ≡ false
-lines_white breaks12 written limit indent before [] cursor e = cc
-lines_white breaks12 written limit indent before (c ∷ rest) cursor e =
-    step_white breaks12 (is_past_width limit cursor) indent before (kind_of c) c rest _ refl e
+lines_white breaks12 written limit indent before rest cursor e = grind (arith, nat_tests, step_white, is_past_width, kind_of)
 
 -- a step begins with `#` only if its character is it
 hash_of_fold :
     (folds : Bool) (indent : ℕ) (text : Text) →
     begins_with_hash ((if folds then line_feed ∷ indentation indent else space ∷ []) ++ text) ≡ false
-hash_of_fold true indent text = refl
-hash_of_fold false indent text = refl
+hash_of_fold folds indent text = grind (arith, nat_tests)
 
 -- a break begins with no `#`
 hash_of_break :
     (doubled : Bool) (c : ℕ) (more text : Text) →
     (c == 35) ≡ false →
     begins_with_hash (((if doubled then line_feed ∷ [] else []) ++ (c ∷ more)) ++ text) ≡ false
-hash_of_break true c more text e = refl
-hash_of_break false c more text e = e
+hash_of_break doubled c more text e = grind (arith, nat_tests)
 
 -- a step begins with `#` only if its character is it
 step_hash :
@@ -75,24 +58,18 @@ step_hash :
     kind_of c ≡ kind →
     (c == 35) ≡ false →
     begins_with_hash (step_text (λ t. t) folds indent before kind c rest ++ text) ≡ false
-step_hash folds indent before Space c rest text k e = grind (arith, eqb-true, spaces_only, hash_of_fold)
-step_hash folds indent before Break c rest text k e =
-    hash_of_break (c == line_feed && not (is_same_kind before Break)) c _ text e
-step_hash folds indent before Other c rest text k e = e
+step_hash folds indent before kind c rest text k e = grind (arith, nat_tests, eqb-true, spaces_only, hash_of_fold, hash_of_break, line_feed, not, is_same_kind)
 
 -- lines begin with `#` only if the value does
 pub lines_hash :
     (written : Text → Text) (limit : Option ℕ) (indent : ℕ) (before : CharacterKind) (rest : Text) (cursor : Cursor) →
     begins_with (λ c. c == 35) rest ≡ false →
     begins_with_hash (bare_steps written limit indent before rest cursor) ≡ false
-lines_hash written limit indent before [] cursor e = refl
-lines_hash written limit indent before (c ∷ rest) cursor e =
-    step_hash (is_past_width limit cursor) indent before (kind_of c) c rest _ refl e
+lines_hash written limit indent before rest cursor e = grind (arith, nat_tests, step_hash, is_past_width, kind_of)
 
 -- both tests of a pair can only turn false
 and_turns : (a b c d : Bool) → (a ≡ false → c ≡ false) → (b ≡ false → d ≡ false) → (a && b) ≡ false → (c && d) ≡ false
-and_turns false b c d f g e = ap (λ (x : Bool). x && d) (f refl)
-and_turns true b c d f g e = ap (λ (x : Bool). c && x) (g e) ∙ and-false c
+and_turns a b c d f g e = grind (arith, nat_tests, and-false)
 
 -- the indicators that no plain text holds, at a character that is written as itself
 kept_holds :
@@ -104,19 +81,12 @@ kept_holds :
     holds_no_plain breaks12 flow text ≡ false →
     holds_no_plain breaks12 flow (c ∷ text) ≡ false
 kept_holds breaks12 flow c rest text symbols in_flow white hash later =
-    let parts = or_parts (c == 58 && ends_word rest) (is_gap c && begins_with (λ d. d == 35) rest) symbols in
-    let key : (c == 58 && begins_white breaks12 text) ≡ false =
-    and_turns (c == 58) (ends_word rest) (c == 58) (begins_white breaks12 text) (λ e. e) white parts.0 in
-    let comment : (is_read_white breaks12 c && begins_with_hash text) ≡ false =
-    and_turns (is_gap c) (begins_with (λ d. d == 35) rest) (is_read_white breaks12 c) (begins_with_hash text)
-    (white_is_gap breaks12 c) hash parts.1 in
-    or_from _ _ (or_from _ _ (or_from _ _ key comment) in_flow) later
+    grind (arith, nat_tests, or_parts, ends_word, is_gap, begins_with, begins_white, and_turns, is_read_white, begins_with_hash, white_is_gap, or_from)
 
 -- indentation brings no `#` to the start
 indented_hash :
     (indent : ℕ) (text : Text) → begins_with_hash text ≡ false → begins_with_hash (indentation indent ++ text) ≡ false
-indented_hash zero text hash = hash
-indented_hash (suc n) text hash = refl
+indented_hash indent text hash = grind (arith, nat_tests)
 
 -- indentation holds none
 indented_holds :
@@ -125,8 +95,7 @@ indented_holds :
     holds_no_plain breaks12 flow text ≡ false →
     holds_no_plain breaks12 flow (indentation indent ++ text) ≡ false
 indented_holds breaks12 flow zero text hash later = later
-indented_holds breaks12 flow (suc n) text hash later =
-    simp (indented_hash n text hash, and-false) (indented_holds breaks12 flow n text hash later)
+indented_holds breaks12 flow (suc n) text hash later = grind (arith, nat_tests, indented_hash, and-false, indented_holds breaks12 flow n text hash later)
 
 -- nor does a fold
 folded_holds :
@@ -134,8 +103,7 @@ folded_holds :
     begins_with_hash text ≡ false →
     holds_no_plain breaks12 flow text ≡ false →
     holds_no_plain breaks12 flow (line_feed ∷ (indentation indent ++ text)) ≡ false
-folded_holds breaks12 flow indent text hash later =
-    simp (indented_hash indent text hash, and-false) (indented_holds breaks12 flow indent text hash later)
+folded_holds breaks12 flow indent text hash later = grind (arith, nat_tests, indented_hash, and-false, indented_holds)
 
 -- nor does a space
 spaced_holds :
@@ -145,10 +113,7 @@ spaced_holds :
     (begins_with (λ d. d == 35) rest ≡ false → begins_with_hash text ≡ false) →
     holds_no_plain breaks12 flow text ≡ false →
     holds_no_plain breaks12 flow ((if folds then line_feed ∷ indentation indent else space ∷ []) ++ text) ≡ false
-spaced_holds breaks12 flow true indent rest text own white hash later =
-    folded_holds breaks12 flow indent text (hash own) later
-spaced_holds breaks12 flow false indent rest text own white hash later =
-    kept_holds breaks12 flow space rest text own (and-false flow) white hash later
+spaced_holds breaks12 flow folds indent rest text x white hash later = grind (arith, nat_tests, folded_holds, kept_holds, space, and-false)
 
 -- nor does a step
 step_holds :
@@ -200,10 +165,7 @@ begins_times (suc n) marker (c ∷ rest) = c == marker && begins_times n marker 
 
 -- three of a character, counted
 three_times : (marker : ℕ) (text : Text) → begins_with_three marker text ≡ begins_times 3 marker text
-three_times marker [] = refl
-three_times marker (a ∷ []) = sym (and-false (a == marker))
-three_times marker (a ∷ b ∷ []) = sym (simp and-false)
-three_times marker (a ∷ b ∷ c ∷ rest) = simp (and-true, and_assoc)
+three_times marker text = grind (arith, nat_tests, and-false, and-true, and_assoc)
 
 -- a character that is no white space
 record IsMarkerCharacter (marker : ℕ) : Type 0 where
@@ -213,23 +175,20 @@ record IsMarkerCharacter (marker : ℕ) : Type 0 where
 
 -- a break is no indicator
 other_break : (marker c : ℕ) (same : Bool) → (c == marker) ≡ same → is_break marker ≡ false → is_break c ≡ true → same ≡ false
-other_break marker c false e m b = refl
-other_break marker c true e m b = sym b ∙ (ap is_break (eqb-true c marker e) ∙ m)
+other_break marker c same e m b = grind (arith, nat_tests, is_break, eqb-true)
 
 -- no space or fold begins with an indicator
 fold_times :
     (marker : ℕ) → IsMarkerCharacter marker → (n : ℕ) (folds : Bool) (indent : ℕ) (text : Text) →
     begins_times (suc n) marker ((if folds then line_feed ∷ indentation indent else space ∷ []) ++ text) ≡ false
-fold_times marker is_marker n true indent text = simp is_marker.no_feed
-fold_times marker is_marker n false indent text = simp is_marker.no_space
+fold_times marker is_marker n folds indent text = grind (arith, nat_tests)
 
 -- nor in a break
 break_times :
     (marker : ℕ) → IsMarkerCharacter marker → (n : ℕ) (doubled : Bool) (c : ℕ) (more text : Text) →
     (c == marker) ≡ false →
     begins_times (suc n) marker (((if doubled then line_feed ∷ [] else []) ++ (c ∷ more)) ++ text) ≡ false
-break_times marker is_marker n true c more text e = simp is_marker.no_feed
-break_times marker is_marker n false c more text e = simp e
+break_times marker is_marker n doubled c more text e = grind (arith, nat_tests)
 
 -- a step begins with an indicator as its character does
 step_times :
@@ -237,45 +196,34 @@ step_times :
     kind_of c ≡ kind →
     begins_times n marker text ≡ begins_times n marker rest →
     begins_times (suc n) marker (step_text (λ t. t) folds indent before kind c rest ++ text) ≡ begins_times (suc n) marker (c ∷ rest)
-step_times marker is_marker n folds indent before Space c rest text k later = grind (arith, eqb-true, spaces_only, fold_times)
-step_times marker is_marker n folds indent before Break c rest text k later = grind (arith, other_break, breaks_only, break_times)
-step_times marker is_marker n folds indent before Other c rest text k later = ap (λ (b : Bool). c == marker && b) later
+step_times marker is_marker n folds indent before kind c rest text k later =
+    grind (arith, nat_tests, eqb-true, spaces_only, fold_times, other_break, breaks_only, break_times)
 
 -- lines begin with an indicator as often as the value does
 times_kept :
     (marker : ℕ) → IsMarkerCharacter marker →
     (n : ℕ) (written : Text → Text) (limit : Option ℕ) (indent : ℕ) (before : CharacterKind) (value : Text) (cursor : Cursor) →
     begins_times n marker (bare_steps written limit indent before value cursor) ≡ begins_times n marker value
-times_kept marker is_marker zero written limit indent before value cursor = refl
-times_kept marker is_marker (suc n) written limit indent before [] cursor = refl
 times_kept marker is_marker (suc n) written limit indent before (c ∷ rest) cursor =
     step_times marker is_marker n (is_past_width limit cursor) indent before (kind_of c) c rest _ refl
     (times_kept marker is_marker n written limit indent (kind_of c) rest _)
+times_kept marker is_marker _ written limit indent before _ cursor = refl
 
 -- three dashes are a mark
 no_dashes : (a b c : ℕ) (is : Bool) → (a == 45) ≡ is → ((is || a == 46) && b == a && c == a) ≡ false → (is && b == 45 && c == 45) ≡ false
-no_dashes a b c false d e = refl
-no_dashes a b c true d e = subst (λ (n : ℕ). (b == n && c == n) ≡ false) (eqb-true a 45 d) e
+no_dashes a b c is d e = grind (arith, nat_tests, eqb-true)
 
 -- three dots are a mark
 no_dots : (a b c : ℕ) (is : Bool) → (a == 46) ≡ is → ((a == 45 || is) && b == a && c == a) ≡ false → (is && b == 46 && c == 46) ≡ false
-no_dots a b c false d e = refl
-no_dots a b c true d e =
-    subst (λ (n : ℕ). ((n == 45 || true) && b == n && c == n) ≡ false) (eqb-true a 46 d) e
+no_dots a b c is d e = grind (arith, nat_tests, eqb-true)
 
 -- a value that doesn't begin with a mark begins with no three dashes and no three dots
 dashes : (value : Text) → begins_like_marker value ≡ false → begins_with_three 45 value ≡ false
-dashes [] e = refl
-dashes (a ∷ []) e = refl
-dashes (a ∷ b ∷ []) e = refl
-dashes (a ∷ b ∷ c ∷ rest) e = no_dashes a b c (a == 45) refl e
+dashes value e = grind (arith, nat_tests, no_dashes)
 
 -- nor with three dots
 dots : (value : Text) → begins_like_marker value ≡ false → begins_with_three 46 value ≡ false
-dots [] e = refl
-dots (a ∷ []) e = refl
-dots (a ∷ b ∷ []) e = refl
-dots (a ∷ b ∷ c ∷ rest) e = no_dots a b c (a == 46) refl e
+dots value e = grind (arith, nat_tests, no_dots)
 
 -- lines begin with three indicators only if the value does
 lines_three :
@@ -283,9 +231,7 @@ lines_three :
     (written : Text → Text) (limit : Option ℕ) (indent : ℕ) (before : CharacterKind) (value : Text) (cursor : Cursor) →
     begins_with_three marker value ≡ false →
     begins_with_three marker (bare_steps written limit indent before value cursor) ≡ false
-lines_three marker is_marker written limit indent before value cursor e =
-    three_times marker (bare_steps written limit indent before value cursor)
-    ∙ (times_kept marker is_marker 3 written limit indent before value cursor ∙ (sym (three_times marker value) ∙ e))
+lines_three marker is_marker written limit indent before value cursor e = grind (arith, nat_tests, three_times, bare_steps, times_kept)
 
 -- a character that is neither a space nor a break is of the other kind
 pub kind_of_indicator : (s b : Bool) → s ≡ false → b ≡ false → (if s then Space else if b then Break else Other) ≡ Other
@@ -297,8 +243,7 @@ first_kept :
     is_space c ≡ false →
     is_break c ≡ false →
     step_text (λ t. t) folds indent before (kind_of c) c rest ≡ c ∷ []
-first_kept folds indent before c rest e f =
-    ap (λ (kind : CharacterKind). step_text (λ t. t) folds indent before kind c rest) (kind_of_indicator (is_space c) (is_break c) e f)
+first_kept folds indent before c rest e f = grind (arith, nat_tests, step_text, kind_of_indicator, is_space, is_break)
 
 -- the lines of a value that isn't empty are not empty
 pub lines_full :

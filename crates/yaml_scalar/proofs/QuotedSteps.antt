@@ -1,7 +1,7 @@
 -- A double-quoted scalar is written as a quote, the text inside, and a quote; and its reading.
-use Rattle.yaml_scalar.proofs.Common.{ℕ, ◌≤◌, IfOk, Option, None, Result, Err, Ok, Bool, false, true, [], ◌∷◌, refl, ◌≡◌, all_scalars, Text, Cursor, Rendered}
+use Rattle.yaml_scalar.proofs.Common.{ℕ, ◌≤◌, IfOk, Option, None, Result, Err, Ok, Bool, false, true, [], ◌∷◌, ◌≡◌, all_scalars, Text, Cursor, Rendered}
 use Rattle.yaml_scalar.proofs.Common.{render_then, indicator, read_double, quote, double_inside, render_quote, double_quoted_body, render_double_quoted, Page}
-use Rattle.yaml_scalar.proofs.Common.{Wrote, ReadsBack}
+use Rattle.yaml_scalar.proofs.Common.{Wrote, ReadsBack, arith, nat_tests}
 use Rattle.yaml_base.specs.declared.errors.yaml_error_t.{yaml_error_t}
 use Rattle.yaml_scalar.proofs.{DoubleReads.double-reads, DoubleReads.double-indented, LinesReadBack.body_back}
 
@@ -13,8 +13,7 @@ double_steps unicode limit indent value cursor =
 steps-at : (unicode : Bool) (limit : Option ℕ) (indent : ℕ) (value : Text) (column : ℕ) (whitespace indention : Bool)
     → let cursor : Cursor = record { column = column; whitespace = whitespace; indention = indention } in
     double_steps unicode limit indent value cursor ≡ render_double_quoted unicode limit indent value cursor
-steps-at unicode limit indent value column true indention = refl
-steps-at unicode limit indent value column false indention = refl
+steps-at unicode limit indent value column whitespace indention = grind (arith, nat_tests)
 
 pub double-steps : (unicode : Bool) (limit : Option ℕ) (indent : ℕ) (value : Text) (cursor : Cursor)
     → double_steps unicode limit indent value cursor ≡ render_double_quoted unicode limit indent value cursor

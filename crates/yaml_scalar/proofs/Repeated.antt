@@ -1,7 +1,7 @@
 -- Repeats of a character are written as the steps of their characters are.
 use Rattle.yaml_scalar.proofs.Common.{suc, zero, ℕ, ◌+◌, ◌-◌, ◌<◌, ◌≤◌, if◌then◌else◌, IsUtf8, Option, length, replicate, take, Bool, true, List, [], ◌++◌, ◌∷◌, refl}
 use Rattle.yaml_scalar.proofs.Common.{Err, Ok, Page, Wrote, ◌≡◌, ap, subst, sym, ◌∙◌, arith, IsCharBoundary, IsUtf8-drop, chars-cut, line_feed, Text, Cursor, Rendered}
-use Rattle.yaml_scalar.proofs.Common.{render_then, render_text, Break, Other, quotes_doubled, indentation, begins_kind, written_as, render_steps}
+use Rattle.yaml_scalar.proofs.Common.{render_then, render_text, Break, Other, quotes_doubled, indentation, begins_kind, written_as, render_steps, nat_tests}
 use Rattle.yaml_base.proofs.Common.{chars-IsAscii}
 use Rattle.std.{proofs.Common.drop, proofs.Common.length-drop, specs.Str.chars}
 use Rattle.std.proofs.lemmas.List.{drop-replicate, drop-take, length-replicate, replicate-append-replicate, take-replicate, take-take}
@@ -50,8 +50,7 @@ quotes_run limit indent (suc n) rest cursor =
 
 -- LF within a run of breaks is written as it is
 begins_break : (n : ℕ) (rest : Text) → begins_kind Break rest ≡ true → begins_kind Break (replicate n line_feed ++ rest) ≡ true
-begins_break zero rest h = h
-begins_break (suc n) rest h = refl
+begins_break n rest h = grind (arith, nat_tests)
 
 line_feeds_run : (written : Text → Text) (limit : Option ℕ) (indent n : ℕ) (rest : Text) (cursor : Cursor) → begins_kind Break rest ≡ true
     → render_steps written limit indent Break (replicate n line_feed ++ rest) cursor
@@ -104,9 +103,7 @@ repeats_stand : (quoted : Bool) (limit : Option ℕ) (indent c : ℕ) (repeats :
     → AreRepeats quoted c repeats text
     → lines_after quoted limit indent c (chars text) cursor
     ≡ render_then (render_text (repeated_text repeats) cursor) (lines_after quoted limit indent c (chars (drop (repeats_length repeats) text)))
-repeats_stand quoted limit indent c Nothing text cursor is_text are = refl
-repeats_stand quoted limit indent c (Quotes n) text cursor is_text are = rw (are.0, are.1) (quotes_stand limit indent n text cursor is_text are.2)
-repeats_stand quoted limit indent c (LineFeeds n) text cursor is_text are = rw are.0 (line_feeds_stand quoted limit indent n text cursor is_text are.1)
+repeats_stand quoted limit indent c repeats text cursor is_text are = grind (arith, nat_tests, quotes_stand, line_feeds_stand)
 
 -- before repeats it is their text, and the text after them
 repeats_still : (quoted : Bool) (limit : Option ℕ) (indent c : ℕ) (repeats : Repeats) {text rest : List ℕ} {whole : Cursor → Rendered} {start here : Page}
@@ -178,9 +175,7 @@ line_feeds_run_after before n text is_text are some =
 -- a text of line feeds alone has as many characters as bytes
 all_copies : (text : Text) → list_all (λ c. c == line_feed) text ≡ true → text ≡ replicate (length text) line_feed
 all_copies [] h = refl
-all_copies (c ∷ rest) h =
-    let p = and_parts (c == line_feed) (list_all (λ d. d == line_feed) rest) h in
-    ap (λ d. d ∷ rest) (eqb-true c line_feed p.0) ∙ ap (λ l. line_feed ∷ l) (all_copies rest p.1)
+all_copies (c ∷ rest) h = grind (arith, nat_tests, and_parts, line_feed, list_all, eqb-true, all_copies rest)
 
 pub all_line_feeds : (bytes : List ℕ) → IsUtf8 bytes → list_all (λ c. c == line_feed) (chars bytes) ≡ true
     → chars bytes ≡ replicate (length bytes) line_feed

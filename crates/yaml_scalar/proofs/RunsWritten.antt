@@ -1,5 +1,5 @@
 -- A loop that writes a character, and the run that follows it, in turn.
-use Rattle.yaml_scalar.proofs.Common.{ℕ, chars, IsUtf8, Err, Ok, take, Bool, true, List, [], ◌++◌, ◌∷◌, refl, ◌≡◌, ap, sym, ◌∙◌, and_parts}
+use Rattle.yaml_scalar.proofs.Common.{ℕ, chars, IsUtf8, Err, Ok, take, Bool, true, List, [], ◌++◌, ◌∷◌, refl, ◌≡◌, ap, sym, ◌∙◌, and_parts, arith, nat_tests}
 use Rattle.yaml_scalar.proofs.Common.{chars_past_char, encode_utf8, list_all, Text, Cursor, Rendered, render_then, next_column}
 use Rattle.yaml_scalar.proofs.Common.{render_text, chars-cut, Page, Wrote, last_from, IsRun}
 use Rattle.yaml_base.proofs.Common.{drop}
@@ -19,9 +19,7 @@ run_at : {after : ℕ → Text → Cursor → Rendered} {test : ℕ → Bool} {c
     ≡ render_then (render_text run (record cursor { column = column })) (after (last_from before run) rest)
 run_at alone before [] rest column h = refl
 run_at {after} {test} {cursor} alone before (c ∷ run) rest column h =
-    let p = and_parts (test c) (list_all test run) h in
-    alone.stands before c (run ++ rest) column p.0
-    ∙ ap (λ (l : Rendered). let m : Rendered = record { text = c ∷ l.text; cursor = l.cursor } in m) (run_at alone c run rest (next_column c column) p.1)
+    grind (arith, nat_tests, and_parts, list_all, next_column, run_at alone c run rest (next_column c column), test c)
 
 -- the rest begins with a character
 pub character_still : (layout : Text → Cursor → Rendered) {whole : Cursor → Rendered} (c : ℕ) (old new rest : List ℕ) {start here : Page}
@@ -37,10 +35,7 @@ pub record RunStands (after : ℕ → Text → Cursor → Rendered) (run : Text)
 -- so does one whose characters each do
 each_stands : {after : ℕ → Text → Cursor → Rendered} {test : ℕ → Bool} {cursor : Cursor} {before last size : ℕ} {bytes run : List ℕ}
     → StandAlone after test cursor → IsRun test before bytes size last → run ≡ take size bytes → RunStands after (chars run) cursor
-each_stands {after} {test} {cursor} {before} {last} {size} {bytes} {run} alone is prefix =
-    record {
-      stands = λ before rest. run_at alone before (chars run) rest cursor.column (ap (λ l. list_all test (chars l)) prefix ∙ is.all);
-    }
+each_stands {after} {test} {cursor} {before} {last} {size} {bytes} {run} alone is prefix = grind (arith, nat_tests, run_at, chars, list_all)
 
 -- before a run it is the run, and the text after it
 run_still : (after : ℕ → Text → Cursor → Rendered) {test : ℕ → Bool} {whole : Cursor

@@ -1,7 +1,7 @@
 -- A short text of ASCII is rendered as it is.
 use Rattle.yaml_scalar.proofs.Common.{ℕ, ◌≤◌, IsUtf8, Option, None, length, Bool, false, true, List, [], ◌≡◌, take_all, append-nil, ap, sym, ◌∙◌, encodes-chars}
 use Rattle.yaml_scalar.proofs.Common.{list_all, Text, Cursor, Rendered, render_text, double_inside, Space, IsFreeRun, ImpliesTest, is_unbroken_ascii, stays}
-use Rattle.yaml_scalar.proofs.Common.{written_as, render_steps, most_short, IsShortRun, IsShortLine, stays_where, has_limit, subst}
+use Rattle.yaml_scalar.proofs.Common.{written_as, render_steps, most_short, IsShortRun, IsShortLine, stays_where, has_limit, subst, arith, nat_tests}
 use Rattle.std.{proofs.lemmas.Str.encodes-IsAscii, specs.Str.chars}
 use Rattle.yaml_scalar.proofs.{ByteRuns.free_passes, EscapeBytes.plain-ascii, InsideSteps.inside_stays, InsideSteps.ascii_stays}
 use Rattle.yaml_scalar.proofs.{InsideSteps.ascii_stays_plain, StaysInLine.line_at}
@@ -44,6 +44,4 @@ short_inside classes unicode limit folds is tells run =
 -- a text between double quotes
 pub short_inside_rendered : (unicode : Bool) (limit : Option ℕ) (indent : ℕ) (cursor : Cursor) {text : List ℕ} → IsShortRun (stays unicode limit) text
     → render_text text cursor ≡ double_inside unicode limit indent None (chars text) cursor
-short_inside_rendered unicode limit indent cursor {text} is =
-    sym (inside_stays unicode limit indent None text cursor is.all)
-    ∙ ap (λ (t : Text). double_inside unicode limit indent None t cursor) (sym is.ascii)
+short_inside_rendered unicode limit indent cursor {text} is = grind (arith, nat_tests, inside_stays, double_inside)

@@ -1,7 +1,7 @@
 -- Simple ASCII texts: every style may hold them.
 use Rattle.yaml_scalar.proofs.Common.{ℕ, ◌-◌, ◌<◌, if◌then◌else◌, ◌==◌, slice_index, IsUtf8, Option, length, Bool, false, not, true, ◌&&◌, ◌||◌, List, []}
-use Rattle.yaml_scalar.proofs.Common.{◌∷◌, refl, ◌≡◌, leb-true, true≢false, append-nil, ap, subst, sym, ◌∙◌, arith, and_parts, not-true, chars-nil, list_all}
-use Rattle.yaml_scalar.proofs.Common.{Text, space, is_space, Cursor, Charset, Allowances, begins_with, is_empty, allowances, BarredStyles, barred_by}
+use Rattle.yaml_scalar.proofs.Common.{◌∷◌, refl, ◌≡◌, leb-true, true≢false, append-nil, ap, sym, ◌∙◌, arith, and_parts, not-true, chars-nil, list_all}
+use Rattle.yaml_scalar.proofs.Common.{Text, space, is_space, Cursor, Charset, Allowances, begins_with, is_empty, allowances, BarredStyles, barred_by, nat_tests}
 use Rattle.yaml_scalar.proofs.Common.{barred_in, none_barred, either, is_ordinary, is_quiet, allowed_by, is_free, ImpliesTest, is_unbroken_ascii, IsShortRun}
 use Rattle.yaml_scalar.proofs.Common.{IsShortLine, has_simple_ascii_ends, is_simple_ascii_character, stays_in_line, last_from, HasRoom}
 use Rattle.yaml_base.proofs.Common.{chars}
@@ -45,8 +45,7 @@ bars_none charset text all last =
 
 -- so every style may hold it if it begins with a letter or a digit
 none_allowed : (text : Text) → begins_with is_ordinary text ≡ true → allowed_by none_barred text ≡ all_allowed
-none_allowed [] first = cc
-none_allowed (c ∷ rest) first = rw (ordinary_plain c rest first) refl
+none_allowed text first = grind (arith, nat_tests, ordinary_plain)
 
 pub simple_ascii : {text : List ℕ} → has_simple_ascii_ends text ≡ true
     → ((test : ℕ → Bool) → ImpliesTest 57 is_unbroken_ascii → ImpliesTest 57 test → IsShortRun test text) → IsSimpleAscii text
@@ -71,8 +70,7 @@ simple_ascii_some {text = []} is =
 simple_ascii_some {text = first ∷ rest} is = omega arith
 
 some_allowed : (charset : Charset) (text : Text) → allowances charset text ≡ all_allowed → is_empty text ≡ false
-some_allowed charset [] is = absurd (true≢false (sym (ap (λ (a : Allowances). a.flow_plain_allowed) is)))
-some_allowed charset (c ∷ rest) is = refl
+some_allowed charset text is = grind (arith, nat_tests, true≢false)
 
 -- so a space is needed before it, in flow or not
 pub simple_ascii_spaced : {text : List ℕ} (flow : Bool) → IsSimpleAscii text → (flow || not (is_empty (chars text))) ≡ true
@@ -85,5 +83,4 @@ simple_ascii_spaced {text} false is =
 pub simple_ascii_line : {quoted : Bool} {text : List ℕ} (limit : Option ℕ) (cursor : Cursor) → quoted ≡ false → IsSimpleAscii text
     → HasRoom limit cursor.column (length text)
     → IsShortLine limit quoted cursor text
-simple_ascii_line {quoted} {text} limit cursor plain is room =
-    record { run = subst (λ (q : Bool). IsShortRun (stays_in_line false q) text) (sym plain) is.line; room = room }
+simple_ascii_line {quoted} {text} limit cursor plain is room = grind (arith, nat_tests, stays_in_line)

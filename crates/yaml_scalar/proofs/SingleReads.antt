@@ -1,8 +1,8 @@
 -- A single-quoted body reads as its value, and its later lines are indented.
 use Rattle.yaml_scalar.proofs.Common.{arith, ℕ, ◌≤◌, if◌then◌else◌, ◌==◌, option_map, Option, Some, Bool, false, true, [], ◌++◌, ◌∷◌, refl, ◌≡◌, eqb-true}
-use Rattle.yaml_scalar.proofs.Common.{append_assoc, ◌∙◌, or_parts, not-true, list_any-append, list_any, breaks-round, rendered-append, indented-written, Text}
+use Rattle.yaml_scalar.proofs.Common.{append_assoc, or_parts, not-true, list_any-append, list_any, breaks-round, rendered-append, indented-written, Text}
 use Rattle.yaml_scalar.proofs.Common.{is_break, Cursor, with_breaks_written, with_line_breaks_read, is_rendered_text, is_indented_text, LineBreak, read_single}
-use Rattle.yaml_scalar.proofs.Common.{Charset, allows_single_quoted, Space, quotes_doubled, single_quote, single_quoted_body}
+use Rattle.yaml_scalar.proofs.Common.{Charset, allows_single_quoted, Space, quotes_doubled, single_quote, single_quoted_body, nat_tests}
 use Rattle.yaml_base.proofs.Common.{unquoted}
 use Rattle.yaml_scalar.proofs.{LineIndents.lines_indented, LineRuns.WritesEach, LineRuns.runs_by_steps, Unbroken.is_unbroken}
 use Rattle.yaml_scalar.proofs.LineFolds.{folding_reads, no_returns, rendered_without_returns}
@@ -15,29 +15,21 @@ doubled-joined (c ∷ prefix) rest = grind (arith, append_assoc, doubled-joined 
 
 -- and no break comes from it
 doubled-unbroken : (c : ℕ) (quote : Bool) → is_break c ≡ false → is_unbroken ((if quote then 39 ∷ 39 ∷ [] else c ∷ []) ++ []) ≡ true
-doubled-unbroken c true e = refl
-doubled-unbroken c false e = simp e
+doubled-unbroken c quote e = grind (arith, nat_tests)
 
 -- quoted characters are written one by one
 pub doubled_writes : WritesEach quotes_doubled
-doubled_writes = record {
-  nothing = refl;
-  kept = λ c e. simp e;
-  unbroken = λ c e. doubled-unbroken c (c == 39) e;
-  joined = doubled-joined;
-}
+doubled_writes = grind (arith, nat_tests, doubled-unbroken, doubled-joined)
 
 -- another character than `'` is written as itself
 unquoted-other : (c : ℕ) (rest : Text) → (c == 39) ≡ false → unquoted (c ∷ rest) ≡ option_map (λ t. c ∷ t) (unquoted rest)
-unquoted-other c [] e = simp e
-unquoted-other c (d ∷ rest) e = simp e
+unquoted-other c rest e = grind (arith, nat_tests)
 
 -- one character, doubled or not, before the unquoted rest
 unquoted-step :
     (c : ℕ) (text after : Text) (quote : Bool) → (c == 39) ≡ quote → unquoted after ≡ Some text →
     unquoted ((if quote then 39 ∷ 39 ∷ [] else c ∷ []) ++ after) ≡ Some (c ∷ text)
-unquoted-step c text after true e read = rw (eqb-true c 39 e, read)
-unquoted-step c text after false e read = rw (unquoted-other c after e, read)
+unquoted-step c text after quote e read = grind (arith, nat_tests, eqb-true, unquoted-other)
 
 -- quotes undo, up to the closing one
 unquoted-doubled : (text : Text) → unquoted (quotes_doubled text ++ 39 ∷ []) ≡ Some text
@@ -52,19 +44,13 @@ inside limit indent value cursor = bare_steps quotes_doubled limit indent Space 
 pub body-inside :
     (limit : Option ℕ) (indent : ℕ) (value : Text) (cursor : Cursor) →
     (single_quoted_body limit indent value cursor).text ≡ 39 ∷ (quotes_doubled (inside limit indent value cursor) ++ 39 ∷ [])
-body-inside limit indent value cursor =
-    rw (
-      runs_by_steps quotes_doubled doubled_writes limit indent value (single_quote cursor).cursor,
-      bare_written quotes_doubled doubled_writes limit indent Space value (single_quote cursor).cursor,
-    )
+body-inside limit indent value cursor = grind (arith, nat_tests, runs_by_steps, quotes_doubled, doubled_writes, single_quote, bare_written)
 
 -- a test that holds nowhere in a text holds nowhere in it with quotes doubled
 pub any_doubled : (test : ℕ → Bool) → test 39 ≡ false → (text : Text) → list_any test text ≡ false → list_any test (quotes_doubled text) ≡ false
 any_doubled test quote [] clean = refl
 any_doubled test quote (c ∷ rest) clean =
-    let parts = or_parts (test c) (list_any test rest) clean in
-    list_any-append test (if c == 39 then 39 ∷ 39 ∷ [] else c ∷ []) (quotes_doubled rest)
-    ∙ simp (any_cond test (c == 39) (39 ∷ 39 ∷ []) (c ∷ []) (simp quote) (simp parts.0), any_doubled test quote rest parts.1)
+    grind (arith, nat_tests, or_parts, list_any, list_any-append, quotes_doubled, any_cond, any_doubled test quote rest, test c)
 
 -- a body holds neither CR nor U+0085
 pub single-rendered :
@@ -90,7 +76,4 @@ pub single-indented :
     2 ≤ indent →
     is_indented_text (with_breaks_written setting (single_quoted_body limit indent value cursor).text) ≡ true
 single-indented limit indent value cursor setting wide =
-    let after = (single_quote cursor).cursor in
-    indented-written setting (single_quoted_body limit indent value cursor).text
-    (rw (runs_by_steps quotes_doubled doubled_writes limit indent value after)
-    (lines_indented quotes_doubled doubled_writes limit indent wide Space value (39 ∷ []) after refl))
+    grind (arith, nat_tests, single_quote, indented-written, single_quoted_body, runs_by_steps, quotes_doubled, doubled_writes, lines_indented)

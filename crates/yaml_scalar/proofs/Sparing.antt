@@ -1,10 +1,10 @@
 -- Tests that spare printable ASCII and LF: the text in a style holds no character that meets such a test, if the value's own
 -- characters that are written unescaped don't.
-use Rattle.yaml_scalar.proofs.Common.{suc, zero, ℕ, ◌%◌, ◌/◌, if◌then◌else◌, ◌==◌, Option, None, Some, nat_le, replicate, Bool, false, true, ◌&&◌, List, []}
+use Rattle.yaml_scalar.proofs.Common.{suc, zero, ℕ, ◌%◌, ◌/◌, if◌then◌else◌, Option, Some, nat_le, replicate, Bool, false, true, ◌&&◌, List, []}
 use Rattle.yaml_scalar.proofs.Common.{◌∷◌, refl, ◌≡◌, arith, and_parts, and_from, agree_below_at, list_all-append, list_all, list_any, Text, is_between, space}
 use Rattle.yaml_scalar.proofs.Common.{line_feed, is_space, hex_digit, hex_digits, Cursor, render_text, new_line, is_past_width, quote, backslash, ShortEscape}
 use Rattle.yaml_scalar.proofs.Common.{short_escapes, letter_among, escape_after_backslash, escape_text, needs_escape, character_text, may_fold, space_kept}
-use Rattle.yaml_scalar.proofs.Common.{double_fold, double_character, double_inside, render_quote, double_quoted_body, plain_body, single_quoted_body}
+use Rattle.yaml_scalar.proofs.Common.{double_fold, double_character, double_inside, render_quote, double_quoted_body, plain_body, single_quoted_body, nat_tests}
 use Rattle.yaml_scalar.proofs.{PlainReads.body-lines, SingleReads.body-inside, SingleReads.any_doubled}
 use Rattle.yaml_scalar.proofs.LineTexts.{any_cond, any_both, any_one, any_indentation, any_bare}
 
@@ -28,14 +28,11 @@ letters_graph (entry ∷ more) = is_graph entry.letter && letters_graph more
 letter_graph : (table : List ShortEscape) (c letter : ℕ) → letters_graph table ≡ true
     → letter_among table c ≡ Some letter → is_graph letter ≡ true
 letter_graph [] c letter h found = cc
-letter_graph (entry ∷ more) c letter h found =
-    let p : (is_graph entry.letter ≡ true) × (letters_graph more ≡ true) = and_parts _ _ h in
-    letter_here (c == entry.character) p.0 (letter_graph more c letter p.1) found
+letter_graph (entry ∷ more) c letter h found = grind (arith, nat_tests, is_graph, letters_graph, and_parts, letter_here, letter_graph more c letter)
   where
     letter_here : (b : Bool) → is_graph entry.letter ≡ true → (letter_among more c ≡ Some letter → is_graph letter ≡ true)
         → (if b then Some entry.letter else letter_among more c) ≡ Some letter → is_graph letter ≡ true
-    letter_here true here later h = let e : entry.letter ≡ letter = cc in rw (← e) here
-    letter_here false here later h = later h
+    letter_here b here later h = grind (arith, nat_tests)
 
 -- hexadecimal digits
 digit_graph : (n : ℕ) → is_graph (hex_digit (n % 16)) ≡ true
@@ -55,8 +52,7 @@ number_graph c false false = digits_graph 8 c
 
 -- the text after the backslash
 escape_rest : (c : ℕ) (found : Option ℕ) → letter_among short_escapes c ≡ found → list_all is_graph (escape_after_backslash found c) ≡ true
-escape_rest c (Some letter) found = and_from _ true (letter_graph short_escapes c letter refl found) refl
-escape_rest c None found = number_graph c (nat_le c 0xFF) (nat_le c 0xFFFF)
+escape_rest c found x = grind (arith, nat_tests, and_from, letter_graph, short_escapes, number_graph, nat_le)
 
 -- an escape
 pub escape_graph : (c : ℕ) → list_all is_graph (escape_text c) ≡ true
@@ -66,9 +62,7 @@ module _ (test : ℕ → Bool) (spares : Spares test) where
   -- a text of such characters
   pub lacks_graph : (text : Text) → list_all is_graph text ≡ true → list_any test text ≡ false
   lacks_graph [] h = refl
-  lacks_graph (c ∷ rest) h =
-      let p : (is_graph c ≡ true) × (list_all is_graph rest ≡ true) = and_parts _ _ h in
-      any_one test c rest (spares.graph c p.0) (lacks_graph rest p.1)
+  lacks_graph (c ∷ rest) h = grind (arith, nat_tests, is_graph, list_all, and_parts, any_one, lacks_graph rest)
 
   -- indentation
   pub lacks_spaces : (n : ℕ) → list_any test (replicate n space) ≡ false
@@ -99,8 +93,7 @@ module _ (test : ℕ → Bool) (spares : Spares test) where
 
     -- a backslash before a space
     lacks_kept : (rest : Text) → list_any test (space_kept rest) ≡ false
-    lacks_kept [] = refl
-    lacks_kept (c ∷ rest) = any_cond test (is_space c) (backslash ∷ []) [] (any_one test backslash [] (spares.graph backslash refl) refl) refl
+    lacks_kept rest = grind (arith, nat_tests, any_cond, is_space, backslash, any_one)
 
     -- the text between the quotes
     lacks_inside : (limit : Option ℕ) (indent : ℕ) (before : Option ℕ) (value : Text) (cursor : Cursor)
@@ -117,8 +110,4 @@ module _ (test : ℕ → Bool) (spares : Spares test) where
     -- a double-quoted body, whatever the value
     pub lacks_double : (limit : Option ℕ) (indent : ℕ) (value : Text) (cursor : Cursor)
         → list_any test (double_quoted_body unicode limit indent value cursor).text ≡ false
-    lacks_double limit indent value cursor =
-        let quote_spared : test quote ≡ false = spares.graph quote refl in
-        any_one test quote _ quote_spared
-        (any_both test (double_inside unicode limit indent None value (render_quote cursor).cursor).text (quote ∷ [])
-        (lacks_inside limit indent None value (render_quote cursor).cursor) (any_one test quote [] quote_spared refl))
+    lacks_double limit indent value cursor = grind (arith, nat_tests, quote, any_one, any_both, double_inside, render_quote, lacks_inside)

@@ -1,10 +1,10 @@
 -- Block scalars hold no character that meets a test which spares printable ASCII and LF, if their values hold none; so a
 -- value that a style allows is written without a special character.
-use Rattle.yaml_scalar.proofs.Common.{ℕ, ◌+◌, ◌≤◌, if◌then◌else◌, ◌==◌, Option, replicate, Bool, false, not, true, ◌&&◌, List, [], ◌++◌, ◌∷◌, refl, ◌≡◌, le-leb}
-use Rattle.yaml_scalar.proofs.Common.{ap, ◌∙◌, arith, and_from, or_parts, not-true, list_any, Text, line_feed, space, is_space, is_break, Cursor, Charset}
-use Rattle.yaml_scalar.proofs.Common.{◌||◌, is_empty, is_special_but_tab, begins_with_blanks_alone, bars_literal, allows_literal}
+use Rattle.yaml_scalar.proofs.Common.{ℕ, ◌+◌, ◌≤◌, if◌then◌else◌, Option, Bool, false, not, true, List, [], ◌++◌, ◌∷◌, refl, ◌≡◌, le-leb}
+use Rattle.yaml_scalar.proofs.Common.{ap, ◌∙◌, arith, and_from, or_parts, not-true, list_any, Text, line_feed, is_space, is_break, Cursor, Charset}
+use Rattle.yaml_scalar.proofs.Common.{is_empty, is_special_but_tab, begins_with_blanks_alone, bars_literal, allows_literal, nat_tests}
 use Rattle.yaml_scalar.proofs.Common.{somewhere, begins_with, is_special, bars_single_quoted, bars_block, allows_plain, allows_single_quoted, allows_block}
-use Rattle.yaml_scalar.proofs.Common.{Ending, WithoutBreak, OneBreak, MoreBreaks, ending, begins_blank, ending_hint, block_body, folds, cut_from, cut_line}
+use Rattle.yaml_scalar.proofs.Common.{Ending, ending, begins_blank, ending_hint, block_body, folds, cut_from, cut_line}
 use Rattle.yaml_scalar.proofs.Common.{next_line_unindented, folded_parts, folded_body, Part, line, line_break, begun, parts, indented, literal_body}
 use Rattle.yaml_scalar.proofs.{LineTexts.any_both, LineTexts.any_one, PlainReads.plain_is_single, PlainReads.plain_bars, Sparing.is_graph, Sparing.Spares}
 use Rattle.yaml_scalar.proofs.{Sparing.lacks_spaces, blocks.BlockReads.block-text, blocks.BlockReads.digit_text, blocks.BlockReads.block_indicator_of}
@@ -28,28 +28,22 @@ module _ (test : ℕ → Bool) where
 
   -- a character before parts
   lacks_begun : (c : ℕ) (ps : List Part) → test c ≡ false → PartsLack ps → PartsLack (begun c ps)
-  lacks_begun c [] e h = (any_one test c [] e refl, tt)
-  lacks_begun c (line text ∷ rest) e h = (any_one test c text e h.0, h.1)
-  lacks_begun c (line_break b ∷ rest) e h = (any_one test c [] e refl, h)
+  lacks_begun c ps e h = grind (arith, nat_tests, any_one)
 
   -- a break or another character before parts
   lacks_part : (b : Bool) (c : ℕ) (ps : List Part) → test c ≡ false → PartsLack ps → PartsLack (if b then line_break c ∷ ps else begun c ps)
-  lacks_part true c ps e h = (e, h)
-  lacks_part false c ps e h = lacks_begun c ps e h
+  lacks_part b c ps e h = grind (arith, nat_tests, lacks_begun)
 
   -- a value's parts
   lacks_parts : (value : Text) → list_any test value ≡ false → PartsLack (parts value)
   lacks_parts [] h = tt
-  lacks_parts (c ∷ rest) h =
-      let p = or_parts (test c) (list_any test rest) h in
-      lacks_part (is_break c) c (parts rest) p.0 (lacks_parts rest p.1)
+  lacks_parts (c ∷ rest) h = grind (arith, nat_tests, or_parts, list_any, lacks_part, is_break, parts, lacks_parts rest)
 
   module _ (spares : Spares test) where
     -- a fold, or a character that stays
     lacks_fold : (fold : Bool) (c : ℕ) (further : List Part) → test c ≡ false → PartsLack further
         → PartsLack (if fold then line [] ∷ line_break line_feed ∷ further else begun c further)
-    lacks_fold true c further e h = (refl, (spares.feed, h))
-    lacks_fold false c further e h = lacks_begun c further e h
+    lacks_fold fold c further e h = grind (arith, nat_tests, lacks_begun)
 
     -- a line that is cut
     lacks_cut : (limit : Option ℕ) (indent column : ℕ) (text : Text) → list_any test text ≡ false → PartsLack (cut_from limit indent column text)
@@ -65,14 +59,12 @@ module _ (test : ℕ → Bool) where
     lacks_cut_line limit indent text h = by (begins_with is_space text)
       where
         by : (b : Bool) → PartsLack (if b then line text ∷ [] else cut_from limit indent indent text)
-        by true = (h, tt)
-        by false = lacks_cut limit indent indent text h
+        by b = grind (arith, nat_tests, lacks_cut)
 
     -- a break once or twice
     lacks_twice : (twice : Bool) (b : ℕ) (further : List Part) → test b ≡ false → PartsLack further
         → PartsLack ((if twice then line_break b ∷ line_break b ∷ [] else line_break b ∷ []) ++ further)
-    lacks_twice true b further e h = (e, (e, h))
-    lacks_twice false b further e h = (e, h)
+    lacks_twice twice b further e h = grind (arith, nat_tests)
 
     -- folded parts
     lacks_folded_parts : (limit : Option ℕ) (indent : ℕ) (after_even : Bool) (ps : List Part) → PartsLack ps
@@ -82,8 +74,7 @@ module _ (test : ℕ → Bool) where
         lacks_joined (cut_line limit indent text) _ (lacks_cut_line limit indent text h.0)
         (lacks_folded_parts limit indent (not (begins_with is_space text)) rest h.1)
     lacks_folded_parts limit indent after_even (line_break b ∷ rest) h =
-        lacks_twice (after_even && b == line_feed && next_line_unindented rest) b (folded_parts limit indent false rest) h.0
-        (lacks_folded_parts limit indent false rest h.1)
+        grind (arith, nat_tests, lacks_twice, line_feed, next_line_unindented, folded_parts, lacks_folded_parts limit indent false rest)
 
     -- parts with their indentation
     lacks_indented : (indent : ℕ) (ps : List Part) → PartsLack ps → list_any test (indented indent ps) ≡ false
@@ -93,19 +84,15 @@ module _ (test : ℕ → Bool) where
 
     -- the indicator of a value's end
     lacks_hint : (e : Ending) → list_any test (ending_hint e) ≡ false
-    lacks_hint WithoutBreak = any_one test 45 [] (spares.graph 45 refl) refl
-    lacks_hint OneBreak = refl
-    lacks_hint MoreBreaks = any_one test 43 [] (spares.graph 43 refl) refl
+    lacks_hint e = grind (arith, nat_tests, any_one)
 
     -- the digit of the indent
     lacks_digit : (blank : Bool) (n : ℕ) → n ≤ 9 → list_any test (digit_text blank n) ≡ false
-    lacks_digit true n high = any_one test (48 + n) [] (spares.graph (48 + n) (one_digit n high)) refl
-    lacks_digit false n high = refl
+    lacks_digit blank n high = grind (arith, nat_tests, any_one, one_digit)
 
     -- a style's indicator
     lacks_indicator : (folded : Bool) → test (block_indicator_of folded) ≡ false
-    lacks_indicator true = spares.graph 62 refl
-    lacks_indicator false = spares.graph 124 refl
+    lacks_indicator folded = grind (arith, nat_tests)
 
     -- a header and lines
     lacks_block : (folded : Bool) (best_indent : ℕ) (value lines : Text) (cursor : Cursor) → best_indent ≤ 9 → list_any test lines ≡ false
@@ -137,16 +124,12 @@ module _ (charset : Charset) where
   -- nor does one that single quotes may hold
   pub special_single : (value : Text) → somewhere (bars_single_quoted charset) value ≡ false → list_any (is_special charset) value ≡ false
   special_single [] h = refl
-  special_single (c ∷ rest) h =
-      let p = or_parts (bars_single_quoted charset c rest) (somewhere (bars_single_quoted charset) rest) h in
-      any_one (is_special charset) c rest (or_parts _ _ (or_parts _ _ p.0).0).0 (special_single rest p.1)
+  special_single (c ∷ rest) h = grind (arith, nat_tests, or_parts, bars_single_quoted, somewhere, any_one, is_special, special_single rest)
 
   -- nor one that block styles may hold
   special_block : (value : Text) → somewhere (bars_block charset) value ≡ false → list_any (is_special charset) value ≡ false
   special_block [] h = refl
-  special_block (c ∷ rest) h =
-      let p = or_parts (bars_block charset c rest) (somewhere (bars_block charset) rest) h in
-      any_one (is_special charset) c rest (or_parts _ _ (or_parts _ _ p.0).0).0 (special_block rest p.1)
+  special_block (c ∷ rest) h = grind (arith, nat_tests, or_parts, bars_block, somewhere, any_one, is_special, special_block rest)
 
   -- if plain is allowed
   pub plain_unspecial : (flow : Bool) (value : Text) → allows_plain charset flow value ≡ true → list_any (is_special charset) value ≡ false
@@ -164,10 +147,7 @@ module _ (charset : Charset) where
   special_literal : (value : Text) → somewhere (bars_literal charset) value ≡ false → list_any (is_special_but_tab charset) value ≡ false
   special_literal [] h = refl
   special_literal (c ∷ rest) h =
-      let p = or_parts (bars_literal charset c rest) (somewhere (bars_literal charset) rest) h in
-      any_one (is_special_but_tab charset) c rest (or_parts (is_special_but_tab charset c) (is_break c && begins_with_blanks_alone rest) p.0).0
-      (special_literal rest p.1)
+      grind (arith, nat_tests, or_parts, bars_literal, somewhere, any_one, is_special_but_tab, is_break, begins_with_blanks_alone, special_literal rest)
 
   pub literal_unspecial : (value : Text) → allows_literal charset value ≡ true → list_any (is_special_but_tab charset) value ≡ false
-  literal_unspecial value h =
-      special_literal value (or_parts (is_empty value || begins_with_blanks_alone value) (somewhere (bars_literal charset) value) (not-true _ h)).1
+  literal_unspecial value h = grind (arith, nat_tests, special_literal, or_parts, is_empty, begins_with_blanks_alone, somewhere, bars_literal, not-true)

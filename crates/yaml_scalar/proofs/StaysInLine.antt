@@ -1,5 +1,5 @@
 -- A character that stays in its line is rendered as itself.
-use Rattle.yaml_scalar.proofs.Common.{suc, zero, ℕ, ◌+◌, ◌<◌, ◌≤◌, if◌then◌else◌, ◌==◌, IsUtf8, Option, None, Some, length, take, encode_utf8_all as encodes}
+use Rattle.yaml_scalar.proofs.Common.{suc, ℕ, ◌+◌, ◌<◌, ◌≤◌, if◌then◌else◌, ◌==◌, IsUtf8, Option, length, take, encode_utf8_all as encodes}
 use Rattle.yaml_scalar.proofs.Common.{Bool, false, true, ◌&&◌, List, [], ◌++◌, ◌∷◌, refl, ◌≡◌, length-take-le, ap, subst, sym, ◌∙◌, arith, and_parts}
 use Rattle.yaml_scalar.proofs.Common.{or_parts, not-true, nat_tests, IsUtf8-take, encodes-chars, list_all, IsCharBoundary, Text, is_space, is_break, Cursor}
 use Rattle.yaml_scalar.proofs.Common.{Rendered, render_then, next_column, render_text, is_past_width, CharacterKind, Space, Break, Other, kind_of, written_as}
@@ -21,15 +21,12 @@ stays_unbroken folds quotes c h = (stays_parts folds quotes c h).no_break
 
 -- by its kind
 other_kept : (quoted : Bool) (c : ℕ) → (quoted && c == 39) ≡ false → written_as quoted (c ∷ []) ≡ c ∷ []
-other_kept true c e = (written_each true).kept c e
-other_kept false c e = refl
+other_kept quoted c e = grind (arith, nat_tests, written_each)
 
 step_kept : (quoted past : Bool) (indent : ℕ) (before : CharacterKind) (c : ℕ) (rest : Text) (is_space is_break : Bool)
     → is_break ≡ false → (is_space && past) ≡ false → (quoted && c == 39) ≡ false
     → step_text (written_as quoted) past indent before (if is_space then Space else if is_break then Break else Other) c rest ≡ c ∷ []
-step_kept quoted false indent before c rest true broken e f g = refl
-step_kept quoted past indent before c rest false false e f g = other_kept quoted c g
-step_kept quoted _ indent before c rest _ _ e f g = cc
+step_kept quoted past indent before c rest is_space is_break e f g = grind (arith, nat_tests, other_kept)
 
 -- the text after a character in plain and single-quoted lines
 abbrev pub lines_after : (quoted : Bool) (limit : Option ℕ) (indent : ℕ) → ℕ → Text → Cursor → Rendered
@@ -37,29 +34,23 @@ lines_after quoted limit indent before = render_steps (written_as quoted) limit 
 
 -- a space of a run is not past the width
 unpast : (folds is_space past : Bool) → (is_space && folds) ≡ false → (folds ≡ false → past ≡ false) → (is_space && past) ≡ false
-unpast folds false past h room = refl
-unpast true true past h room = cc
-unpast false true past h room = room refl
+unpast folds is_space past h room = grind (arith, nat_tests)
 
 -- with room the cursor is not past the width
 room_past : (limit : Option ℕ) (cursor : Cursor) (count : ℕ) → HasRoom limit cursor.column (suc count) → is_past_width limit cursor ≡ false
-room_past None cursor count h = refl
-room_past (Some width) cursor count h = grind (arith, nat_tests)
+room_past limit cursor count h = grind (arith, nat_tests)
 
 -- after a character there is room for the others
 room_next : (limit : Option ℕ) (column count : ℕ) → HasRoom limit column (suc count) → HasRoom limit (column + 1) count
-room_next None column count h = tt
-room_next (Some width) column count h = omega arith
+room_next limit column count h = grind (arith, nat_tests)
 
 -- a number that isn't 0
 pub positive : (n : ℕ) → (n ≡ 0 → ⊥) → 0 < n
-positive zero h = absurd (h refl)
-positive (suc n) h = omega arith
+positive n h = grind (arith, nat_tests)
 
 -- with room for some characters there is room for fewer
 pub room_less : (limit : Option ℕ) (column count less : ℕ) → less ≤ count → HasRoom limit column count → HasRoom limit column less
-room_less None column count less le h = tt
-room_less (Some width) column count less le h = omega arith
+room_less limit column count less le h = grind (arith, nat_tests)
 
 -- characters that stay, with room for them or no space among them, are rendered as themselves
 pub line_at : (quoted : Bool) (limit : Option ℕ) (indent : ℕ) (folds : Bool) (before : ℕ) (run rest : Text) (cursor : Cursor)

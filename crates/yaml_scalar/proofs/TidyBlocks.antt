@@ -1,11 +1,11 @@
 -- Block scalars have deep lines: each line after the header holds a character that is no blank, and begins at its indentation.
 use Rattle.yaml_scalar.proofs.Common.{arith, suc, zero, ℕ, ◌+◌, ◌≤◌, if◌then◌else◌, Option, replicate, Bool, false, not, true, List, [], ◌++◌, ◌∷◌, ◌⊎◌, refl}
-use Rattle.yaml_scalar.proofs.Common.{◌≡◌, true≢false, append_assoc, inl, inr, ap, sym, ◌∙◌, and_from, or_parts, or_right, not-true, Text, or_from, and-false}
-use Rattle.yaml_scalar.proofs.Common.{tab, ◌==◌, ◌&&◌, ◌||◌, is_blank, is_special, is_special_but_tab, is_blank_to_line_end, begins_with_blanks_alone, space}
+use Rattle.yaml_scalar.proofs.Common.{◌≡◌, true≢false, append_assoc, inl, inr, ap, ◌∙◌, and_from, or_parts, or_right, not-true, Text, or_from, and-false}
+use Rattle.yaml_scalar.proofs.Common.{tab, ◌==◌, ◌&&◌, is_blank, is_special, is_special_but_tab, is_blank_to_line_end, begins_with_blanks_alone, space}
 use Rattle.yaml_scalar.proofs.Common.{bars_literal, allows_literal, line_feed, is_space, is_break, Cursor, is_read_break, begins_with_spaces, has_deep_lines}
 use Rattle.yaml_scalar.proofs.Common.{begins_with_blank_line, begins_with_deep_line, Charset, somewhere, begins_with, is_empty, bars_block, allows_block, folds}
-use Rattle.yaml_scalar.proofs.Common.{Ending, WithoutBreak, OneBreak, MoreBreaks, ending, begins_blank, ending_hint, block_body, cut_from, cut_line, Part}
-use Rattle.yaml_scalar.proofs.Common.{folded_parts, folded_body, line, line_break, begun, parts, indented, literal_body}
+use Rattle.yaml_scalar.proofs.Common.{Ending, ending, begins_blank, ending_hint, block_body, cut_from, cut_line, Part}
+use Rattle.yaml_scalar.proofs.Common.{folded_parts, folded_body, line, line_break, begun, parts, indented, literal_body, nat_tests}
 use Rattle.yaml_scalar.proofs.{Sparing.is_graph, SparingBlocks.one_digit, TidyQuoted.graph_no_break, blocks.BlockFolds.fold-spaced}
 use Rattle.yaml_scalar.proofs.DeepLines.{Unbroken, unblank_line, space_unbroken, enough_spaces, deep_break, deep_unbroken, spaces_unbroken, deep_after}
 use Rattle.yaml_base.proofs.Charsets.{special_tab}
@@ -27,8 +27,7 @@ module _ (breaks12 : Bool) where
   -- a line isn't blank if the text after its first character isn't
   blank_after : (c : ℕ) (further : Text) → is_read_break breaks12 c ≡ false → begins_with_blank_line breaks12 further ≡ false
       → begins_with_blank_line breaks12 (c ∷ further) ≡ false
-  blank_after c further u h =
-      ap (λ x. x || (is_blank c && begins_with_blank_line breaks12 further)) u ∙ ap (λ x. is_blank c && x) h ∙ and-false (is_blank c)
+  blank_after c further u h = grind (arith, nat_tests, is_blank, begins_with_blank_line, and-false)
 
   -- such a line isn't blank
   full_blank : (text rest : Text) → Unbroken breaks12 text → HasInk text → begins_with_blank_line breaks12 (text ++ rest) ≡ false
@@ -47,10 +46,7 @@ module _ (breaks12 : Bool) where
     lines_begin : (ps : List Part) → AreFull ps → begins_with_deep_line breaks12 count (indented indent ps) ≡ true
     lines_begin [] h = refl
     lines_begin (line text ∷ rest) h =
-        or_right _ _ (and_from _ _
-        (ap (begins_with_spaces count) (append_assoc (replicate indent space) text (indented indent rest))
-        ∙ enough_spaces breaks12 count indent (text ++ indented indent rest) enough)
-        (ap not (spaces_blank indent text (indented indent rest) h.0 h.1)))
+        grind (arith, nat_tests, or_right, and_from, begins_with_spaces, append_assoc, replicate, space, indented, enough_spaces, not, spaces_blank)
     lines_begin (line_break b ∷ rest) h = deep_break breaks12 count (b ∷ indented indent rest) h.0
 
     -- indented parts have deep lines
@@ -66,19 +62,15 @@ module _ (breaks12 : Bool) where
 
     -- the indicator of a value's end breaks no line
     hint_unbroken : (e : Ending) → Unbroken breaks12 (ending_hint e)
-    hint_unbroken WithoutBreak = (graph_no_break breaks12 45 refl, tt)
-    hint_unbroken OneBreak = tt
-    hint_unbroken MoreBreaks = (graph_no_break breaks12 43 refl, tt)
+    hint_unbroken e = grind (arith, nat_tests, graph_no_break)
 
     -- nor does a digit
     digit_unbroken : (blank : Bool) (n : ℕ) → is_graph (48 + n) ≡ true → Unbroken breaks12 (digit_text blank n)
-    digit_unbroken true n h = (graph_no_break breaks12 (48 + n) h, tt)
-    digit_unbroken false n h = tt
+    digit_unbroken blank n h = grind (arith, nat_tests, graph_no_break)
 
     -- nor a style's indicator
     indicator_unbroken : (folded : Bool) → is_read_break breaks12 (block_indicator_of folded) ≡ false
-    indicator_unbroken true = graph_no_break breaks12 62 refl
-    indicator_unbroken false = graph_no_break breaks12 124 refl
+    indicator_unbroken folded = grind (arith, nat_tests, graph_no_break)
 
     -- a header and such lines
     block_deep : (folded : Bool) (best_indent : ℕ) (value : Text) (ps : List Part) (cursor : Cursor) → is_graph (48 + best_indent) ≡ true → AreFull ps
@@ -117,33 +109,26 @@ module _ (breaks12 : Bool) where
 
   -- one more character before such a text
   ended_more : (c : ℕ) (text : Text) → (c == tab) ≡ false → EndsInk text → EndsInk (c ∷ text)
-  ended_more c [] t h = absurd h
-  ended_more c (d ∷ rest) t h = (t, h)
+  ended_more c text t h = grind (arith, nat_tests)
 
   -- a character before such parts, if it isn't a blank that ends a line
   ended_begun : (c : ℕ) (ps : List Part) → is_read_break breaks12 c ≡ false → (c == tab) ≡ false → (is_blank c ≡ false) ⊎ BeginsLine ps → AreEnded ps
       → AreEnded (begun c ps)
-  ended_begun c [] u t (inl s) h = ((u, tt), s, tt)
-  ended_begun c [] u t (inr begins) h = absurd begins
-  ended_begun c (line text ∷ rest) u t s h = ((u, h.0), ended_more c text t h.1, h.2)
-  ended_begun c (line_break b ∷ rest) u t (inl s) h = ((u, tt), s, h)
-  ended_begun c (line_break b ∷ rest) u t (inr begins) h = absurd begins
+  ended_begun c ps u t s h = grind (arith, nat_tests, ended_more)
 
   -- a break or such a character
   ended_part : (b : Bool) (c : ℕ) (ps : List Part) → is_read_break breaks12 c ≡ b → (c == tab) ≡ false → (is_blank c ≡ false) ⊎ BeginsLine ps → AreEnded ps
       → AreEnded (if b then line_break c ∷ ps else begun c ps)
-  ended_part true c ps e t s h = (e, h)
-  ended_part false c ps e t s h = ended_begun c ps e t s h
+  ended_part b c ps e t s h = grind (arith, nat_tests, ended_begun)
 
   -- Lines that are cut
 
   -- facts about a line that is cut: its parts hold no break, all but the first are full, and the first is if the line
   -- begins with no space
   abbrev IsCut : Text → List Part → Type 0
-  IsCut text [] = ⊥
-  IsCut text (line_break b ∷ others) = ⊥
   IsCut text (line first ∷ others) =
       Unbroken breaks12 first × AreFull others × (begins_with is_space text ≡ false → is_empty text ≡ false → HasInk first)
+  IsCut text _ = ⊥
 
   -- or the text is empty
   abbrev EndsInkOrNone : Text → Type 0
@@ -152,28 +137,21 @@ module _ (breaks12 : Bool) where
 
   -- the text after the first character
   ended_rest : (c : ℕ) (rest : Text) → EndsInk (c ∷ rest) → EndsInkOrNone rest
-  ended_rest c [] h = tt
-  ended_rest c (d ∷ rest) h = h.1
+  ended_rest c rest h = grind (arith, nat_tests)
 
   -- the first character is no tab
   ended_no_tab : (c : ℕ) (rest : Text) → EndsInk (c ∷ rest) → (c == tab) ≡ false
-  ended_no_tab c [] h = (or_parts (is_space c) (c == tab) h).1
-  ended_no_tab c (d ∷ rest) h = h.0
+  ended_no_tab c rest h = grind (arith, nat_tests, or_parts, is_space, tab)
 
   -- a space isn't the last
   ended_some : (c : ℕ) (rest : Text) → EndsInk (c ∷ rest) → is_space c ≡ true → is_empty rest ≡ false
-  ended_some c [] h s = absurd (true≢false (sym s ∙ (or_parts (is_space c) (c == tab) h).0))
-  ended_some c (d ∷ rest) h s = refl
+  ended_some c rest h s = grind (arith, nat_tests, true≢false, or_parts, is_space, tab)
 
   -- one character more
   cut_step : (c : ℕ) (rest : Text) → is_read_break breaks12 c ≡ false → EndsInk (c ∷ rest) → (further : List Part) → IsCut rest further
       → (fold : Bool) → (fold ≡ true → (is_space c ≡ true) × (begins_with is_space rest ≡ false))
       → IsCut (c ∷ rest) (if fold then line [] ∷ line_break line_feed ∷ further else begun c further)
-  cut_step c rest u ends [] k fold f = absurd k
-  cut_step c rest u ends (line_break b ∷ others) k fold f = absurd k
-  cut_step c rest u ends (line first ∷ others) k true f = grind (arith, ended_some, true≢false)
-  cut_step c rest u ends (line first ∷ others) k false f =
-      ((u, k.0), k.1, λ none some. inl (or_from (is_space c) (c == tab) none (ended_no_tab c rest ends)))
+  cut_step c rest u x further k fold f = grind (arith, nat_tests, ended_some, true≢false, or_from, is_space, tab, ended_no_tab)
 
   -- a line from some column on
   cut_known : (limit : Option ℕ) (indent column : ℕ) (text : Text) → Unbroken breaks12 text → EndsInkOrNone text
@@ -186,19 +164,15 @@ module _ (breaks12 : Bool) where
 
   -- so all parts are full if the line begins with no space
   cut_full : (text : Text) (ps : List Part) → begins_with is_space text ≡ false → is_empty text ≡ false → IsCut text ps → AreFull ps
-  cut_full text [] none some k = absurd k
-  cut_full text (line first ∷ others) none some k = (k.0, k.2 none some, k.1)
-  cut_full text (line_break b ∷ others) none some k = absurd k
+  cut_full text ps x some k = grind (arith, nat_tests)
 
   -- a text that ends so, or is empty
   ended_or : (text : Text) → EndsInk text → EndsInkOrNone text
-  ended_or [] h = tt
-  ended_or (c ∷ rest) h = h
+  ended_or text h = grind (arith, nat_tests)
 
   -- a text that ends so isn't empty
   ended_not_empty : (text : Text) → EndsInk text → is_empty text ≡ false
-  ended_not_empty [] h = absurd h
-  ended_not_empty (c ∷ rest) h = refl
+  ended_not_empty text h = grind (arith, nat_tests)
 
   -- a line's parts, cut or whole
   line_full : (limit : Option ℕ) (indent : ℕ) (text : Text) → Unbroken breaks12 text → EndsInk text → AreFull (cut_line limit indent text)
@@ -213,15 +187,13 @@ module _ (breaks12 : Bool) where
   -- a break once or twice before full parts
   full_twice : (twice : Bool) (b : ℕ) (further : List Part) → is_read_break breaks12 b ≡ true → AreFull further
       → AreFull ((if twice then line_break b ∷ line_break b ∷ [] else line_break b ∷ []) ++ further)
-  full_twice true b further e h = (e, (e, h))
-  full_twice false b further e h = (e, h)
+  full_twice twice b further e h = grind (arith, nat_tests)
 
   -- folded parts are full
   folded_full : (limit : Option ℕ) (indent : ℕ) (after_even : Bool) (ps : List Part) → AreEnded ps → AreFull (folded_parts limit indent after_even ps)
   folded_full limit indent after_even [] h = tt
   folded_full limit indent after_even (line text ∷ rest) h =
-      full_joined (cut_line limit indent text) _ (line_full limit indent text h.0 h.1)
-      (folded_full limit indent (not (begins_with is_space text)) rest h.2)
+      grind (arith, nat_tests, full_joined, cut_line, line_full, not, begins_with, is_space, folded_full limit indent (not (begins_with is_space text)) rest)
   folded_full limit indent after_even (line_break b ∷ rest) h = grind (arith, full_twice, folded_full limit indent false rest h.1)
 
 -- A value that block styles may hold.
@@ -229,12 +201,10 @@ module _ (charset : Charset) where
   -- a blank is neither last nor before a break
   blank_last : (c : ℕ) (rest : Text) → is_special charset c ≡ false → (is_space c ≡ false) ⊎ BeginsLine (parts rest)
       → (is_blank c ≡ false) ⊎ BeginsLine (parts rest)
-  blank_last c rest special (inl none) = inl (or_from (is_space c) (c == tab) none (special_tab charset c special))
-  blank_last c rest special (inr begins) = inr begins
+  blank_last c rest special x = grind (arith, nat_tests, or_from, is_space, tab, special_tab)
 
   space_inside : (c : ℕ) (rest : Text) → bars_block charset c rest ≡ false → (is_space c ≡ false) ⊎ BeginsLine (parts rest)
-  space_inside c [] h = grind (arith, or_parts)
-  space_inside c (d ∷ rest) h = grind (arith, or_parts, begun-line)
+  space_inside c rest h = grind (arith, nat_tests, or_parts, begun-line)
 
   -- such a value's lines end with no blank
   parts_ended : (value : Text) → somewhere (bars_block charset) value ≡ false → AreEnded charset.breaks12 (parts value)
@@ -266,47 +236,35 @@ module _ (charset : Charset) where
 
   -- the first part is a line that isn't of blanks alone
   abbrev BeginsInked : List Part → Type 0
-  BeginsInked [] = ⊥
   BeginsInked (line text ∷ rest) = HasInk charset.breaks12 text
-  BeginsInked (line_break b ∷ rest) = ⊥
+  BeginsInked _ = ⊥
 
   -- if the first part is a line, it isn't
   abbrev BeginsUnblank : List Part → Type 0
-  BeginsUnblank [] = Unit {0}
   BeginsUnblank (line text ∷ rest) = HasInk charset.breaks12 text
-  BeginsUnblank (line_break b ∷ rest) = Unit {0}
+  BeginsUnblank _ = Unit {0}
 
   -- a character that is no blank begins such a line, and a blank goes on to one
   inked_begun : (c : ℕ) (ps : List Part) → is_blank c ≡ false → BeginsInked (begun c ps)
-  inked_begun c [] e = inl e
-  inked_begun c (line text ∷ rest) e = inl e
-  inked_begun c (line_break b ∷ rest) e = inl e
+  inked_begun c ps e = grind (arith, nat_tests)
 
   inked_more : (c : ℕ) (ps : List Part) → BeginsInked ps → BeginsInked (begun c ps)
-  inked_more c [] h = absurd h
-  inked_more c (line text ∷ rest) h = inr h
-  inked_more c (line_break b ∷ rest) h = absurd h
+  inked_more c ps h = grind (arith, nat_tests)
 
   -- so it is if a text isn't of blanks alone up to the end of its line
   inked : (value : Text) → is_blank_to_line_end value ≡ false → BeginsInked (parts value)
   inked [] h = absurd (true≢false h)
-  inked (c ∷ rest) h =
-      let goes_on = or_parts (is_break c) (is_blank c && is_blank_to_line_end rest) h in
-      by (is_break c) goes_on.0 (through (is_blank c) refl goes_on.1 (λ more. inked rest more))
+  inked (c ∷ rest) h = grind (arith, nat_tests, or_parts, is_break, is_blank, is_blank_to_line_end, through, inked rest)
     where
       through : (x : Bool) → is_blank c ≡ x → (x && is_blank_to_line_end rest) ≡ false
           → (is_blank_to_line_end rest ≡ false → BeginsInked (parts rest)) → BeginsInked (begun c (parts rest))
-      through true e h more = inked_more c (parts rest) (more h)
-      through false e h more = inked_begun c (parts rest) e
+      through x e h more = grind (arith, nat_tests, inked_more, parts, inked_begun)
 
       by : (x : Bool) → x ≡ false → BeginsInked (begun c (parts rest)) → BeginsInked (if x then line_break c ∷ parts rest else begun c (parts rest))
-      by true e h = absurd (true≢false e)
-      by false e h = h
+      by x e h = grind (arith, nat_tests, true≢false)
 
   unblank : (ps : List Part) → BeginsInked ps → BeginsUnblank ps
-  unblank [] h = absurd h
-  unblank (line text ∷ rest) h = h
-  unblank (line_break b ∷ rest) h = absurd h
+  unblank ps h = grind (arith, nat_tests)
 
   -- if no line of blanks alone begins, the first line isn't one
   unblank_first : (value : Text) → begins_with_blanks_alone value ≡ false → BeginsUnblank (parts value)
@@ -314,12 +272,10 @@ module _ (charset : Charset) where
   unblank_first (c ∷ rest) h = by (is_break c) (through (is_blank c) refl h)
     where
       through : (x : Bool) → is_blank c ≡ x → (x && is_blank_to_line_end rest) ≡ false → BeginsInked (begun c (parts rest))
-      through true e h = inked_more c (parts rest) (inked rest h)
-      through false e h = inked_begun c (parts rest) e
+      through x e h = grind (arith, nat_tests, inked_more, parts, inked, inked_begun)
 
       by : (x : Bool) → BeginsInked (begun c (parts rest)) → BeginsUnblank (if x then line_break c ∷ parts rest else begun c (parts rest))
-      by true h = tt
-      by false h = unblank (begun c (parts rest)) h
+      by x h = grind (arith, nat_tests, unblank, begun, parts)
 
   -- then all are full
   all_full : (ps : List Part) → FullBehindFirst ps → BeginsUnblank ps → AreFull charset.breaks12 ps
@@ -329,9 +285,7 @@ module _ (charset : Charset) where
 
   -- a character before such parts
   full_begun : (c : ℕ) (ps : List Part) → is_read_break charset.breaks12 c ≡ false → FullBehindFirst ps → FullBehindFirst (begun c ps)
-  full_begun c [] u h = ((u, tt), tt)
-  full_begun c (line text ∷ rest) u h = ((u, h.0), h.1)
-  full_begun c (line_break b ∷ rest) u h = ((u, tt), h)
+  full_begun c ps u h = grind (arith, nat_tests)
 
   full_behind : (value : Text) → somewhere (bars_literal charset) value ≡ false → FullBehindFirst (parts value)
   full_behind [] h = tt
@@ -342,14 +296,11 @@ module _ (charset : Charset) where
     where
       by : (x : Bool) → is_read_break charset.breaks12 c ≡ x → (x && begins_with_blanks_alone rest) ≡ false → FullBehindFirst (parts rest)
           → FullBehindFirst (if x then line_break c ∷ parts rest else begun c (parts rest))
-      by true e h more = (e, all_full (parts rest) more (unblank_first rest h))
-      by false e h more = full_begun c (parts rest) e more
+      by x e h more = grind (arith, nat_tests, all_full, parts, unblank_first, full_begun)
 
   value_full : (value : Text) → allows_literal charset value ≡ true → AreFull charset.breaks12 (parts value)
   value_full value allowed =
-      let bars = or_parts (is_empty value || begins_with_blanks_alone value) (somewhere (bars_literal charset) value) (not-true _ allowed) in
-      all_full (parts value) (full_behind value bars.1)
-      (unblank_first value (or_parts (is_empty value) (begins_with_blanks_alone value) bars.0).1)
+      grind (arith, nat_tests, or_parts, is_empty, begins_with_blanks_alone, somewhere, bars_literal, not-true, all_full, parts, full_behind, unblank_first)
 
   -- a literal body has deep lines
   pub literal_deep : (count indent best_indent : ℕ) (value : Text) (cursor : Cursor) → count ≤ indent → best_indent ≤ 9

@@ -5,7 +5,7 @@ use Rattle.yaml_scalar.proofs.Common.{append-nil, append_assoc, ap, subst, sym, 
 use Rattle.yaml_scalar.proofs.Common.{line_feed, tab, is_space, is_blank, is_break, Cursor, render_text, is_past_width, is_read_break, and-true, is_read_white}
 use Rattle.yaml_scalar.proofs.Common.{begins_with_break, Charset, somewhere, begins_with, is_empty, is_special, begins_unlike_plain, bars_plain, allows_plain}
 use Rattle.yaml_scalar.proofs.Common.{bars_single_quoted, allows_single_quoted, CharacterKind, Space, Break, Other, kind_of, is_same_kind, indentation}
-use Rattle.yaml_scalar.proofs.Common.{plain_body, quotes_doubled, single_quote, single_quoted_body, begins_kind, step_text, render_steps}
+use Rattle.yaml_scalar.proofs.Common.{plain_body, quotes_doubled, single_quote, single_quoted_body, begins_kind, step_text, render_steps, arith, nat_tests}
 use Rattle.yaml_base.proofs.{Charsets.special_tab, Common.ends_white, Common.has_clean_edges}
 use Rattle.yaml_scalar.proofs.{LineIndents.others_only, LineRuns.runs_by_steps, PlainStarts.kind_of_indicator, SingleReads.doubled_writes}
 use Rattle.yaml_scalar.proofs.{blocks.BlockReads.ordinary}
@@ -17,27 +17,20 @@ use Rattle.yaml_scalar.proofs.PlainReads.{itself_writes, plain_is_single, plain_
 -- Kinds.
 
 not_spaces : (s b : Bool) → s ≡ false → is_same_kind Space (if s then Space else if b then Break else Other) ≡ false
-not_spaces true b e = absurd (true≢false e)
-not_spaces false true e = refl
-not_spaces false false e = refl
+not_spaces s b e = grind (arith, nat_tests, true≢false)
 
 not_breaks : (s b : Bool) → b ≡ false → is_same_kind Break (if s then Space else if b then Break else Other) ≡ false
-not_breaks s true e = absurd (true≢false e)
-not_breaks true false e = refl
-not_breaks false false e = refl
+not_breaks s b e = grind (arith, nat_tests, true≢false)
 
 others_no_space : (s b : Bool) → (if s then Space else if b then Break else Other) ≡ Other → s ≡ false
-others_no_space true b e = cc
-others_no_space false b e = refl
+others_no_space s b e = grind (arith, nat_tests)
 
 -- a text that doesn't begin with a space doesn't begin with their kind, and likewise for breaks
 kind_no_space : (rest : Text) → begins_with is_space rest ≡ false → begins_kind Space rest ≡ false
-kind_no_space [] h = refl
-kind_no_space (d ∷ rest) h = not_spaces (is_space d) (is_break d) h
+kind_no_space rest h = grind (arith, nat_tests, not_spaces, is_space, is_break)
 
 kind_no_break : (rest : Text) → begins_with is_break rest ≡ false → begins_kind Break rest ≡ false
-kind_no_break [] h = refl
-kind_no_break (d ∷ rest) h = not_breaks (is_space d) (is_break d) h
+kind_no_break rest h = grind (arith, nat_tests, not_breaks, is_space, is_break)
 
 -- a text goes on with another character than a space or a break, or ends before a closing quote
 abbrev next_ink : (closed : Bool) → Text → Bool
@@ -45,9 +38,7 @@ next_ink closed [] = closed
 next_ink closed (c ∷ rest) = is_same_kind Other (kind_of c)
 
 third_kind : (kind : CharacterKind) → is_same_kind Space kind ≡ false → is_same_kind Break kind ≡ false → is_same_kind Other kind ≡ true
-third_kind Space h k = absurd (true≢false h)
-third_kind Break h k = absurd (true≢false k)
-third_kind Other h k = refl
+third_kind kind h k = grind (arith, nat_tests, true≢false)
 
 next_other : (closed : Bool) (rest : Text) → begins_kind Space rest ≡ false → begins_kind Break rest ≡ false → (is_empty rest ≡ true → closed ≡ true)
     → next_ink closed rest ≡ true
@@ -61,21 +52,17 @@ ends_closed closed (c ∷ []) = closed || not (is_break c)
 ends_closed closed (c ∷ d ∷ rest) = ends_closed closed (d ∷ rest)
 
 closed_rest : (closed : Bool) (c : ℕ) (rest : Text) → ends_closed closed (c ∷ rest) ≡ true → ends_closed closed rest ≡ true
-closed_rest closed c [] h = refl
-closed_rest closed c (d ∷ rest) h = h
+closed_rest closed c rest h = grind (arith, nat_tests)
 
 closed_break : (closed : Bool) (c : ℕ) (rest : Text) → ends_closed closed (c ∷ rest) ≡ true → is_break c ≡ true → is_empty rest ≡ true → closed ≡ true
-closed_break true c rest h b e = refl
-closed_break false c [] h b e = absurd (false≢true (ap not (sym b) ∙ h))
-closed_break false c (d ∷ rest) h b e = absurd (false≢true e)
+closed_break closed c rest h b e = grind (arith, nat_tests, false≢true, not)
 
 -- the closing quote, or nothing
 abbrev ending_quote : Bool → Text
 ending_quote closed = if closed then 39 ∷ [] else []
 
 quote_ink : (breaks12 : Bool) → Ink breaks12 39
-quote_ink true = record { no_space = refl; no_tab = refl; no_break = refl }
-quote_ink false = record { no_space = refl; no_tab = refl; no_break = refl }
+quote_ink breaks12 = grind (arith, nat_tests)
 
 module _ (charset : Charset) (count indent : ℕ) (enough : count ≤ indent) (closed : Bool) where
   -- facts about a value's lines from some character on, up to the closing quote
@@ -86,24 +73,16 @@ module _ (charset : Charset) (count indent : ℕ) (enough : count ≤ indent) (c
     pub broken : is_same_kind before Break ≡ true → begins_kind Break value ≡ true → begins_with_break charset.breaks12 text ≡ true
 
   even_end : (closed : Bool) → IsEven charset.breaks12 count (ending_quote closed)
-  even_end true = even_ink charset.breaks12 count (39 ∷ []) [] (quote_ink charset.breaks12, tt) (even_nothing charset.breaks12 count)
-  even_end false = even_nothing charset.breaks12 count
+  even_end closed = grind (arith, nat_tests, even_ink, quote_ink, even_nothing)
 
   ink_end : (closed : Bool) → closed ≡ true → BeginsInk charset.breaks12 (ending_quote closed)
-  ink_end true h = quote_ink charset.breaks12
-  ink_end false h = absurd (false≢true h)
+  ink_end closed h = grind (arith, nat_tests, quote_ink, false≢true)
 
   unbroken_end : (closed : Bool) → begins_with_break charset.breaks12 (ending_quote closed) ≡ false
-  unbroken_end true = (quote_ink charset.breaks12).no_break
-  unbroken_end false = refl
+  unbroken_end closed = grind (arith, nat_tests, quote_ink)
 
   lines_end : (before : CharacterKind) → LinesEven before [] (ending_quote closed)
-  lines_end before = record {
-    begins_unindented = even_end closed;
-    ink = λ h. ink_end closed h;
-    unbroken = λ e k. unbroken_end closed;
-    broken = λ e k. absurd (false≢true k);
-  }
+  lines_end before = grind (arith, nat_tests, even_end, ink_end, unbroken_end, false≢true)
 
   -- a fold in place of a space
   space_folded : (before : CharacterKind) (rest text : Text) → is_same_kind before Space ≡ false → next_ink closed rest ≡ true → LinesEven Space rest text
@@ -118,33 +97,17 @@ module _ (charset : Charset) (count indent : ℕ) (enough : count ≤ indent) (c
   -- a space that stays
   space_kept : (before : CharacterKind) (rest text : Text) → begins_kind Break rest ≡ false → LinesEven Space rest text
       → LinesEven before (space ∷ rest) (space ∷ text)
-  space_kept before rest text next ih = record {
-    begins_unindented = even_space charset.breaks12 count text (ih.unbroken refl next) ih.begins_unindented;
-    ink = λ e. absurd (false≢true e);
-    unbroken = λ e k. space_unbroken charset.breaks12;
-    broken = λ e k. absurd (false≢true k);
-  }
+  space_kept before rest text next ih = grind (arith, nat_tests, even_space, false≢true, space_unbroken, ih.unbroken refl next)
 
   -- facts after a break
   break_begins : (before : CharacterKind) (c : ℕ) (rest text : Text) → kind_of c ≡ Break → is_read_break charset.breaks12 c ≡ true
       → IsEven charset.breaks12 count (c ∷ text) → LinesEven before (c ∷ rest) (c ∷ text)
-  break_begins before c rest text k brk even = record {
-    begins_unindented = even;
-    ink = λ e. absurd (false≢true (ap (is_same_kind Other) (sym k) ∙ e));
-    unbroken = λ e none. absurd (true≢false (ap (is_same_kind Break) (sym k) ∙ none));
-    broken = λ e b. brk;
-  }
+  break_begins before c rest text k brk even = grind (arith, nat_tests, false≢true, is_same_kind, true≢false)
 
   -- a break, after LF if it is doubled
   break_doubled : (twice : Bool) (before : CharacterKind) (c : ℕ) (rest text : Text) → kind_of c ≡ Break → is_read_break charset.breaks12 c ≡ true
       → LinesEven before (c ∷ rest) (c ∷ text) → LinesEven before (c ∷ rest) ((if twice then line_feed ∷ [] else []) ++ (c ∷ text))
-  break_doubled false before c rest text k brk h = h
-  break_doubled true before c rest text k brk h = record {
-    begins_unindented = even_break charset.breaks12 count line_feed (c ∷ text) refl (deep_break charset.breaks12 count (c ∷ text) brk) h.begins_unindented;
-    ink = λ e. absurd (false≢true (ap (is_same_kind Other) (sym k) ∙ e));
-    unbroken = λ e none. absurd (true≢false (ap (is_same_kind Break) (sym k) ∙ none));
-    broken = λ e b. refl;
-  }
+  break_doubled twice before c rest text k brk h = grind (arith, nat_tests, even_break, line_feed, deep_break, false≢true, is_same_kind, true≢false)
 
   -- a break that goes on, or the indentation after it
   break_line : (goes_on : Bool) (before : CharacterKind) (c : ℕ) (rest text : Text) → kind_of c ≡ Break → is_read_break charset.breaks12 c ≡ true
@@ -170,11 +133,7 @@ module _ (charset : Charset) (count indent : ℕ) (enough : count ≤ indent) (c
 
   -- a character that isn't special and neither a space nor a break is ink
   ink_of : (c : ℕ) → is_special charset c ≡ false → kind_of c ≡ Other → Ink charset.breaks12 c
-  ink_of c clean k = record {
-    no_space = others_no_space (is_space c) (is_break c) k;
-    no_tab = special_tab charset c clean;
-    no_break = (ordinary charset c clean).same_break ∙ others_only (is_space c) (is_break c) k;
-  }
+  ink_of c clean k = grind (arith, nat_tests, others_no_space, is_space, is_break, special_tab, ordinary, others_only)
 
   -- how each character of a value is written
   record InksEach (written : Text → Text) : Type 0 where
@@ -241,15 +200,13 @@ doubled_inks : (breaks12 : Bool) (c : ℕ) → Ink breaks12 c → AllInk breaks1
 doubled_inks breaks12 c ink = by (c == 39)
   where
     by : (quoted : Bool) → AllInk breaks12 ((if quoted then 39 ∷ 39 ∷ [] else c ∷ []) ++ [])
-    by true = (quote_ink breaks12, (quote_ink breaks12, tt))
-    by false = (ink, tt)
+    by quoted = grind (arith, nat_tests, quote_ink, ink)
 
 doubled_begins : (breaks12 : Bool) (c : ℕ) (text : Text) → Ink breaks12 c → BeginsInk breaks12 (quotes_doubled (c ∷ []) ++ text)
 doubled_begins breaks12 c text ink = by (c == 39)
   where
     by : (quoted : Bool) → BeginsInk breaks12 (((if quoted then 39 ∷ 39 ∷ [] else c ∷ []) ++ []) ++ text)
-    by true = quote_ink breaks12
-    by false = ink
+    by quoted = grind (arith, nat_tests, quote_ink, ink)
 
 ends_always : (value : Text) → ends_closed true value ≡ true
 ends_always (c ∷ d ∷ rest) = ends_always (d ∷ rest)
@@ -271,8 +228,7 @@ single_even charset count limit indent value cursor enough allowed =
 -- a value that plain text may hold has no break, so it ends with none
 plain_ends : (charset : Charset) (flow : Bool) (value : Text) → somewhere (bars_plain charset flow) value ≡ false → ends_closed false value ≡ true
 plain_ends charset flow [] h = refl
-plain_ends charset flow (c ∷ []) h =
-    ap not (or_parts _ _ (or_parts _ _ (or_parts _ _ (or_parts _ _ (or_parts _ _ h).0).0).0).0).1
+plain_ends charset flow (c ∷ []) h = grind (arith, nat_tests, not, or_parts)
 plain_ends charset flow (c ∷ d ∷ rest) h = plain_ends charset flow (d ∷ rest) (or_parts _ _ h).1
 
 -- a plain body: its lines are deep, and no space precedes a break
@@ -299,13 +255,7 @@ record EndsInk (breaks12 : Bool) (text : Text) : Type 0 where
   pub ends : ends_white breaks12 text ≡ false
 
 ends_after : (breaks12 : Bool) (prefix text : Text) (c : ℕ) (rest : Text) → prefix ≡ c ∷ rest → EndsInk breaks12 text → EndsInk breaks12 (prefix ++ text)
-ends_after breaks12 prefix text c rest e h = record {
-  first = c;
-  more = rest ++ text;
-  is = ap (λ (t : Text). t ++ text) e;
-  ends = ap (λ (t : Text). ends_white breaks12 (prefix ++ t)) h.is ∙ ends_append breaks12 prefix h.first h.more
-      ∙ ap (ends_white breaks12) (sym h.is) ∙ h.ends;
-}
+ends_after breaks12 prefix text c rest e h = grind (arith, nat_tests, ends_white, ends_append)
 
 -- a step of plain text holds a character
 step_some : (folds : Bool) (indent : ℕ) (before kind : CharacterKind) (c : ℕ) (rest : Text)
@@ -327,18 +277,14 @@ step_some folds indent before Other c rest = (c, [], refl)
 -- a character of plain text that is no space is no blank and no break
 plain_white : (charset : Charset) (flow : Bool) (c : ℕ) (rest : Text) → bars_plain charset flow c rest ≡ false → is_space c ≡ false
     → is_read_white charset.breaks12 c ≡ false
-plain_white charset flow c rest h s =
-    let bars = or_parts _ _ (or_parts _ _ (or_parts _ _ (or_parts _ _ h).0).0).0 in
-    or_from (is_blank c) (is_read_break charset.breaks12 c) (or_from (is_space c) (c == tab) s (special_tab charset c bars.0))
-    ((ordinary charset c bars.0).same_break ∙ bars.1)
+plain_white charset flow c rest h s = grind (arith, nat_tests, or_parts, or_from, is_blank, is_read_break, is_space, tab, special_tab, ordinary)
 
 -- the last character of plain text is no space
 plain_last : (charset : Charset) (flow : Bool) (c : ℕ) → bars_plain charset flow c [] ≡ false → is_space c ≡ false
 plain_last charset flow c h = sym (and-true (is_space c)) ∙ (or_parts _ _ (or_parts _ _ (or_parts _ _ h).0).0).1
 
 plain_kind : (charset : Charset) (flow : Bool) (c : ℕ) (rest : Text) → bars_plain charset flow c rest ≡ false → is_space c ≡ false → kind_of c ≡ Other
-plain_kind charset flow c rest h s =
-    kind_of_indicator (is_space c) (is_break c) s (or_parts _ _ (or_parts _ _ (or_parts _ _ (or_parts _ _ h).0).0).0).1
+plain_kind charset flow c rest h s = grind (arith, nat_tests, kind_of_indicator, is_space, is_break, or_parts)
 
 -- a value's lines end as the value does
 lines_end_ink : (charset : Charset) (flow : Bool) (limit : Option ℕ) (indent : ℕ) (before : CharacterKind) (c : ℕ) (rest : Text) (cursor : Cursor)
@@ -375,6 +321,4 @@ lines_edges charset flow limit indent (c ∷ rest) cursor h begins =
 -- a plain body has no blank and no break at its edges
 pub plain_edges : (charset : Charset) (flow : Bool) (limit : Option ℕ) (indent : ℕ) (value : Text) (cursor : Cursor) → allows_plain charset flow value ≡ true
     → has_clean_edges charset.breaks12 (plain_body limit indent value cursor).text ≡ true
-plain_edges charset flow limit indent value cursor allowed =
-    rw (runs_by_steps (λ text. text) itself_writes limit indent value cursor)
-    (lines_edges charset flow limit indent value cursor (plain_bars charset flow value allowed) (plain_begins charset flow value allowed))
+plain_edges charset flow limit indent value cursor allowed = grind (arith, nat_tests, runs_by_steps, itself_writes, lines_edges, plain_bars, plain_begins)

@@ -34,9 +34,7 @@ graph_inks breaks12 (c ∷ rest) h = let p = and_parts (is_graph c) (list_all is
 module _ (breaks12 unicode : Bool) (count indent : ℕ) (enough : count ≤ indent) where
   -- a character that is no space and needs no escape
   raw_ink : (c : ℕ) → is_space c ≡ false → needs_escape unicode c ≡ false → Ink breaks12 c
-  raw_ink c s e =
-      let raw = unescaped unicode c e in
-      record { no_space = s; no_tab = unlike c tab raw.printable refl; no_break = break_line breaks12 c raw.no_break }
+  raw_ink c s e = grind (arith, nat_tests, unescaped, unlike, tab, break_line)
 
   -- a character that is no space, as an escape or not
   character_inks : (c : ℕ) → is_space c ≡ false → AllInk breaks12 (character_text unicode c)

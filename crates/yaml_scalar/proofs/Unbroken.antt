@@ -1,7 +1,7 @@
 -- Texts without a break: their effect on a column and on a text's lines; and that no written character holds one.
-use Rattle.yaml_scalar.proofs.Common.{suc, zero, ℕ, ◌%◌, ◌+◌, ◌/◌, ◌≤◌, if◌then◌else◌, ◌==◌, Option, None, Some, nat_le, length, replicate, Bool, false, not}
+use Rattle.yaml_scalar.proofs.Common.{suc, zero, ℕ, ◌%◌, ◌+◌, ◌/◌, ◌≤◌, if◌then◌else◌, ◌==◌, Option, Some, nat_le, length, replicate, Bool, false, not}
 use Rattle.yaml_scalar.proofs.Common.{true, ◌&&◌, ◌||◌, List, [], ◌++◌, ◌∷◌, refl, ◌≡◌, arith, and_parts, and_from, or_left, agree_below_at, not-false}
-use Rattle.yaml_scalar.proofs.Common.{not-true, Text, line_feed, carriage_return, next_line, line_separator, paragraph_separator, space, is_break}
+use Rattle.yaml_scalar.proofs.Common.{not-true, Text, line_feed, carriage_return, next_line, line_separator, paragraph_separator, space, is_break, nat_tests}
 use Rattle.yaml_scalar.proofs.Common.{is_printable, hex_digit, hex_digits, column_after, is_rendered_text, is_indented_text, quote, backslash, ShortEscape}
 use Rattle.yaml_scalar.proofs.Common.{short_escapes, letter_among, escape_after_backslash, escape_text, needs_escape, character_text}
 
@@ -12,9 +12,7 @@ is_unbroken (c ∷ rest) = not (is_break c) && is_unbroken rest
 
 pub unbroken-append : (a b : Text) → is_unbroken a ≡ true → is_unbroken b ≡ true → is_unbroken (a ++ b) ≡ true
 unbroken-append [] b h k = k
-unbroken-append (c ∷ a) b h k =
-    let p : (not (is_break c) ≡ true) × (is_unbroken a ≡ true) = and_parts _ _ h in
-    and_from _ _ p.0 (unbroken-append a b p.1 k)
+unbroken-append (c ∷ a) b h k = grind (arith, nat_tests, not, is_break, is_unbroken, and_parts, and_from, unbroken-append a b)
 
 pub unbroken-replicate : (n : ℕ) → is_unbroken (replicate n space) ≡ true
 unbroken-replicate zero = refl
@@ -24,15 +22,11 @@ unbroken-replicate (suc n) = unbroken-replicate n
 pub unbroken-column : (text : Text) (column : ℕ) → is_unbroken text ≡ true → column_after text column ≡ column + length text
 unbroken-column [] column h = omega arith
 unbroken-column (c ∷ rest) column h =
-    let p : (not (is_break c) ≡ true) × (is_unbroken rest ≡ true) = and_parts _ _ h in
-    let q : is_break c ≡ false = not-true _ p.0 in
-    let ih : column_after rest (column + 1) ≡ column + 1 + length rest = unbroken-column rest (column + 1) p.1 in
-    rw q (omega (arith, ih))
+    grind (arith, nat_tests, not, is_break, is_unbroken, and_parts, not-true, column_after, length, unbroken-column rest (column + 1))
 
 -- CR and U+0085 are breaks
 second-and-third : (a b c d e : Bool) → (a || b || c || d || e) ≡ false → not (b || c) ≡ true
-second-and-third false false false d e h = refl
-second-and-third _ _ _ d e h = cc
+second-and-third a b c d e h = grind (arith, nat_tests)
 
 pub unbroken-rendered : (text : Text) → is_unbroken text ≡ true → is_rendered_text text ≡ true
 unbroken-rendered [] h = refl
@@ -45,9 +39,7 @@ unbroken-rendered (c ∷ rest) h =
 -- lines after such a text stay as they are
 pub unbroken-indented : (a b : Text) → is_unbroken a ≡ true → is_indented_text b ≡ true → is_indented_text (a ++ b) ≡ true
 unbroken-indented [] b h k = k
-unbroken-indented (c ∷ a) b h k =
-    let p : (not (is_break c) ≡ true) × (is_unbroken a ≡ true) = and_parts _ _ h in
-    and_from _ _ (or_left _ _ p.0) (unbroken-indented a b p.1 k)
+unbroken-indented (c ∷ a) b h k = grind (arith, nat_tests, not, is_break, is_unbroken, and_parts, and_from, or_left, unbroken-indented a b)
 
 -- no letter of a table is a break
 abbrev letters_unbroken : List ShortEscape → Bool
@@ -57,15 +49,12 @@ letters_unbroken (entry ∷ more) = not (is_break entry.letter) && letters_unbro
 letter-found : (table : List ShortEscape) (c letter : ℕ) → letters_unbroken table ≡ true
     → letter_among table c ≡ Some letter → not (is_break letter) ≡ true
 letter-found [] c letter h found = cc
-letter-found (entry ∷ more) c letter h found =
-    let p : (not (is_break entry.letter) ≡ true) × (letters_unbroken more ≡ true) = and_parts _ _ h in
-    letter-here more entry c letter (c == entry.character) p.0 (letter-found more c letter p.1) found
+letter-found (entry ∷ more) c letter h found = grind (arith, nat_tests, not, is_break, letters_unbroken, and_parts, letter-here, letter-found more c letter)
   where
     letter-here : (more : List ShortEscape) (entry : ShortEscape) (c letter : ℕ) (b : Bool) → not (is_break entry.letter) ≡ true
         → (letter_among more c ≡ Some letter → not (is_break letter) ≡ true)
         → (if b then Some entry.letter else letter_among more c) ≡ Some letter → not (is_break letter) ≡ true
-    letter-here more entry c letter true here later h = let e : entry.letter ≡ letter = cc in rw (← e) here
-    letter-here more entry c letter false here later h = later h
+    letter-here more entry c letter b here later h = grind (arith, nat_tests)
 
 -- no digit is a break
 digit-unbroken : (n : ℕ) → not (is_break (hex_digit (n % 16))) ≡ true
@@ -73,8 +62,7 @@ digit-unbroken n = agree_below_at (λ d. not (is_break (hex_digit d))) (λ d. tr
 
 digits-unbroken : (count n : ℕ) → is_unbroken (hex_digits count n) ≡ true
 digits-unbroken zero n = refl
-digits-unbroken (suc count) n =
-    unbroken-append (hex_digits count (n / 16)) (hex_digit (n % 16) ∷ []) (digits-unbroken count (n / 16)) (and_from _ true (digit-unbroken n) refl)
+digits-unbroken (suc count) n = grind (arith, nat_tests, unbroken-append, hex_digits, hex_digit, and_from, digit-unbroken, digits-unbroken count (n / 16))
 
 number-unbroken : (c : ℕ) (two four : Bool)
     → is_unbroken (if two then 120 ∷ hex_digits 2 c else (if four then 117 ∷ hex_digits 4 c else 85 ∷ hex_digits 8 c)) ≡ true
@@ -83,15 +71,13 @@ number-unbroken c false true = digits-unbroken 4 c
 number-unbroken c false false = digits-unbroken 8 c
 
 rest-unbroken : (c : ℕ) (found : Option ℕ) → letter_among short_escapes c ≡ found → is_unbroken (escape_after_backslash found c) ≡ true
-rest-unbroken c (Some letter) found = and_from _ true (letter-found short_escapes c letter refl found) refl
-rest-unbroken c None found = number-unbroken c (nat_le c 0xFF) (nat_le c 0xFFFF)
+rest-unbroken c found x = grind (arith, nat_tests, and_from, letter-found, short_escapes, number-unbroken, nat_le)
 
 escape-unbroken : (c : ℕ) → is_unbroken (escape_text c) ≡ true
 escape-unbroken c = rest-unbroken c (letter_among short_escapes c) refl
 
 parts-false : (a b c d e : Bool) → (a || b || c || d || e) ≡ false → (a ≡ false) × (c ≡ false) × (d ≡ false) × (e ≡ false)
-parts-false false false false false false h = (refl, refl, refl, refl)
-parts-false _ _ _ _ _ h = cc
+parts-false a b c d e h = grind (arith, nat_tests)
 
 -- a character that needs no escape is printable, and neither a break nor the quote nor the backslash
 pub record Unescaped (c : ℕ) : Type 0 where
@@ -116,5 +102,4 @@ pub character-long : (unicode : Bool) (c : ℕ) → 1 ≤ length (character_text
 character-long unicode c = go (needs_escape unicode c)
   where
     go : (b : Bool) → 1 ≤ length (if b then escape_text c else c ∷ [])
-    go true = omega arith
-    go false = omega arith
+    go b = grind (arith, nat_tests)

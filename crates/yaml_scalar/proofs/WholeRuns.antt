@@ -1,5 +1,5 @@
 -- Runs of characters: the empty one, their last characters, and that they hold no break.
-use Rattle.yaml_scalar.proofs.Common.{ℕ, ◌≤◌, IsUtf8, Option, None, Some, length, take, Bool, false, true, ◌&&◌, ◌||◌, List, [], ◌∷◌, refl, ◌≡◌}
+use Rattle.yaml_scalar.proofs.Common.{ℕ, ◌≤◌, IsUtf8, Option, None, length, take, Bool, false, true, ◌&&◌, List, [], ◌∷◌, refl, ◌≡◌, nat_tests}
 use Rattle.yaml_scalar.proofs.Common.{length-take-le, ap, subst, sym, ◌∙◌, arith, and_parts, chars-nil, IsUtf8-take, list_all, list_any, IsCharBoundary, Text}
 use Rattle.yaml_scalar.proofs.Common.{is_break, has_limit, last_from, IsRun}
 use Rattle.std.{proofs.lemmas.List.take-take, proofs.lemmas.Str.IsCharBoundary-from_take, proofs.lemmas.Str.IsCharBoundary-start, specs.Str.chars}
@@ -7,14 +7,11 @@ use Rattle.std.{proofs.lemmas.List.take-take, proofs.lemmas.Str.IsCharBoundary-f
 -- a run holds no break if no character that passes is one
 pub all_unbroken : (test : ℕ → Bool) → ((c : ℕ) → test c ≡ true → is_break c ≡ false) → (text : Text) → list_all test text ≡ true → list_any is_break text ≡ false
 all_unbroken test none [] h = refl
-all_unbroken test none (c ∷ rest) h =
-    let p = and_parts (test c) (list_all test rest) h in
-    ap (λ b. b || list_any is_break rest) (none c p.0) ∙ all_unbroken test none rest p.1
+all_unbroken test none (c ∷ rest) h = grind (arith, nat_tests, and_parts, list_all, list_any, is_break, all_unbroken test none rest, test c)
 
 pub run_unbroken : (test : ℕ → Bool) → ((c : ℕ) → test c ≡ true → is_break c ≡ false) → {before size last : ℕ} {text run : List ℕ}
     → IsRun test before text size last → run ≡ take size text → list_any is_break (chars run) ≡ false
-run_unbroken test none {before} {size} {last} {text} {run} is prefix =
-    ap (λ l. list_any is_break (chars l)) prefix ∙ all_unbroken test none (chars (take size text)) is.all
+run_unbroken test none {before} {size} {last} {text} {run} is prefix = grind (arith, nat_tests, list_any, is_break, chars, all_unbroken, take)
 
 -- the run of no character
 pub no_run : (test : ℕ → Bool) (before : ℕ) (text : List ℕ) → IsUtf8 text → IsRun test before text 0 before
@@ -27,9 +24,7 @@ no_run test before text is = record {
 -- a space that stays in a run is past no width
 pub no_fold : (past : Option ℕ → Bool) → past None ≡ false → (space other : Bool) (limit : Option ℕ)
     → (space && has_limit limit) ≡ false → (space && other && past limit) ≡ false
-no_fold past none true true None h = none
-no_fold past none true true (Some width) h = cc
-no_fold past none _ _ limit h = refl
+no_fold past x space other limit h = grind (arith, nat_tests)
 
 -- a run of a prefix of a text is one of the text
 pub run_in_prefix : (test : ℕ → Bool) (before : ℕ) (text prefix : List ℕ) (place size last : ℕ) → IsUtf8 text → IsCharBoundary text place

@@ -2,6 +2,7 @@
 #![tactic(auto)]
 
 mod analysis;
+mod appended;
 mod batched;
 mod blanks;
 mod block_header;
@@ -24,6 +25,7 @@ mod single_quoted;
 mod style;
 
 pub use analysis::{analyze_for_style, analyze_scalar, holds_break};
+pub use appended::append_double_quoted;
 pub use blanks::allows_literal;
 pub use block_header::{begins_blank, write_block_scalar_hints};
 pub use double_quoted::write_double_quoted_scalar;

@@ -1,7 +1,7 @@
 -- The text of a literal or folded scalar reads back.
-use Rattle.yaml_scalar.proofs.Common.{ℕ, ◌≤◌, Option, Ok, negsuc, pos, ℤ, ◌≤ℤ◌, true, ◌≡◌, arith, ints, Text, read_block, Charset, allows_block, allows_literal}
-use Rattle.yaml_scalar.proofs.Common.{Encloses, folded_body, render_folded, literal_body, render_literal, Page, natural, Wrote, ReadsBack, Cursor, Rendered, ap}
-use Rattle.yaml_scalar.proofs.Common.{Result, Err, subst, sym, ◌∙◌}
+use Rattle.yaml_scalar.proofs.Common.{ℕ, ◌≤◌, Option, Ok, pos, ℤ, ◌≤ℤ◌, true, ◌≡◌, arith, ints, Text, read_block, Charset, allows_block, allows_literal}
+use Rattle.yaml_scalar.proofs.Common.{Encloses, folded_body, render_folded, literal_body, render_literal, Page, natural, Wrote, ReadsBack, Cursor, Rendered}
+use Rattle.yaml_scalar.proofs.Common.{Result, Err, nat_tests}
 use Rattle.std.proofs.{Common.IsErrAnd, Common.IsErr, lemmas.Result.err_from_is_err_and}
 use Rattle.yaml_base.specs.declared.errors.yaml_error_t.{yaml_error_t}
 use Rattle.yaml_scalar.specs.BlockCode.{without_open_ended}
@@ -11,10 +11,7 @@ use Rattle.yaml_scalar.proofs.{LinesReadBack.two_or_more, LinesReadBack.body_bac
 pub block_exit : {render : Cursor → Rendered} {before after : Page} {error : yaml_error_t} (answer : Result ℤ yaml_error_t)
     → IsErr answer × IsErrAnd answer (λ returned. returned ≡ error) → Wrote render before after (Err error)
     → Wrote render before after (without_open_ended answer)
-block_exit {render} {before} {after} {error} answer is wrote =
-    let p = err_from_is_err_and answer is.1 in
-    subst (λ (r : Result ℤ yaml_error_t). Wrote render before after (without_open_ended r))
-    (sym (p.1 ∙ ap (λ (e : yaml_error_t). let r : Result ℤ yaml_error_t = Err e in r) p.2)) wrote
+block_exit {render} {before} {after} {error} answer is wrote = grind (arith, nat_tests, err_from_is_err_and, without_open_ended)
 
 -- the conditions on the two indents, as whole numbers
 pub record Indents (indent best_indent : ℕ) : Type 0 where
@@ -23,13 +20,10 @@ pub record Indents (indent best_indent : ℕ) : Type 0 where
   pub within : best_indent ≤ indent
 
 at-most : (n : ℤ) → n ≤ℤ pos 9 → natural n ≤ 9
-at-most (pos n) h = omega (arith, ints)
-at-most (negsuc n) h = omega arith
+at-most n h = grind (arith, nat_tests, ints)
 
 below : (m n : ℤ) → pos 2 ≤ℤ m → m ≤ℤ n → natural m ≤ natural n
-below (pos m) (pos n) h k = omega (arith, ints)
-below (pos m) (negsuc n) h k = omega (arith, ints)
-below (negsuc m) n h k = omega (arith, ints)
+below m n h k = grind (arith, nat_tests, ints)
 
 pub indents : (indent best_indent : ℤ) → pos 2 ≤ℤ best_indent → best_indent ≤ℤ pos 9 → best_indent ≤ℤ indent → Indents (natural indent) (natural best_indent)
 indents indent best_indent least most within = grind (arith, two_or_more, at-most, below)

@@ -1,8 +1,8 @@
 -- The breaks at a block scalar's end: the header's indicator says what chomping needs to keep them.
-use Rattle.yaml_scalar.proofs.Common.{arith, ℕ, if◌then◌else◌, ◌==◌, Bool, false, true, ◌&&◌, List, [], ◌++◌, ◌∷◌, refl, ◌≡◌, append_assoc, inl, inr, ap, sym}
+use Rattle.yaml_scalar.proofs.Common.{arith, ℕ, if◌then◌else◌, ◌==◌, Bool, false, true, ◌&&◌, List, [], ◌++◌, ◌∷◌, refl, ◌≡◌, append_assoc, ap, sym}
 use Rattle.yaml_scalar.proofs.Common.{◌∙◌, cases_Bool, false≢true, Text, line_feed, is_break, Element, content, line_end, has_content, kept_lines, final_ends}
 use Rattle.yaml_scalar.proofs.Common.{joined, begins_unindented, next_content_unindented, unfolded, chomped, Ending, WithoutBreak, OneBreak, MoreBreaks}
-use Rattle.yaml_scalar.proofs.Common.{ending, Part, line, line_break, begun, parts}
+use Rattle.yaml_scalar.proofs.Common.{ending, Part, line_break, begun, parts, nat_tests}
 use Rattle.yaml_base.specs.reading.ReadBlock.{fold_read, Chomping, strip, clip, keep}
 use Rattle.yaml_scalar.proofs.blocks.BlockParts.{bare}
 
@@ -22,17 +22,14 @@ even-kept (line_end b ∷ rest) = grind (arith, cases_Bool, even-none, even-kept
 even-kept _ = refl
 
 fold-kept : (es : List Element) → fold_read (kept_lines es) ≡ fold_read es
-fold-kept (line_end b ∷ rest) =
-    elim (cases_Bool (has_content rest)) [ inl some ↦ rw some refl | inr none ↦ rw none refl ]
-fold-kept _ = refl
+fold-kept es = grind (arith, nat_tests, cases_Bool, has_content)
 
 -- the text as which a line's end reads
 abbrev break_read : Bool → ℕ → List Element → Text
 break_read after_even b rest = if after_even && b == line_feed && next_content_unindented rest then fold_read rest else b ∷ []
 
 break-none : (after_even : Bool) (b : ℕ) (rest : List Element) → next_content_unindented rest ≡ false → break_read after_even b rest ≡ b ∷ []
-break-none true b rest h = grind (arith)
-break-none false b rest h = refl
+break-none after_even b rest h = grind (arith, nat_tests)
 
 -- literal: the kept text and the final breaks make up all
 pub joined-kept : (es : List Element) → joined (kept_lines es) ++ final_ends es ≡ joined es
@@ -54,25 +51,17 @@ Ends OneBreak es = (has_content es ≡ true) × ((b : ℕ) × (final_ends es ≡
 Ends MoreBreaks es = Unit {0}
 
 ends-begun : (e : Ending) (c : ℕ) (ps : List Part) → Ends e (bare ps) → Ends e (bare (begun c ps))
-ends-begun WithoutBreak c [] h = (refl, refl)
-ends-begun OneBreak c [] h = absurd (false≢true h.0)
-ends-begun MoreBreaks c ps h = tt
-ends-begun _ c (line text ∷ rest) h = h
-ends-begun _ c (line_break b ∷ rest) h = (refl, h.1)
+ends-begun e c ps h = grind (arith, nat_tests, false≢true)
 
 ends-broken : (e : Ending) (c : ℕ) (es : List Element) → Ends e es → Ends e (line_end c ∷ es)
-ends-broken WithoutBreak c es h = (h.0, rw h.0 (h.1))
-ends-broken OneBreak c es h = (h.0, (h.1.0, rw h.0 (h.1.1)))
-ends-broken MoreBreaks c es h = tt
+ends-broken e c es h = grind (arith, nat_tests)
 
 ends-before : (e : Ending) (c : ℕ) (ps : List Part) (b : Bool) → Ends e (bare ps) → Ends e (bare (if b then line_break c ∷ ps else begun c ps))
-ends-before e c ps true h = ends-broken e c (bare ps) h
-ends-before e c ps false h = ends-begun e c ps h
+ends-before e c ps b h = grind (arith, nat_tests, ends-broken, ends-begun)
 
 -- a value of one character
 ends-one : (c : ℕ) (b : Bool) → Ends (if b then MoreBreaks else WithoutBreak) (bare (if b then line_break c ∷ [] else begun c []))
-ends-one c true = tt
-ends-one c false = (refl, refl)
+ends-one c b = grind (arith, nat_tests)
 
 -- of two characters
 ends-two : (c d : ℕ) (a b : Bool) → Ends (if b then (if a then MoreBreaks else OneBreak) else WithoutBreak)

@@ -1,19 +1,17 @@
 -- Folded parts: they are clean, end as the value does, and read as the value.
 use Rattle.yaml_scalar.proofs.Common.{arith, ℕ, ◌+◌, if◌then◌else◌, ◌==◌, Option, Bool, false, not, true, ◌&&◌, List, [], ◌++◌, ◌∷◌, refl, ◌≡◌, eqb-true, ap}
-use Rattle.yaml_scalar.proofs.Common.{◌∙◌, and_parts, not-true, false≢true, Text, line_feed, is_space, is_break, has_content, final_ends, joined}
+use Rattle.yaml_scalar.proofs.Common.{◌∙◌, and_parts, not-true, false≢true, Text, line_feed, is_space, is_break, has_content, final_ends, joined, nat_tests}
 use Rattle.yaml_scalar.proofs.Common.{begins_unindented, next_content_unindented, unfolded, begins_with, folds, cut_from, cut_line}
 use Rattle.yaml_scalar.proofs.Common.{next_line_unindented, folded_parts, Part, line, line_break, begun}
 use Rattle.yaml_scalar.proofs.blocks.BlockParts.{Ordinary, IsLine, BeginsBroken, Clean, clean-begun, bare, BeginsFlush}
 
 -- a line feed is ordinary
 feed-ordinary : (breaks12 : Bool) → Ordinary false breaks12 line_feed
-feed-ordinary true = record { same_break = refl; same_blank = λ none. refl; no_return = refl; no_next_line = refl }
-feed-ordinary false = record { same_break = refl; same_blank = λ none. refl; no_return = refl; no_next_line = refl }
+feed-ordinary breaks12 = grind (arith, nat_tests)
 
 -- the reader finds a line that begins with a blank exactly if the writer finds one that begins with a space
 even-flush : (breaks12 : Bool) (text : Text) → IsLine false breaks12 text → begins_unindented text ≡ not (begins_with is_space text)
-even-flush breaks12 [] h = refl
-even-flush breaks12 (c ∷ rest) h = ap not ((h.0).same_blank refl)
+even-flush breaks12 text h = grind (arith, nat_tests, not)
 
 -- facts about a line that was cut, its first part and the others: before any rest they are clean, end as
 -- the rest does, and read as the line
@@ -25,17 +23,14 @@ record Cut (breaks12 : Bool) (text first : Text) (others : List Part) : Type 0 w
   even : begins_with is_space text ≡ false → begins_unindented first ≡ true
 
 abbrev IsCut : Bool → Text → List Part → Type 0
-IsCut breaks12 text [] = ⊥
 IsCut breaks12 text (line first ∷ others) = Cut breaks12 text first others
-IsCut breaks12 text (line_break b ∷ rest) = ⊥
+IsCut breaks12 text _ = ⊥
 
 -- one character more
 cut-step : (breaks12 : Bool) (c : ℕ) (rest : Text) → Ordinary false breaks12 c → is_break c ≡ false → (further : List Part) → IsCut breaks12 rest further
     → (fold : Bool) → (fold ≡ true → (is_space c ≡ true) × (begins_with is_space rest ≡ false))
     → IsCut breaks12 (c ∷ rest) (if fold then line [] ∷ line_break line_feed ∷ further else begun c further)
-cut-step breaks12 c rest o e (line first ∷ others) k true f = grind (arith, eqb-true, feed-ordinary)
-cut-step breaks12 c rest o e (line first ∷ others) k false f = grind (arith, clean-begun, o.same_blank refl)
-cut-step breaks12 c rest o e _ k fold f = absurd k
+cut-step breaks12 c rest o e further k fold f = grind (arith, nat_tests, eqb-true, feed-ordinary, clean-begun)
 
 -- a fold replaces a space before another character
 pub fold-spaced : (limit : Option ℕ) (column c : ℕ) (rest : Text) → folds limit column c rest ≡ true → (is_space c ≡ true) × (begins_with is_space rest ≡ false)
@@ -60,8 +55,7 @@ record LineCut (breaks12 : Bool) (text : Text) (ps : List Part) : Type 0 where
 
 line-of-cut : (breaks12 : Bool) (text : Text) → IsLine false breaks12 text → begins_with is_space text ≡ false → (ps : List Part) → IsCut breaks12 text ps
     → LineCut breaks12 text ps
-line-of-cut breaks12 text h none (line first ∷ others) k = grind (arith)
-line-of-cut breaks12 text h none _ k = absurd k
+line-of-cut breaks12 text h x ps k = grind (arith, nat_tests)
 
 line-cut : (breaks12 : Bool) (limit : Option ℕ) (indent : ℕ) (text : Text) → IsLine false breaks12 text → LineCut breaks12 text (cut_line limit indent text)
 line-cut breaks12 limit indent text h = by (begins_with is_space text) refl
@@ -82,33 +76,27 @@ twice_or_once twice b = if twice then line_break b ∷ line_break b ∷ [] else 
 
 -- a break once or twice, before other parts
 twice-begins : (twice : Bool) (b : ℕ) (ps : List Part) → BeginsBroken (twice_or_once twice b ++ ps)
-twice-begins true b ps = tt
-twice-begins false b ps = tt
+twice-begins twice b ps = grind (arith, nat_tests)
 
 twice-clean : (breaks12 twice : Bool) (b : ℕ) (ps : List Part) → Ordinary false breaks12 b → is_break b ≡ true → Clean false breaks12 ps
     → Clean false breaks12 (twice_or_once twice b ++ ps)
-twice-clean breaks12 true b ps o e h = (o, e, (o, e, h))
-twice-clean breaks12 false b ps o e h = (o, e, h)
+twice-clean breaks12 twice b ps o e h = grind (arith, nat_tests)
 
 twice-content : (twice : Bool) (b : ℕ) (ps : List Part) → has_content (bare (twice_or_once twice b ++ ps)) ≡ has_content (bare ps)
-twice-content true b ps = refl
-twice-content false b ps = refl
+twice-content twice b ps = grind (arith, nat_tests)
 
 twice-even : (twice : Bool) (b : ℕ) (ps : List Part) → next_content_unindented (bare (twice_or_once twice b ++ ps)) ≡ next_content_unindented (bare ps)
-twice-even true b ps = refl
-twice-even false b ps = refl
+twice-even twice b ps = grind (arith, nat_tests)
 
 -- it is doubled exactly if it would be folded, and then its second stays
 twice-reads : (twice after_even : Bool) (b : ℕ) (ps : List Part) → (after_even && b == line_feed && next_content_unindented (bare ps)) ≡ twice
     → unfolded after_even (bare (twice_or_once twice b ++ ps)) ≡ b ∷ unfolded false (bare ps)
-twice-reads true after_even b ps e = rw e refl
-twice-reads false after_even b ps e = rw e refl
+twice-reads twice after_even b ps e = grind (arith, nat_tests)
 
 -- it is doubled only if a content follows, so not among the final breaks
 twice-ends : (twice some : Bool) (b : ℕ) (ps : List Part) → has_content (bare ps) ≡ some → (twice ≡ true → some ≡ true)
     → final_ends (bare (twice_or_once twice b ++ ps)) ≡ (if some then [] else b ∷ []) ++ final_ends (bare ps)
-twice-ends true false b ps s f = absurd (false≢true (f refl))
-twice-ends _ _ b ps s f = rw s refl
+twice-ends twice some b ps s f = grind (arith, nat_tests, false≢true)
 
 -- a next line is a content
 even-some : (ps : List Part) → next_line_unindented ps ≡ true → has_content (bare ps) ≡ true
@@ -118,10 +106,7 @@ even-some (line_break b ∷ rest) h = even-some rest h
 
 module _ (breaks12 : Bool) (limit : Option ℕ) (indent : ℕ) where
   folded-begins : (after_even : Bool) (ps : List Part) → BeginsBroken ps → BeginsBroken (folded_parts limit indent after_even ps)
-  folded-begins after_even [] h = tt
-  folded-begins after_even (line text ∷ rest) h = absurd h
-  folded-begins after_even (line_break b ∷ rest) h =
-      twice-begins (after_even && b == line_feed && next_line_unindented rest) b (folded_parts limit indent false rest)
+  folded-begins after_even ps h = grind (arith, nat_tests, twice-begins, line_feed, next_line_unindented, folded_parts)
 
   -- folded parts are clean
   pub folded-clean : (after_even : Bool) (ps : List Part) → Clean false breaks12 ps → Clean false breaks12 (folded_parts limit indent after_even ps)

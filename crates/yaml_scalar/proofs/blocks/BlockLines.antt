@@ -1,10 +1,10 @@
 -- A literal or folded body holds no CR and no U+0085, and each of its nonempty lines after the header begins with
 -- two spaces at least; so both hold as its line breaks are written, and reading it gives the value.
 use Rattle.yaml_scalar.proofs.Common.{suc, zero, ℕ, ◌+◌, ◌≤◌, ◌==◌, Option, Some, replicate, Bool, false, not, true, ◌||◌, List, [], ◌++◌, ◌∷◌, refl, ◌≡◌}
-use Rattle.yaml_scalar.proofs.Common.{append_assoc, arith, and_from, or_from, or_right, not_from_false, breaks-round, rendered-append}
+use Rattle.yaml_scalar.proofs.Common.{append_assoc, arith, and_from, or_from, or_right, not_from_false, breaks-round, rendered-append, nat_tests}
 use Rattle.yaml_scalar.proofs.Common.{indented-written, Text, line_feed, carriage_return, next_line, space, is_break}
 use Rattle.yaml_scalar.proofs.Common.{Cursor, with_breaks_written, with_line_breaks_read, is_rendered_text, begins_indented, is_indented_text, LineBreak}
-use Rattle.yaml_scalar.proofs.Common.{read_block, Charset, allows_block, allows_literal, Ending, WithoutBreak, OneBreak, MoreBreaks, ending_hint}
+use Rattle.yaml_scalar.proofs.Common.{read_block, Charset, allows_block, allows_literal, Ending, ending_hint}
 use Rattle.yaml_scalar.proofs.Common.{block_body, Encloses, folded_parts, folded_body, Part, line, line_break, parts, indented, literal_body}
 use Rattle.yaml_base.proofs.Common.{ne_eqb}
 use Rattle.yaml_scalar.proofs.blocks.{BlockFolds.folded-clean, BlockParts.Ordinary, BlockParts.IsLine, BlockParts.Clean, BlockParts.parts-clean}
@@ -26,11 +26,8 @@ spaces-rendered (suc n) = spaces-rendered n
 lines-rendered : (tabs breaks12 : Bool) (indent : ℕ) (ps : List Part) → Clean tabs breaks12 ps → is_rendered_text (indented indent ps) ≡ true
 lines-rendered tabs breaks12 indent [] h = refl
 lines-rendered tabs breaks12 indent (line text ∷ rest) h =
-    rendered-append (replicate indent space ++ text) (indented indent rest)
-    (rendered-append (replicate indent space) text (spaces-rendered indent) (line-rendered tabs breaks12 text h.0))
-    (lines-rendered tabs breaks12 indent rest h.2)
-lines-rendered tabs breaks12 indent (line_break b ∷ rest) h =
-    and_from _ _ (ordinary-rendered tabs breaks12 b h.0) (lines-rendered tabs breaks12 indent rest h.2)
+    grind (arith, nat_tests, rendered-append, replicate, space, indented, spaces-rendered, line-rendered, lines-rendered tabs breaks12 indent rest)
+lines-rendered tabs breaks12 indent (line_break b ∷ rest) h = grind (arith, nat_tests, and_from, ordinary-rendered, lines-rendered tabs breaks12 indent rest)
 
 -- a text without a break, before another
 line-indented : (tabs breaks12 : Bool) (text rest : Text) → IsLine tabs breaks12 text → is_indented_text rest ≡ true → is_indented_text (text ++ rest) ≡ true
@@ -43,53 +40,41 @@ spaces-indented (suc n) rest k = spaces-indented n rest k
 
 -- lines after at least two spaces each
 lines-begin : (tabs breaks12 : Bool) (less : ℕ) (ps : List Part) → Clean tabs breaks12 ps → begins_indented (indented (suc (suc less)) ps) ≡ true
-lines-begin tabs breaks12 less [] h = refl
-lines-begin tabs breaks12 less (line text ∷ rest) h = refl
 lines-begin tabs breaks12 less (line_break b ∷ rest) h = break-begins b (indented (suc (suc less)) rest) h.1
+lines-begin tabs breaks12 less _ h = refl
 
 lines-indented : (tabs breaks12 : Bool) (less : ℕ) (ps : List Part) → Clean tabs breaks12 ps → is_indented_text (indented (suc (suc less)) ps) ≡ true
 lines-indented tabs breaks12 less [] h = refl
 lines-indented tabs breaks12 less (line text ∷ rest) h = grind (arith, append_assoc, spaces-indented, line-indented, lines-indented tabs breaks12 less rest h.2)
-lines-indented tabs breaks12 less (line_break b ∷ rest) h =
-    and_from _ _ (or_right _ _ (lines-begin tabs breaks12 less rest h.2)) (lines-indented tabs breaks12 less rest h.2)
+lines-indented tabs breaks12 less (line_break b ∷ rest) h = grind (arith, nat_tests, and_from, or_right, lines-begin, lines-indented tabs breaks12 less rest)
 
 digit-rendered : (n : ℕ) → n ≤ 9 → not ((48 + n) == carriage_return || (48 + n) == next_line) ≡ true
-digit-rendered n high =
-    not_from_false _ (or_from _ _ (ne_eqb (48 + n) carriage_return (λ e. omega (arith, e))) (ne_eqb (48 + n) next_line (λ e. omega (arith, e))))
+digit-rendered n high = grind (arith, nat_tests, not_from_false, or_from, ne_eqb, carriage_return, next_line)
 
 digit-unbroken : (n : ℕ) → n ≤ 9 → is_break (48 + n) ≡ false
 digit-unbroken n high = grind (arith, or_from, ne_eqb)
 
 hint-rendered : (e : Ending) → is_rendered_text (ending_hint e) ≡ true
-hint-rendered WithoutBreak = refl
-hint-rendered OneBreak = refl
-hint-rendered MoreBreaks = refl
+hint-rendered e = grind (arith, nat_tests)
 
 digit-text-rendered : (blank : Bool) (n : ℕ) → n ≤ 9 → is_rendered_text (digit_text blank n) ≡ true
-digit-text-rendered true n high = and_from _ _ (digit-rendered n high) refl
-digit-text-rendered false n high = refl
+digit-text-rendered blank n high = grind (arith, nat_tests, and_from, digit-rendered)
 
 -- the header before rendered lines
 header-rendered : (folded blank : Bool) (e : Ending) (n : ℕ) (lines : Text) → n ≤ 9 → is_rendered_text lines ≡ true
     → is_rendered_text (block_indicator_of folded ∷ ((digit_text blank n ++ ending_hint e) ++ line_feed ∷ lines)) ≡ true
-header-rendered true blank e n lines high h = rendered-append (digit_text blank n ++ ending_hint e) (line_feed ∷ lines)
-    (rendered-append (digit_text blank n) (ending_hint e) (digit-text-rendered blank n high) (hint-rendered e)) h
-header-rendered false blank e n lines high h = rendered-append (digit_text blank n ++ ending_hint e) (line_feed ∷ lines)
-    (rendered-append (digit_text blank n) (ending_hint e) (digit-text-rendered blank n high) (hint-rendered e)) h
+header-rendered folded blank e n lines high h =
+    grind (arith, nat_tests, rendered-append, digit_text, ending_hint, line_feed, digit-text-rendered, hint-rendered)
 
 -- the header's break is the first, so the lines after it begin with two spaces
 hint-indented : (e : Ending) (rest : Text) → is_indented_text rest ≡ true → is_indented_text (ending_hint e ++ rest) ≡ true
-hint-indented WithoutBreak rest h = h
-hint-indented OneBreak rest h = h
-hint-indented MoreBreaks rest h = h
+hint-indented e rest h = grind (arith, nat_tests)
 
 digit-indented : (blank : Bool) (n : ℕ) (rest : Text) → n ≤ 9 → is_indented_text rest ≡ true → is_indented_text (digit_text blank n ++ rest) ≡ true
-digit-indented true n rest high h = rw (digit-unbroken n high) h
-digit-indented false n rest high h = h
+digit-indented blank n rest high h = grind (arith, nat_tests, digit-unbroken)
 
 symbol-indented : (folded : Bool) (rest : Text) → is_indented_text rest ≡ true → is_indented_text (block_indicator_of folded ∷ rest) ≡ true
-symbol-indented true rest h = h
-symbol-indented false rest h = h
+symbol-indented folded rest h = grind (arith, nat_tests)
 
 header-indented : (folded blank : Bool) (e : Ending) (n : ℕ) (lines : Text) → n ≤ 9 → begins_indented lines ≡ true → is_indented_text lines ≡ true
     → is_indented_text (block_indicator_of folded ∷ ((digit_text blank n ++ ending_hint e) ++ line_feed ∷ lines)) ≡ true
@@ -105,10 +90,9 @@ body-rendered tabs breaks12 folded indent best_indent value ps cursor high clean
 body-indented : (tabs breaks12 folded : Bool) (indent best_indent : ℕ) (value : Text) (ps : List Part) (cursor : Cursor) → best_indent ≤ 9 → 2 ≤ indent
     → Clean tabs breaks12 ps
     → is_indented_text (block_body (block_indicator_of folded) best_indent value (indented indent ps) cursor).text ≡ true
-body-indented tabs breaks12 folded zero best_indent value ps cursor high low clean = absurd (omega arith)
-body-indented tabs breaks12 folded (suc zero) best_indent value ps cursor high low clean = absurd (omega arith)
 body-indented tabs breaks12 folded (suc (suc less)) best_indent value ps cursor high low clean =
     grind (arith, block-text, header-indented, lines-begin tabs breaks12 less ps clean, lines-indented tabs breaks12 less ps clean)
+body-indented tabs breaks12 folded _ best_indent value ps cursor high low clean = absurd (omega arith)
 
 -- the promise about a body: as it was written, with any line breaks, it reads as the value, and each nonempty
 -- line after its first begins with at least two spaces

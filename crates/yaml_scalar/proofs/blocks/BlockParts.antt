@@ -1,7 +1,7 @@
 -- A value's parts, and that a reader divides indented parts at the places at which they were joined.
 use Rattle.yaml_scalar.proofs.Common.{arith, suc, zero, ℕ, if◌then◌else◌, ◌==◌, option_map, Some, replicate, Bool, false, true, List, [], ◌++◌, ◌∷◌, refl, ◌≡◌}
 use Rattle.yaml_scalar.proofs.Common.{ap, ◌∙◌, Text, carriage_return, next_line, space, is_space, is_blank, is_break, is_read_break, Element, content, line_end}
-use Rattle.yaml_scalar.proofs.Common.{elements, all_unindented, joined, begins_with, Part, line, line_break, begun, parts, indented}
+use Rattle.yaml_scalar.proofs.Common.{elements, all_unindented, joined, begins_with, Part, line, line_break, begun, parts, indented, nat_tests}
 use Rattle.yaml_base.specs.reading.ReadBlock.{prepend_to_elements, leading_spaces, detected_indentation, unindented}
 
 -- a character that a writer and a reader take for the same: a break or not, and without tabs a space or no blank;
@@ -23,9 +23,8 @@ IsLine tabs breaks12 (c ∷ rest) = Ordinary tabs breaks12 c × (is_break c ≡ 
 
 -- parts that don't begin with a line
 abbrev pub BeginsBroken : List Part → Type 0
-BeginsBroken [] = Unit {0}
 BeginsBroken (line text ∷ rest) = ⊥
-BeginsBroken (line_break b ∷ rest) = Unit {0}
+BeginsBroken _ = Unit {0}
 
 -- parts as they come from a text: no line next to a line
 abbrev pub Clean : (tabs breaks12 : Bool) → List Part → Type 0
@@ -36,14 +35,11 @@ Clean tabs breaks12 (line_break b ∷ rest) = Ordinary tabs breaks12 b × (is_br
 -- a character of a line, before clean parts
 pub clean-begun : (tabs breaks12 : Bool) (c : ℕ) (ps : List Part)
     → Ordinary tabs breaks12 c → is_break c ≡ false → Clean tabs breaks12 ps → Clean tabs breaks12 (begun c ps)
-clean-begun tabs breaks12 c [] o e h = ((o, e, tt), tt, tt)
-clean-begun tabs breaks12 c (line text ∷ rest) o e h = ((o, e, h.0), h.1, h.2)
-clean-begun tabs breaks12 c (line_break b ∷ rest) o e h = ((o, e, tt), tt, h)
+clean-begun tabs breaks12 c ps o e h = grind (arith, nat_tests)
 
 clean-before : (tabs breaks12 : Bool) (c : ℕ) (ps : List Part) → Ordinary tabs breaks12 c → Clean tabs breaks12 ps
     → (b : Bool) → is_break c ≡ b → Clean tabs breaks12 (if b then line_break c ∷ ps else begun c ps)
-clean-before tabs breaks12 c ps o h true e = (o, e, h)
-clean-before tabs breaks12 c ps o h false e = clean-begun tabs breaks12 c ps o e h
+clean-before tabs breaks12 c ps o h b e = grind (arith, nat_tests, clean-begun)
 
 pub parts-clean : (tabs breaks12 : Bool) (value : Text) → AllOrdinary tabs breaks12 value → Clean tabs breaks12 (parts value)
 parts-clean tabs breaks12 [] h = tt
@@ -62,13 +58,10 @@ shifted indent (line text ∷ rest) = content (replicate indent space ++ text) �
 shifted indent (line_break b ∷ rest) = line_end b ∷ shifted indent rest
 
 joined-begun : (c : ℕ) (ps : List Part) → joined (bare (begun c ps)) ≡ c ∷ joined (bare ps)
-joined-begun c [] = refl
-joined-begun c (line text ∷ rest) = refl
-joined-begun c (line_break b ∷ rest) = refl
+joined-begun c ps = grind (arith, nat_tests)
 
 joined-before : (c : ℕ) (ps : List Part) (b : Bool) → joined (bare (if b then line_break c ∷ ps else begun c ps)) ≡ c ∷ joined (bare ps)
-joined-before c ps true = refl
-joined-before c ps false = joined-begun c ps
+joined-before c ps b = grind (arith, nat_tests, joined-begun)
 
 -- a value's parts, joined, are the value
 pub joined-parts : (value : Text) → joined (bare (parts value)) ≡ value
@@ -77,13 +70,11 @@ joined-parts (c ∷ rest) = joined-before c (parts rest) (is_break c) ∙ ap (λ
 
 -- elements that don't begin with a content
 abbrev NoContentFirst : List Element → Type 0
-NoContentFirst [] = Unit {0}
 NoContentFirst (content text ∷ rest) = ⊥
-NoContentFirst (line_end b ∷ rest) = Unit {0}
+NoContentFirst _ = Unit {0}
 
 broken-shifted : (indent : ℕ) (ps : List Part) → BeginsBroken ps → NoContentFirst (shifted indent ps)
-broken-shifted indent (line text ∷ rest) h = h
-broken-shifted indent _ h = tt
+broken-shifted indent ps h = grind (arith, nat_tests)
 
 -- text without a break, as the reader sees it
 abbrev Unbroken : Bool → Text → Type 0
@@ -100,8 +91,7 @@ spaces-unbroken true (suc n) text h = (refl, spaces-unbroken true n text h)
 spaces-unbroken false (suc n) text h = (refl, spaces-unbroken false n text h)
 
 prepend_to_elements-alone : (c : ℕ) (es : List Element) → NoContentFirst es → prepend_to_elements c es ≡ content (c ∷ []) ∷ es
-prepend_to_elements-alone c (content text ∷ rest) h = absurd h
-prepend_to_elements-alone c _ h = refl
+prepend_to_elements-alone c es h = grind (arith, nat_tests)
 
 element-unbroken : (breaks12 : Bool) (c : ℕ) (es : List Element) (b : Bool) → b ≡ false
     → (if b then line_end c ∷ es else prepend_to_elements c es) ≡ prepend_to_elements c es
@@ -110,8 +100,7 @@ element-unbroken breaks12 c es b e = rw e refl
 -- a text without a break, and then one that doesn't begin with a content
 elements-unbroken : (breaks12 : Bool) (c : ℕ) (text rest : Text) → Unbroken breaks12 (c ∷ text) → NoContentFirst (elements breaks12 rest)
     → elements breaks12 (c ∷ (text ++ rest)) ≡ content (c ∷ text) ∷ elements breaks12 rest
-elements-unbroken breaks12 c [] rest h apart =
-    element-unbroken breaks12 c (elements breaks12 rest) (is_read_break breaks12 c) h.0 ∙ prepend_to_elements-alone c (elements breaks12 rest) apart
+elements-unbroken breaks12 c [] rest h apart = grind (arith, nat_tests, element-unbroken, elements, is_read_break, prepend_to_elements-alone)
 elements-unbroken breaks12 c (d ∷ text) rest h apart = grind (arith, element-unbroken, elements-unbroken breaks12 d text rest h.1 apart)
 
 element-broken : (c : ℕ) (es : List Element) (b : Bool) → b ≡ true → (if b then line_end c ∷ es else prepend_to_elements c es) ≡ line_end c ∷ es
@@ -136,8 +125,7 @@ unindented-spaces (suc n) text = unindented-spaces n text
 -- and takes the indentation away again
 pub unindented-shifted : (n : ℕ) (ps : List Part) → all_unindented n (shifted n ps) ≡ Some (bare ps)
 unindented-shifted n [] = refl
-unindented-shifted n (line text ∷ rest) =
-    rw (unindented-spaces n text) (ap (option_map (λ others. content text ∷ others)) (unindented-shifted n rest))
+unindented-shifted n (line text ∷ rest) = grind (arith, nat_tests, unindented-spaces, option_map, unindented-shifted n rest)
 unindented-shifted n (line_break b ∷ rest) = ap (option_map (λ others. line_end b ∷ others)) (unindented-shifted n rest)
 
 -- the parts begin with a line, and that not with a space, or there are none
@@ -154,7 +142,4 @@ leading-spaces (suc n) text h = ap suc (leading-spaces n text h)
 -- if no digit gives the indentation, the first line shows it
 pub detected_indentation-shifted : (n : ℕ) (ps : List Part) → BeginsFlush ps
     → all_unindented (detected_indentation (shifted n ps)) (shifted n ps) ≡ Some (bare ps)
-detected_indentation-shifted n [] h = refl
-detected_indentation-shifted n (line text ∷ rest) h =
-    ap (λ k. all_unindented k (shifted n (line text ∷ rest))) (leading-spaces n text h) ∙ unindented-shifted n (line text ∷ rest)
-detected_indentation-shifted n (line_break b ∷ rest) h = absurd h
+detected_indentation-shifted n ps h = grind (arith, nat_tests, all_unindented, shifted, leading-spaces, unindented-shifted)

@@ -1,6 +1,6 @@
 -- A literal or folded body is read as exactly its value.
 use Rattle.yaml_scalar.proofs.Common.{suc, zero, ℕ, ◌+◌, ◌≤◌, if◌then◌else◌, ◌==◌, Option, None, Some, Bool, false, not, true, ◌&&◌, ◌||◌, List, [], ◌++◌, ◌∷◌}
-use Rattle.yaml_scalar.proofs.Common.{is_special_but_tab, begins_with_blanks_alone, bars_literal, allows_literal, tab, is_break, subst, true≢false}
+use Rattle.yaml_scalar.proofs.Common.{is_special_but_tab, begins_with_blanks_alone, bars_literal, allows_literal, tab, is_break, true≢false, nat_tests}
 use Rattle.yaml_scalar.proofs.Common.{refl, ◌≡◌, eqb-true, le-leb, append_assoc, ap, sym, ◌∙◌, arith, and_from, or_parts, not-false}
 use Rattle.yaml_scalar.proofs.Common.{not-true, false≢true, Text, is_between, line_feed, is_space, is_printable, Cursor, elements, all_unindented, has_content}
 use Rattle.yaml_scalar.proofs.Common.{kept_lines, final_ends, unfolded, chomped, read_block, Charset, somewhere, is_empty, is_special, is_trailing_space}
@@ -18,13 +18,7 @@ use Rattle.std.proofs.Math.Bool.{or-false}
 
 same-break : (feed separator paragraph breaks12 : Bool) → (breaks12 ≡ true → (separator || paragraph) ≡ false)
     → (feed || (not breaks12 && (separator || paragraph))) ≡ (feed || false || false || separator || paragraph)
-same-break true s p b h = refl
-same-break false true p true h = sym (h refl)
-same-break false true p false h = refl
-same-break false false true true h = sym (h refl)
-same-break false false true false h = refl
-same-break false false false true h = refl
-same-break false false false false h = refl
+same-break feed separator paragraph breaks12 h = grind (arith, nat_tests)
 
 -- a character that isn't special is ordinary
 pub ordinary : (charset : Charset) (c : ℕ) → is_special charset c ≡ false → Ordinary false charset.breaks12 c
@@ -46,9 +40,7 @@ ordinary charset c h =
 ordinary-somewhere : (charset : Charset) (value : Text) → somewhere (bars_block charset) value ≡ false → AllOrdinary false charset.breaks12 value
 ordinary-somewhere charset [] h = tt
 ordinary-somewhere charset (c ∷ rest) h =
-    let split = or_parts (bars_block charset c rest) (somewhere (bars_block charset) rest) h in
-    let bars = or_parts (is_special charset c || is_trailing_space c rest) (is_space c && is_empty rest) split.0 in
-    (ordinary charset c (or_parts (is_special charset c) (is_trailing_space c rest) bars.0).0, ordinary-somewhere charset rest split.1)
+    grind (arith, nat_tests, or_parts, bars_block, somewhere, is_special, is_trailing_space, is_space, is_empty, ordinary, ordinary-somewhere charset rest)
 
 -- a value that block styles are allowed for isn't empty, and all its characters are ordinary
 pub allowed-ordinary : (charset : Charset) (value : Text) → allows_block charset value ≡ true → AllOrdinary false charset.breaks12 value
@@ -56,17 +48,13 @@ allowed-ordinary charset value h = grind (arith, or_parts, not-true, ordinary-so
 
 -- so is a tab, if there may be tabs
 tab-ordinary : (breaks12 : Bool) → Ordinary true breaks12 tab
-tab-ordinary true = record { same_break = refl; same_blank = λ none. absurd (true≢false none); no_return = refl; no_next_line = refl }
-tab-ordinary false = record { same_break = refl; same_blank = λ none. absurd (true≢false none); no_return = refl; no_next_line = refl }
+tab-ordinary breaks12 = grind (arith, nat_tests, true≢false)
 
 pub ordinary-or-tab : (charset : Charset) (c : ℕ) → is_special_but_tab charset c ≡ false → Ordinary true charset.breaks12 c
 ordinary-or-tab charset c h = by (c == tab) refl h
   where
     by : (x : Bool) → (c == tab) ≡ x → (not x && is_special charset c) ≡ false → Ordinary true charset.breaks12 c
-    by true e h = subst (λ (d : ℕ). Ordinary true charset.breaks12 d) (sym (eqb-true c tab e)) (tab-ordinary charset.breaks12)
-    by false e h =
-        let o = ordinary charset c h in
-        record { same_break = o.same_break; same_blank = λ none. o.same_blank refl; no_return = o.no_return; no_next_line = o.no_next_line }
+    by x e h = grind (arith, nat_tests, eqb-true, tab, tab-ordinary, ordinary)
 
 tabs-somewhere : (charset : Charset) (value : Text) → somewhere (bars_literal charset) value ≡ false → AllOrdinary true charset.breaks12 value
 tabs-somewhere charset [] h = tt
@@ -78,8 +66,7 @@ tabs-somewhere charset (c ∷ rest) h =
 
 -- all characters of a value that literal takes are ordinary or tabs
 pub literal-ordinary : (charset : Charset) (value : Text) → allows_literal charset value ≡ true → AllOrdinary true charset.breaks12 value
-literal-ordinary charset value h =
-    tabs-somewhere charset value (or_parts (is_empty value || begins_with_blanks_alone value) (somewhere (bars_literal charset) value) (not-true _ h)).1
+literal-ordinary charset value h = grind (arith, nat_tests, tabs-somewhere, or_parts, is_empty, begins_with_blanks_alone, somewhere, bars_literal, not-true)
 
 -- the text of a header, and the lines after it
 pub block-text : (symbol best_indent : ℕ) (value lines : Text) (cursor : Cursor)
@@ -134,18 +121,14 @@ read-header breaks12 false false MoreBreaks n column lines low high = refl
 unindented-lines : (blank : Bool) (indent best_indent : ℕ) (column : Option ℕ) (ps : List Part) → Encloses indent best_indent column
     → (blank ≡ false → BeginsFlush ps)
     → all_unindented (read_indentation (digit_of blank best_indent) column (shifted indent ps)) (shifted indent ps) ≡ Some (bare ps)
-unindented-lines true indent best_indent None ps e f = rw (sym e) (unindented-shifted indent ps)
-unindented-lines true indent best_indent (Some column) ps e f = rw (sym e) (unindented-shifted indent ps)
-unindented-lines false indent best_indent None ps e f = detected_indentation-shifted indent ps (f refl)
-unindented-lines false indent best_indent (Some column) ps e f = detected_indentation-shifted indent ps (f refl)
+unindented-lines blank indent best_indent column ps e f = grind (arith, nat_tests, unindented-shifted, detected_indentation-shifted)
 
 -- a value's first character decides whether its first line shows the indentation
 flush-parts : (c : ℕ) (rest : Text) → begins_blank (c ∷ rest) ≡ false → BeginsFlush (parts (c ∷ rest))
 flush-parts c rest h = grind (arith, or_parts, false≢true)
 
 flush-value : (value : Text) → begins_blank value ≡ false → BeginsFlush (parts value)
-flush-value [] h = tt
-flush-value (c ∷ rest) h = flush-parts c rest h
+flush-value value h = grind (arith, nat_tests, flush-parts)
 
 -- whatever lines come after a value's header, they are read without their indentation
 block-reads : (tabs breaks12 folded : Bool) (indent best_indent : ℕ) (column : Option ℕ) (value : Text) (ps : List Part) (cursor : Cursor)

@@ -1,4 +1,5 @@
 -- A character that stays in a block scalar's line is rendered as itself.
+use Rattle.yaml_scalar.proofs.Common.{nat_tests}
 use Rattle.yaml_scalar.proofs.Common.{arith, ℕ, Option, Ok, Bool, false, true, [], ◌∷◌, refl, ◌≡◌, eqb-true, ap, sym, line_feed, ◌∙◌, Text, is_break, Cursor, render_then, wrote_all}
 use Rattle.yaml_scalar.proofs.Common.{render_text, Page, Wrote, place_after, render_content, render_inner, render_step, stays_at, lines_from, has_limit}
 use Rattle.yaml_scalar.{proofs.RunsWritten.StandAlone, proofs.WholeRuns.no_fold, specs.BlockSteps.within, specs.BlockSteps.render_block_break, specs.declared.block_lines.Place.Place}
@@ -21,18 +22,13 @@ stays_unbroken limit Fixed c in_line h = line.stays_unbroken false false c h
 -- after a character of a line indentation is off, after a break it is on
 inner_off : (limit : Option ℕ) (indent : ℕ) (place : Place) (c : ℕ) (rest : Text) (cursor : Cursor)
     → (render_inner limit indent place c rest cursor).cursor.indention ≡ false
-inner_off limit indent LineStart c rest cursor = refl
-inner_off limit indent Folding c rest cursor = grind (arith)
-inner_off limit indent Fixed c rest cursor = refl
+inner_off limit indent place c rest cursor = grind (arith, nat_tests)
 
 within_line : (folded : Bool) (place : Place) (c : ℕ) → starts_line (within folded place c) ≡ false
-within_line folded LineStart c = grind (arith)
-within_line folded Folding c = refl
-within_line folded Fixed c = refl
+within_line folded place c = grind (arith, nat_tests)
 
 broken_on : (twice : Bool) (c : ℕ) (cursor : Cursor) → (render_block_break twice c cursor).cursor.indention ≡ true
-broken_on true c cursor = refl
-broken_on false c cursor = refl
+broken_on twice c cursor = grind (arith, nat_tests)
 
 step_flag : (folded : Bool) (limit : Option ℕ) (indent : ℕ) (place : Place) (c : ℕ) (rest : Text) (cursor : Cursor)
     → (render_step limit indent place c rest cursor).cursor.indention ≡ starts_line (place_after folded place c)
@@ -59,8 +55,7 @@ line_stands folded limit indent place c rest cursor in_line h off = grind (arith
 line_feed_stands : (folded : Bool) (limit : Option ℕ) (indent : ℕ) (rest : Text) (cursor : Cursor) → cursor.indention ≡ true
     → lines_from folded limit indent LineStart (line_feed ∷ rest) cursor
     ≡ render_then (render_text (line_feed ∷ []) cursor) (lines_from folded limit indent LineStart rest)
-line_feed_stands folded limit indent rest cursor on =
-    ap (λ (b : Bool). render_then (with_flags cursor.whitespace b (render_text (line_feed ∷ []) cursor)) (lines_from folded limit indent LineStart rest)) (sym on)
+line_feed_stands folded limit indent rest cursor on = grind (arith, nat_tests, render_then, with_flags, render_text, line_feed, lines_from)
 
 stands_at : (folded : Bool) (limit : Option ℕ) (indent : ℕ) (place : Place) (c : ℕ) (rest : Text) (cursor : Cursor)
     → stays_at limit place c ≡ true → cursor.indention ≡ starts_line place

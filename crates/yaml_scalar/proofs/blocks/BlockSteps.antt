@@ -1,5 +1,5 @@
 -- Lines rendered character by character, as code writes them, are the literal and the folded layout.
-use Rattle.yaml_scalar.proofs.Common.{ℕ, ◌+◌, if◌then◌else◌, Option, replicate, Bool, false, true, List, [], ◌++◌, ◌∷◌, refl, ◌≡◌, le-ltb}
+use Rattle.yaml_scalar.proofs.Common.{ℕ, ◌+◌, if◌then◌else◌, Option, replicate, Bool, false, true, List, [], ◌++◌, ◌∷◌, refl, ◌≡◌, le-ltb, nat_tests}
 use Rattle.yaml_scalar.proofs.Common.{append_assoc, inl, inr, ap, sym, ◌∙◌, arith, cases_Bool, and_right, or_parts, or_from, Text, space, is_break, Cursor}
 use Rattle.yaml_scalar.proofs.Common.{Rendered, first_cursor, render_then, next_column, column_after, new_line, ending, render_lines, folds, Part, line}
 use Rattle.yaml_scalar.proofs.Common.{line_break, begun, parts, indented, place_after, render_inner, is_doubled, render_block_break, render_step, lines_from}
@@ -80,15 +80,13 @@ lines-cursor folded limit indent place (c ∷ rest) column indention =
     ∙ ap (λ (l : Rendered). column_after l.text column) (sym whole))
 
 pub ending-last : (c : ℕ) (rest : Text) → ends_in_break (ending (c ∷ rest)) ≡ last_broken (is_break c) rest
-ending-last c [] = grind (arith)
-ending-last c (d ∷ []) = grind (arith)
 ending-last c (d ∷ e ∷ rest) = ending-last d (e ∷ rest)
+ending-last c _ = grind (arith)
 
 -- the layout after a line's first character
 pub start-step : (limit : Option ℕ) (indent c : ℕ) (rest : Text) → is_break c ≡ false
     → render_step limit indent LineStart c rest first_cursor ≡ record { text = replicate indent space ++ c ∷ []; cursor = spot (indent + 1) false }
-start-step limit indent c rest e =
-    rw e (ap (λ t. record { text = t ++ c ∷ []; cursor = spot (indent + 1) false }) (ap (λ (l : Rendered). l.text) (new-line-first indent)))
+start-step limit indent c rest e = grind (arith, nat_tests, spot, new-line-first)
 
 -- one step further
 pub from-step : (folded : Bool) (limit : Option ℕ) (indent : ℕ) (place next : Place) (c : ℕ) (rest : Text) (cursor : Cursor) (to : Rendered)
@@ -100,8 +98,7 @@ from-step folded limit indent place next c rest cursor to e f = grind (arith)
 pub break-step : (limit : Option ℕ) (indent : ℕ) (place : Place) (c : ℕ) (rest : Text) (column : ℕ) (indention twice : Bool) → is_break c ≡ true
     → is_doubled place c rest ≡ twice
     → render_step limit indent place c rest (spot column indention) ≡ record { text = if twice then c ∷ c ∷ [] else c ∷ []; cursor = first_cursor }
-break-step limit indent place c rest column indention true e f = rw (e, f) refl
-break-step limit indent place c rest column indention false e f = rw (e, f) refl
+break-step limit indent place c rest column indention twice e f = grind (arith, nat_tests)
 
 -- a character that stays on its line
 pub content-step : (limit : Option ℕ) (indent : ℕ) (c : ℕ) (rest : Text) (column : ℕ) → is_break c ≡ false

@@ -1,7 +1,7 @@
 -- The calls of a block scalar's writer make up its layout.
-use Rattle.yaml_scalar.proofs.Common.{arith, ℕ, Option, Bool, false, true, [], ◌++◌, ◌∷◌, refl, ◌≡◌, append_assoc, ap, sym, ◌∙◌, false≢true, Text, Cursor}
+use Rattle.yaml_scalar.proofs.Common.{arith, ℕ, Option, Bool, false, true, [], ◌++◌, ◌∷◌, ◌≡◌, append_assoc, false≢true, Text, Cursor}
 use Rattle.yaml_scalar.proofs.Common.{Rendered, render_then, render_text, space_if, indicator, is_empty, render_hints, render_folded, render_literal, Page}
-use Rattle.yaml_scalar.proofs.Common.{lines_from, separated_header, header_end}
+use Rattle.yaml_scalar.proofs.Common.{lines_from, separated_header, header_end, nat_tests}
 use Rattle.yaml_base.specs.scalars.BlockHeader.{render_header}
 use Rattle.yaml_pen.proofs.StillToWrite.{StillToWrite}
 use Rattle.yaml_scalar.{proofs.blocks.BlockSteps.literal-lines-from, proofs.blocks.FoldedSteps.folded-lines-from}
@@ -16,8 +16,7 @@ then-assoc a f g = grind (arith, append_assoc)
 indicator-lead : (symbol column : ℕ) (whitespace indention : Bool)
     → (let cursor : Cursor = record { column = column; whitespace = whitespace; indention = indention } in
     indicator (symbol ∷ []) true false false cursor ≡ render_then (render_text (space_if true cursor) cursor) (indicator (symbol ∷ []) false false false))
-indicator-lead symbol column true indention = refl
-indicator-lead symbol column false indention = refl
+indicator-lead symbol column whitespace indention = grind (arith, nat_tests)
 
 pub header-steps : (folded : Bool) (best_indent : ℕ) (value : Text) (cursor : Cursor)
     → render_then (render_then (indicator (block_indicator_of folded ∷ []) true false false cursor) (render_hints best_indent value)) header_end
@@ -47,10 +46,8 @@ block-folded limit indent best_indent c rest cursor = grind (arith, render_text,
 
 pub some-literal : (limit : Option ℕ) (indent best_indent : ℕ) (value : Text) (cursor : Cursor) → is_empty value ≡ false
     → render_block false limit indent best_indent value cursor ≡ render_literal indent best_indent value cursor
-some-literal limit indent best_indent [] cursor e = absurd (false≢true (sym e))
-some-literal limit indent best_indent (c ∷ rest) cursor e = block-literal limit indent best_indent c rest cursor
+some-literal limit indent best_indent value cursor e = grind (arith, nat_tests, false≢true, block-literal)
 
 pub some-folded : (limit : Option ℕ) (indent best_indent : ℕ) (value : Text) (cursor : Cursor) → is_empty value ≡ false
     → render_block true limit indent best_indent value cursor ≡ render_folded limit indent best_indent value cursor
-some-folded limit indent best_indent [] cursor e = absurd (false≢true (sym e))
-some-folded limit indent best_indent (c ∷ rest) cursor e = block-folded limit indent best_indent c rest cursor
+some-folded limit indent best_indent value cursor e = grind (arith, nat_tests, false≢true, block-folded)

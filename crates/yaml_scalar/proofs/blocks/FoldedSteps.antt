@@ -1,5 +1,5 @@
 -- Folded lines rendered character by character, as code writes them, are the folded layout.
-use Rattle.yaml_scalar.proofs.Common.{arith, ℕ, ◌+◌, if◌then◌else◌, Option, replicate, Bool, false, not, true, ◌&&◌, List, [], ◌++◌, ◌∷◌, refl, ◌≡◌}
+use Rattle.yaml_scalar.proofs.Common.{arith, ℕ, ◌+◌, if◌then◌else◌, Option, replicate, Bool, false, not, true, ◌&&◌, List, [], ◌++◌, ◌∷◌, refl, ◌≡◌, nat_tests}
 use Rattle.yaml_scalar.proofs.Common.{eqb-true, append_assoc, inl, inr, ap, sym, ◌∙◌, cases_Bool, false_from_ne_true, false≢true, Text, line_feed, space}
 use Rattle.yaml_scalar.proofs.Common.{is_space, is_break, first_cursor, begins_with, render_lines, is_past_limit, folds, cut_from}
 use Rattle.yaml_scalar.proofs.Common.{folded_parts, Part, line, line_break, begun, parts, indented, render_step, lines_from}
@@ -22,14 +22,11 @@ folding_text limit indent column (line_break b ∷ rest) = indented indent (fold
 
 -- a line that was cut begins with a line
 abbrev pub BeginsLine : List Part → Type 0
-BeginsLine [] = ⊥
 BeginsLine (line text ∷ rest) = Unit {0}
-BeginsLine (line_break b ∷ rest) = ⊥
+BeginsLine _ = ⊥
 
 pub begun-line : (c : ℕ) (ps : List Part) → BeginsLine (begun c ps)
-begun-line c [] = tt
-begun-line c (line text ∷ rest) = tt
-begun-line c (line_break b ∷ rest) = tt
+begun-line c ps = grind (arith, nat_tests)
 
 cut-line-first : (limit : Option ℕ) (indent column : ℕ) (text : Text) → BeginsLine (cut_from limit indent column text)
 cut-line-first limit indent column [] = tt
@@ -54,8 +51,7 @@ continued-first indent c (line_break b ∷ others) rest h = absurd h
 fold-step : (limit : Option ℕ) (indent c : ℕ) (rest : Text) (column : ℕ) (fold : Bool) → is_break c ≡ false → folds limit column c rest ≡ fold
     → render_step limit indent Folding c rest (spot column false)
     ≡ record { text = if fold then line_feed ∷ replicate indent space else c ∷ []; cursor = spot (if fold then indent else column + 1) false }
-fold-step limit indent c rest column true e f = rw (e, f) refl
-fold-step limit indent c rest column false e f = rw (e, f) refl
+fold-step limit indent c rest column fold e f = grind (arith, nat_tests)
 
 -- the rest of a text begins with a space exactly if the rest of its line does
 space-no-break : (d : ℕ) → is_break d ≡ true → is_space d ≡ false
@@ -131,8 +127,7 @@ record FoldedFrom (limit : Option ℕ) (indent : ℕ) (text : Text) : Type 0 whe
 twice-text : (indent c : ℕ) (twice : Bool) (ps : List Part)
     → (if twice then c ∷ c ∷ [] else c ∷ []) ++ indented indent ps
     ≡ indented indent ((if twice then line_break c ∷ line_break c ∷ [] else line_break c ∷ []) ++ ps)
-twice-text indent c true ps = refl
-twice-text indent c false ps = refl
+twice-text indent c twice ps = grind (arith, nat_tests)
 
 folded-broken : (limit : Option ℕ) (indent c : ℕ) (rest : Text) → is_break c ≡ true → FoldedFrom limit indent rest → FoldedFrom limit indent (c ∷ rest)
 folded-broken limit indent c rest e more = grind (arith, from-step, break-step, twice-text)

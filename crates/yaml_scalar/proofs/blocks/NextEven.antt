@@ -1,11 +1,9 @@
 -- The next line that isn't empty, character by character.
-use Rattle.yaml_scalar.proofs.Common.{ℕ, false, not, true, List, [], ◌∷◌, refl, ◌≡◌, Text, is_space, is_break, next_line_unindented, Part, line, line_break}
-use Rattle.yaml_scalar.proofs.Common.{begun, parts}
+use Rattle.yaml_scalar.proofs.Common.{ℕ, false, not, true, List, ◌∷◌, refl, ◌≡◌, Text, is_space, is_break, next_line_unindented, Part}
+use Rattle.yaml_scalar.proofs.Common.{begun, parts, arith, nat_tests}
 
 even-begun : (c : ℕ) (ps : List Part) → next_line_unindented (begun c ps) ≡ not (is_space c)
-even-begun c [] = refl
-even-begun c (line text ∷ rest) = refl
-even-begun c (line_break b ∷ rest) = refl
+even-begun c ps = grind (arith, nat_tests)
 
 pub even-line : (c : ℕ) (rest : Text) → is_break c ≡ false → next_line_unindented (parts (c ∷ rest)) ≡ not (is_space c)
 even-line c rest e = rw e (even-begun c (parts rest))

@@ -2,9 +2,6 @@ use Rattle.yaml_mark.proofs.Common.{ℕ, length, List, ap, subst, sym, arith, pr
 use Rattle.yaml_mark.proofs.EscapingLemmas.{prefix_run, marked_run}
 use Rattle.yaml_mark.proofs.writing.prefix_run_length.Goals as goal
 
-pub overflow_sub-exclamation : goal.overflow_sub-exclamation
-overflow_sub-exclamation c = omega (arith, ap (λ (l : List ℕ). length l) c.in-Some.ensures.0)
-
 pub overflow_add-result : goal.overflow_add-result
 overflow_add-result c =
     omega (arith, ap (λ (l : List ℕ). length l) c.in-Some.ensures.0, prefix_len-le-length is_tag_character c.in-Some.rest.now, c.run_length.ensures)

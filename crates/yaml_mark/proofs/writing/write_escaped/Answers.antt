@@ -1,5 +1,5 @@
 use Rattle.yaml_mark.proofs.Common.{ℕ, eqb-true, subst, sym, ◌∙◌, arith, IsCharBoundary, chars, Text, render_text, byte_escaped, suffix_escaped, are_escaped}
-use Rattle.yaml_mark.proofs.Common.{refl, wrote_exit, wrote_cut}
+use Rattle.yaml_mark.proofs.Common.{wrote_exit}
 use Rattle.std.specs.List.{flat_map}
 use Rattle.yaml_mark.proofs.EscapingLemmas.{run_boundary, next_boundary, run_cut, forms_cut, moves_on}
 use Rattle.yaml_pen.proofs.StillToWrite.{still_rest, still_failed, still_part, end_still, unfailed_after}
@@ -73,8 +73,3 @@ pub returns : goal.returns
 returns g c =
     (end_still (λ (t : Text). render_text (suffix_escaped (are_escaped c.args.indicators) t)) c.loop-rest.rest.now
     (eqb-true _ 0 (sym c.is_empty.ensures ∙ c.loop-rest-test.false)) c.loop-rest.invariant.still).writes _ _ c.loop-rest.invariant.unfailed
-
-pub returns-in_err-write_nothing : goal.returns-in_err-write_nothing
-returns-in_err-write_nothing g c =
-    let text = suffix_escaped (are_escaped c.args.indicators) (chars c.args.text.now) in
-    wrote_exit c.from_residual.ensures (wrote_cut (render_text text) text refl c.in_err-write_nothing.ensures)

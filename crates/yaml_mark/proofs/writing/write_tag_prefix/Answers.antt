@@ -3,9 +3,6 @@ use Rattle.yaml_mark.proofs.EscapingLemmas.{content_cut, content_whole, prefix_p
 use Rattle.yaml_pen.proofs.Composing.{wrote_text_failed}
 use Rattle.yaml_mark.proofs.writing.write_tag_prefix.Goals as goal
 
-pub split_at-requires : goal.split_at-requires
-split_at-requires g c = c.prefix_run_length.ensures.boundary
-
 pub write_run-requires-clause-no_break : goal.write_run-requires-clause-no_break
 write_run-requires-clause-no_break g c = prefix_unbroken c.prefix_run_length.ensures c.split_at.ensures.front
 
