@@ -1,18 +1,15 @@
 -- An emitter's state is the one after the events that it was given.
-use Rattle.yaml_emitter.proofs.Common.{true, false, Bool, ℕ, Result, None, List, [], ◌++◌, ◌∷◌, ◌≡◌, ◌≤◌, arith, ap, length, length-append, refl}
+use Rattle.yaml_emitter.proofs.Common.{true, false, Bool, ℕ, Result, List, [], ◌++◌, ◌∷◌, ◌≡◌, ◌≤◌, arith, ap, length, length-append}
 use Rattle.yaml_emitter.proofs.Common.{subst, sym, take, ◌∙◌, false≢true, append-nil, Event, Page, Settings, State, written}
 use Rattle.std.proofs.lemmas.List.{take-append-le}
 use Rattle.std.proofs.Common.{inl, inr}
-use Rattle.std.specs.Prelude.{◌⊎◌, Option, Some, Ok, Err, IsOk, IsSome, OnOk}
-use Rattle.yaml_base.specs.declared.errors.yaml_error_t.TheVariants.{Memory}
-use Rattle.yaml_pen.specs.Page.{result_of_error}
+use Rattle.std.specs.Prelude.{Ok, Err, OnOk}
 use Rattle.yaml_pen.specs.Wrote.{Grows}
 use Rattle.yaml_emitter.proofs.Common.{with_all_taken}
-use Rattle.yaml_emitter.proofs.standing.{StandingFlagged.stands_flagged, Taking.stands_taken}
+use Rattle.yaml_emitter.proofs.standing.{Taking.stands_taken}
 use Rattle.yaml_base.specs.declared.errors.{yaml_error_t.yaml_error_t}
-use Rattle.yaml_emitter.specs.{Emits.UntakenIsTold, Emits.is_taken, EmitsEvent.CopyFailed}
 use Rattle.yaml_emitter.specs.{Emits.Emits, Emits.IsFlushed, Emits.Keeps, Emits.TakesEvent, Emits.TakesScalar, EmitsEvent.EmitsEvent, EmitsEvent.EmitsScalar}
-use Rattle.yaml_emitter.specs.{Moves.Moves, Moves.started_by, Promises.HasAllBytes, StandsAfter.StandsAfter, State.bytes_taken}
+use Rattle.yaml_emitter.specs.{Moves.Moves, Moves.started_by, Promises.HasAllBytes, StandsAfter.StandsAfter}
 
 none_more : (given more : List Event) (started after : Bool) → after ≡ started_by started more → (started ≡ false → given ≡ []) → after ≡ false
     → given ++ more ≡ []
@@ -102,27 +99,6 @@ pub takes_scalar : (before after : State) (event : Event) (answer : Result (Unit
 takes_scalar before after event answer keeps (inl emits) = inl (takes_event keeps emits)
 takes_scalar before after event answer keeps (inr failed) = inr failed
 
--- A scalar's call tells whether the scalar was taken.
-takes_is_told : (error : Option yaml_error_t) → is_taken (result_of_error error) error ≡ true
-takes_is_told None = refl
-takes_is_told (Some error) = refl
-
-told_taken : (before : State) (event : Event) (answer : Result (Unit {0}) yaml_error_t) (after : State) → TakesScalar before event answer after
-    → is_taken answer after.error ≡ true → TakesEvent before event answer after
-told_taken before event answer after (inl takes) told = takes
-told_taken before event answer after (inr failed) told =
-    absurd (false≢true (sym (ap (is_taken (Err Memory)) (ap (λ (s : State). s.error) failed.unchanged ∙ failed.no_error))
-    ∙ sym (ap (λ a. is_taken a after.error) failed.answered) ∙ told))
-
-told_untaken : (before : State) (event : Event) (answer : Result (Unit {0}) yaml_error_t) (after : State) → TakesScalar before event answer after
-    → is_taken answer after.error ≡ false → CopyFailed before answer after
-told_untaken before event answer after (inl takes) told =
-    absurd (false≢true (sym told ∙ ap (λ a. is_taken a after.error) takes.emits.answered ∙ takes_is_told after.error))
-told_untaken before event answer after (inr failed) told = failed
-
-pub untaken_is_told : UntakenIsTold
-untaken_is_told = record { taken = told_taken; untaken = told_untaken }
-
 pub all_flushed : (before after : State) (answer : Result (Unit {0}) yaml_error_t) → Keeps before → Moves before [] answer after
     → OnOk answer ((given : Settings) (all : List Event) → StandsAfter given all before → HasAllBytes given all after) → OnOk answer (IsFlushed after)
 all_flushed before after (Ok done) keeps moves whole =
@@ -136,11 +112,6 @@ pub keeps_given : {inside before after : State} → inside ≡ before → before
 keeps_given {inside} {before} {after} is none events within set keeps =
     let now = subst (λ (s : State). Keeps s) is keeps in keeps_set (now.unstarted none) events within set now
 
-pub keeps_limited : {inside before after : State} → inside ≡ before → before.has_output ≡ false → after.events ≡ before.events
-    → (Within before → Within after) → (StandsAfter before.given [] before → StandsAfter after.given [] after) → Keeps inside → Keeps after
-keeps_limited {inside} {before} {after} is none events within set keeps =
-    let now = subst (λ (s : State). Keeps s) is keeps in keeps_set (now.unset none) events within set now
-
 -- Taking its output changes neither,
 pub keeps_taken : {state after : State} → after ≡ with_all_taken state → Keeps state → Keeps after
 keeps_taken {state} {after} is keeps =
@@ -150,17 +121,6 @@ keeps_taken {state} {after} is keeps =
       unstarted = keeps.unstarted;
       unset = keeps.unset;
       taken = omega (arith);
-    })
-
--- nor does noting that its stream is opened or closed.
-pub keeps_flagged : {state after : State} (opened closed : Bool) → after ≡ record state { opened = opened; closed = closed } → Keeps state → Keeps after
-keeps_flagged {state} {after} opened closed is keeps =
-    subst (λ (s : State). Keeps s) (sym is)
-    (record {
-      stands = stands_flagged state.given state.events state opened closed keeps.stands;
-      unstarted = keeps.unstarted;
-      unset = keeps.unset;
-      taken = keeps.taken;
     })
 
 pub keeps_scalar : {before after : State} (event : Event) (answer : Result (Unit {0}) yaml_error_t) → before.has_output ≡ true → EmitsScalar before event answer after

@@ -77,8 +77,8 @@ pub use yaml_mark::{
 };
 pub use yaml_pen::{Indicator, Pen};
 pub use yaml_scalar::{
-    allows_literal, analyze_for_style, analyze_scalar, begins_blank, holds_break, is_simple_ascii,
-    scalar_data_t, select_scalar_style, write_block_scalar_hints, write_double_quoted_scalar,
-    write_folded_scalar, write_literal_scalar, write_plain_scalar, write_simple_ascii_scalar,
-    write_single_quoted_scalar,
+    allows_literal, analyze_for_style, analyze_scalar, append_double_quoted, begins_blank,
+    holds_break, is_simple_ascii, scalar_data_t, select_scalar_style, write_block_scalar_hints,
+    write_double_quoted_scalar, write_folded_scalar, write_literal_scalar, write_plain_scalar,
+    write_simple_ascii_scalar, write_single_quoted_scalar,
 };

@@ -48,8 +48,7 @@ first_sound canonical event events one others = and_from (is_sound canonical eve
 
 -- and so in the stream of a value
 pub stream_of_sound : (canonical : Bool) (events : List Event) → sound canonical events ≡ true → sound canonical (opening ++ events ++ closing) ≡ true
-stream_of_sound canonical events value =
-    both_sound canonical opening (events ++ closing) refl (both_sound canonical events closing value refl)
+stream_of_sound canonical events value = both_sound canonical opening (events ++ closing) refl (both_sound canonical events closing value refl)
 
 -- ---- how many collections are open
 

@@ -136,8 +136,7 @@ before date parts rest ends = splits in_date (date_text date) rest (date_passes 
 
 -- A date's text after its first digit.
 abbrev pub behind_first : CalendarDate → Text
-behind_first date =
-    (0x30 + date.year / 100 % 10) ∷ (two_digits date.year ++ codes "-" ++ two_digits date.month ++ codes "-" ++ two_digits date.day)
+behind_first date = (0x30 + date.year / 100 % 10) ∷ (two_digits date.year ++ codes "-" ++ two_digits date.month ++ codes "-" ++ two_digits date.day)
 
 pub first_digit : (date : CalendarDate) → DateSays date → is_decimal (0x30 + date.year / 1000 % 10) ≡ true
 first_digit date parts = (and_parts (is_decimal (0x30 + date.year / 1000 % 10)) _ parts.year.decimal).0

@@ -37,27 +37,23 @@ no_first c text h ((d ∷ word) ∷ words) all =
 
 no_word : (c : ℕ) (rest : Text) → begins_reserved (to_ascii_lowercase c) ≡ false → is_reserved (c ∷ rest) ≡ false
 no_word c rest h =
+    let some : (length (c ∷ rest) == 0) ≡ false = grind (arith, nat_tests) in
     ap (λ x. x || list_any (is_word (map to_ascii_lowercase (take_while is_ascii (c ∷ rest)))) reserved_words) some
     ∙ ap (λ t. list_any (is_word (map to_ascii_lowercase t)) reserved_words) (take_while-cons is_ascii c rest) ∙ by (is_ascii c)
   where
-    some : (length (c ∷ rest) == 0) ≡ false
-    some = grind (arith, nat_tests)
-
     by : (x : Bool) → list_any (is_word (map to_ascii_lowercase (if x then c ∷ take_while is_ascii rest else []))) reserved_words ≡ false
     by true = no_first (to_ascii_lowercase c) (map to_ascii_lowercase (take_while is_ascii rest)) h reserved_words refl
     by false = refl
 
 no_base : (c : ℕ) (rest : Text) → precedes_number c ≡ false → (c == 0x30) ≡ false → is_based (c ∷ rest) ≡ false
-no_base c rest h g =
-    ap (λ x. begins_based (drop (if x then 1 + prefix_len precedes_number rest else 0) (c ∷ rest))) h ∙ by rest
+no_base c rest h g = ap (λ x. begins_based (drop (if x then 1 + prefix_len precedes_number rest else 0) (c ∷ rest))) h ∙ by rest
   where
     by : (more : Text) → begins_based (c ∷ more) ≡ false
     by [] = refl
     by (d ∷ more) = ap (λ x. x && names_base d) g
 
 no_number : (c : ℕ) (rest : Text) → begins_number c ≡ false → is_numeric (c ∷ rest) ≡ false
-no_number c rest h =
-    ap (λ x. x && list_all in_number (c ∷ rest) && (list_any is_decimal (c ∷ rest) || not (list_any is_number_letter (c ∷ rest)))) h
+no_number c rest h = ap (λ x. x && list_all in_number (c ∷ rest) && (list_any is_decimal (c ∷ rest) || not (list_any is_number_letter (c ∷ rest)))) h
 
 pub undoubtful : (c : ℕ) (rest : Text) → c < 256 → begins_doubtful c ≡ false → is_doubtful (c ∷ rest) ≡ false
 undoubtful c rest fits h =
@@ -138,8 +134,7 @@ no_such_word text h (word ∷ words) all =
 
 -- after one character of ASCII, and after two
 second_leaves : (c d : ℕ) (rest : Text) → leaves_reserved d ≡ true → list_any (is_word (ascii_prefix (c ∷ d ∷ rest))) reserved_words ≡ false
-second_leaves c d rest h =
-    ap (λ t. list_any (is_word (map to_ascii_lowercase t)) reserved_words) (take_while-cons is_ascii c (d ∷ rest)) ∙ by (is_ascii c)
+second_leaves c d rest h = ap (λ t. list_any (is_word (map to_ascii_lowercase t)) reserved_words) (take_while-cons is_ascii c (d ∷ rest)) ∙ by (is_ascii c)
   where
     unlike : (t : Text) → goes_on (to_ascii_lowercase c ∷ to_ascii_lowercase d ∷ t) ≡ false
     unlike [] = leaves_lower d h
@@ -179,13 +174,10 @@ third_leaves c d e rest small h =
 -- by their places
 pub second_tells : (text : Text) → 1 < length text → leaves_reserved (get_or text 1 0) ≡ true
     → list_any (is_word (ascii_prefix text)) reserved_words ≡ false
-second_tells [] few h = absurd (omega (arith, few))
-second_tells (c ∷ []) few h = absurd (omega (arith, few))
 second_tells (c ∷ d ∷ rest) few h = second_leaves c d rest h
+second_tells _ few h = absurd (omega (arith, few))
 
 pub third_tells : (text : Text) → 2 < length text → get_or text 1 0 < 128 → leaves_reserved (get_or text 2 0) ≡ true
     → list_any (is_word (ascii_prefix text)) reserved_words ≡ false
-third_tells [] few small h = absurd (omega (arith, few))
-third_tells (c ∷ []) few small h = absurd (omega (arith, few))
-third_tells (c ∷ d ∷ []) few small h = absurd (omega (arith, few))
 third_tells (c ∷ d ∷ e ∷ rest) few small h = third_leaves c d e rest (le-leb d 0x7F (omega (arith, small))) h
+third_tells _ few small h = absurd (omega (arith, few))

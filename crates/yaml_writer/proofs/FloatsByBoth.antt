@@ -31,16 +31,14 @@ held false a h = absurd (true≢false (sym h))
 times_some : (decimal : Option Decimal) (exponent : Option ℤ) → some (times_power_of_ten decimal exponent) ≡ true
     → (some decimal ≡ true) × (some exponent ≡ true)
 times_some (Some decimal) (Some exponent) h = (refl, refl)
-times_some (Some decimal) None h = absurd (true≢false (sym h))
-times_some None exponent h = absurd (true≢false (sym h))
+times_some _ _ h = absurd (true≢false (sym h))
 
 -- a mantissa that both read has a point
 pointed_by_both : (a b : Bool) (parts : List Text) → some (core_mantissa a parts) ≡ true → some (mantissa_11 b parts) ≡ true → is_pointed parts ≡ true
-pointed_by_both a b [] h g = absurd (true≢false (sym h))
 pointed_by_both a b ([] ∷ []) h g = absurd (true≢false (sym g))
 pointed_by_both a b ((c ∷ whole) ∷ []) h g = absurd (true≢false (sym g))
 pointed_by_both a b (whole ∷ fraction ∷ []) h g = held (are_digits 10 (whole ++ fraction)) _ h
-pointed_by_both a b (x ∷ y ∷ z ∷ rest) h g = absurd (true≢false (sym h))
+pointed_by_both a b _ h g = absurd (true≢false (sym h))
 
 -- an exponent that 1.1 reads has a sign and digits
 signed_by_11 : (text : Text) → some (exponent_11 text) ≡ true → is_signed text ≡ true
@@ -53,7 +51,6 @@ signed_by_11 text h = by (first_meets is_plus_or_minus text) refl h
 float_cut_by_both : (a b : Bool) (parts : List Text)
     → some (scientific (λ mantissa. core_mantissa a (slice_split is_point mantissa)) exponent_read parts) ≡ true
     → some (scientific (λ mantissa. mantissa_11 b (slice_split is_point mantissa)) exponent_11 parts) ≡ true → is_float_cut parts ≡ true
-float_cut_by_both a b [] h g = absurd (true≢false (sym h))
 float_cut_by_both a b (m ∷ []) h g =
     pointed_by_both a b (slice_split is_point m) (times_some (core_mantissa a (slice_split is_point m)) (Some (pos 0)) h).0
     (times_some (mantissa_11 b (slice_split is_point m)) (Some (pos 0)) g).0
@@ -61,7 +58,7 @@ float_cut_by_both a b (m ∷ e ∷ []) h g =
     let core = times_some (core_mantissa a (slice_split is_point m)) (exponent_read e) h in
     let by_11 = times_some (mantissa_11 b (slice_split is_point m)) (exponent_11 e) g in
     and_from (is_pointed (slice_split is_point m)) (is_signed e) (pointed_by_both a b (slice_split is_point m) core.0 by_11.0) (signed_by_11 e by_11.1)
-float_cut_by_both a b (x ∷ y ∷ z ∷ rest) h g = absurd (true≢false (sym h))
+float_cut_by_both a b _ h g = absurd (true≢false (sym h))
 
 -- ---- no colon
 
@@ -96,7 +93,6 @@ mantissa_lacks_colons : (a : Bool) (text : Text) → some (core_mantissa a (slic
 mantissa_lacks_colons a text h = sym (cut_passes no_colon is_point (same_lacks 0x2E refl) text) ∙ by (slice_split is_point text) h
   where
     by : (parts : List Text) → some (core_mantissa a parts) ≡ true → lack_colons parts ≡ true
-    by [] h = absurd (true≢false (sym h))
     by (whole ∷ []) h =
         and_from (list_all no_colon whole) true
         (digits_lack_colons whole (sym (ap (are_digits 10) (append-nil whole)) ∙ held (are_digits 10 (whole ++ [])) _ h)) refl
@@ -104,7 +100,7 @@ mantissa_lacks_colons a text h = sym (cut_passes no_colon is_point (same_lacks 0
         let both = and_parts (list_all no_colon whole) (list_all no_colon fraction)
         (sym (list_all-append no_colon whole fraction) ∙ digits_lack_colons (whole ++ fraction) (held (are_digits 10 (whole ++ fraction)) _ h)) in
         and_from (list_all no_colon whole) _ both.0 (and_from (list_all no_colon fraction) true both.1 refl)
-    by (x ∷ y ∷ z ∷ rest) h = absurd (true≢false (sym h))
+    by _ h = absurd (true≢false (sym h))
 
 past_sign_lacks : (text : Text) → list_all no_colon (past_sign text) ≡ true → list_all no_colon text ≡ true
 past_sign_lacks [] h = refl
@@ -121,7 +117,6 @@ decimal_lacks_colons a text h = sym (cut_passes no_colon is_exponent_letter lett
   where
     by : (parts : List Text) → some (scientific (λ mantissa. core_mantissa a (slice_split is_point mantissa)) exponent_read parts) ≡ true
         → lack_colons parts ≡ true
-    by [] h = absurd (true≢false (sym h))
     by (m ∷ []) h =
         and_from (list_all no_colon m) true (mantissa_lacks_colons a m (times_some (core_mantissa a (slice_split is_point m)) (Some (pos 0)) h).0) refl
     by (m ∷ e ∷ []) h =
@@ -129,22 +124,20 @@ decimal_lacks_colons a text h = sym (cut_passes no_colon is_exponent_letter lett
         and_from (list_all no_colon m) _ (mantissa_lacks_colons a m both.0)
         (and_from (list_all no_colon e) true
         (past_sign_lacks e (digits_lack_colons (past_sign e) (held (are_digits 10 (past_sign e)) _ both.1))) refl)
-    by (x ∷ y ∷ z ∷ rest) h = absurd (true≢false (sym h))
+    by _ h = absurd (true≢false (sym h))
 
 -- so it is no number to the base of sixty
 fine_without_colon : (negative : Bool) (text : Text) → list_all no_colon text ≡ true → fine_sixties_11 negative (slice_split is_point text) ≡ None
 fine_without_colon negative text h = by (slice_split is_point text) (cut_passes no_colon is_point (same_lacks 0x2E refl) text ∙ h)
   where
     by : (parts : List Text) → lack_colons parts ≡ true → fine_sixties_11 negative parts ≡ None
-    by [] h = refl
-    by (whole ∷ []) h = refl
-    by (whole ∷ x ∷ y ∷ rest) h = refl
     by (whole ∷ fraction ∷ []) h =
         off (are_sixtieths is_decimal (slice_split is_colon whole) && are_grouped 10 fraction) _
         (and_left (are_sixtieths is_decimal (slice_split is_colon whole)) (are_grouped 10 fraction)
         (ap (are_sixtieths is_decimal)
         (slice_split_none is_colon whole
         (uncut_by no_colon is_colon (λ c e. not-true (is_colon c) e) whole (and_parts (list_all no_colon whole) _ h).0))))
+    by _ h = refl
 
 -- ---- readings that are no float
 
@@ -170,22 +163,18 @@ digits_unlike negative base digits = by (length digits == 0)
     by false = refl
 
 based_unlike : (negative : Bool) (letter base : ℕ) (text : Text) → unlike (based_11 negative letter base text) ≡ true
-based_unlike negative letter base [] = refl
-based_unlike negative letter base (a ∷ []) = refl
-based_unlike negative letter base (a ∷ b ∷ []) = refl
 based_unlike negative letter base (a ∷ b ∷ c ∷ rest) =
     if_unlike (a == 0x30 && b == letter && are_grouped base (c ∷ rest)) _ (digits_unlike negative base (ungrouped (c ∷ rest)))
+based_unlike negative letter base _ = refl
 
 octal_unlike : (negative : Bool) (text : Text) → unlike (octal_11 negative text) ≡ true
-octal_unlike negative [] = refl
-octal_unlike negative (a ∷ []) = refl
 octal_unlike negative (a ∷ b ∷ rest) = if_unlike (a == 0x30 && are_grouped 8 (b ∷ rest)) _ refl
+octal_unlike negative _ = refl
 
 more_points_unlike : (parts : List Text) → unlike (more_points_11 parts) ≡ true
-more_points_unlike [] = refl
 more_points_unlike (m ∷ []) = if_unlike _ meant_by_nobody refl
 more_points_unlike (m ∷ e ∷ []) = if_unlike _ meant_by_nobody refl
-more_points_unlike (x ∷ y ∷ z ∷ rest) = refl
+more_points_unlike _ = refl
 
 -- words that 1.1 has besides
 named_unlike_float : (table : List (Text × Resolved)) (text : Text) → list_all (λ entry. unlike (Some entry.1)) table ≡ true

@@ -25,8 +25,7 @@ took_nothing writer bare =
 -- without a call that takes
 pub emits_untaken : {before after : State} {events : List Event} {answer : Result (Unit {0}) yaml_error_t} → Emits before events answer after
     → EmitsTaking before events [] after
-emits_untaken {before} emits =
-    record { given = emits.set.given; appended = emits.set.events; taken = emits.taken ∙ sym (append-nil (bytes_taken before)) }
+emits_untaken {before} emits = record { given = emits.set.given; appended = emits.set.events; taken = emits.taken ∙ sym (append-nil (bytes_taken before)) }
 
 pub emits_taking_then : {before middle after : State} {first second : List Event} {one_bytes other_bytes : List ℕ}
     → EmitsTaking before first one_bytes middle → EmitsTaking middle second other_bytes after

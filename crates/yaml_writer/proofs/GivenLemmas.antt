@@ -73,8 +73,7 @@ wrote_same before after events same is = subst (λ (e : List Event). WasGiven be
 pub wrote_event : (before after : WriterState) (event same : Event) → event ≡ same → GaveEvent before event (Ok tt) after → WroteEvent before same after
 wrote_event before after event same is gave =
     record {
-      emits =
-          subst (λ (e : Event). Emits before.emitter (e ∷ []) (result_of_error after.emitter.error) after.emitter) is (emits_by gave.emits);
+      emits = subst (λ (e : Event). Emits before.emitter (e ∷ []) (result_of_error after.emitter.error) after.emitter) is (emits_by gave.emits);
       canonical = gave.canonical;
       levels = gave.levels;
       bare = (gave.no_anchor, gave.no_tag);
@@ -87,8 +86,7 @@ scalar_by value style anchor tag =
     scalar (record { anchor = anchor; tag = tag; value = value; plain_implicit = is_none tag; quoted_implicit = is_none tag; style = style })
 
 pub word_is : (writer : WriterState) (own word : Text) → IsBare writer → word_event writer own word ≡ scalar (word_content writer.canonical own word)
-word_is writer own word bare =
-    ap₂ (scalar_by word plain) bare.0 (ap (λ (tag : Option Text). tag_or_default tag writer.canonical own) bare.1)
+word_is writer own word bare = ap₂ (scalar_by word plain) bare.0 (ap (λ (tag : Option Text). tag_or_default tag writer.canonical own) bare.1)
 
 pub text_is : (writer : WriterState) (text : Text) → IsBare writer → text_event writer text ≡ scalar (text_content text)
 text_is writer text bare = ap₂ (scalar_by text (text_style text)) bare.0 bare.1

@@ -59,9 +59,8 @@ passes breaks12 (c ∷ rest) Within text =
 shown_by : (c : ℕ) (feed printable broken : Bool) → (c == line_feed) ≡ feed → is_printable c ≡ printable
     → is_shown (if feed || (printable && not broken) then c else space) ≡ true
 shown_by c true printable broken feeds prints = ap is_shown (eqb-true c line_feed feeds)
-shown_by c false true true feeds prints = refl
 shown_by c false true false feeds prints = ap (λ (b : Bool). b || c == tab) prints
-shown_by c false false broken feeds prints = refl
+shown_by c false _ _ feeds prints = refl
 
 character_shown : (c : ℕ) → is_shown (in_comment c) ≡ true
 character_shown c = shown_by c (c == line_feed) (is_printable c) (is_break c) refl refl

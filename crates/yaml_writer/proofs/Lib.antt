@@ -15,6 +15,7 @@ pub mod MissingNodes
 pub mod Finishing
 pub mod GivenLemmas
 pub mod OpenLevels
+pub mod AnswerLemmas
 pub mod GivenAndTaken
 pub mod WholeStreams
 pub mod WaitingStarts
@@ -37,4 +38,6 @@ pub mod HeadingLemmas
 pub mod Accepting
 pub mod StreamRefusals
 pub mod WhyFailed
+pub mod Unsigned
+pub mod DocumentsOf
 pub mod rows

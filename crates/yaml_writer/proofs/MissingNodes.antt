@@ -2,7 +2,7 @@
 use Rattle.yaml_base.proofs.Common.{if◌then◌else◌, ◌==◌, is_some, is_none, option_and_then, Option, None, Some, nat_lt, length, Bool, false, not, true, ◌&&◌}
 use Rattle.yaml_base.proofs.Common.{◌||◌, List, [], ◌++◌, ◌∷◌, refl, ◌≡◌, ap, sym, ◌∙◌, list_all, option_or, Text, is_alpha, Version, TagDirective, Event}
 use Rattle.yaml_base.proofs.Common.{document_start, alias, scalar, sequence_start, mapping_start, scalar_tag, collection_tag, Partial, before_stream}
-use Rattle.yaml_base.proofs.Common.{between_documents, within_document, after_root, after_stream, push, pushed, some_if, name_or_tag_fault, content_fault}
+use Rattle.yaml_base.proofs.Common.{within_document, push, pushed, some_if, name_or_tag_fault, content_fault}
 use Rattle.yaml_base.proofs.Common.{expected, place_fault, most_open, begins_collection, open_levels, depth_fault, refusal_at, name_fault, anchor_fault}
 use Rattle.yaml_base.proofs.Common.{alias_fault, tag_fault, version_fault, exclamation_mark, handle_fault, prefix_fault, directive_fault, gives_handle}
 use Rattle.yaml_base.proofs.Common.{next_directive_fault, directives_fault_after, lacks_tag_and_flags}
@@ -121,11 +121,8 @@ by_place None (Some error) others one other is = is
 by_place (Some error) place others one other is = absurd (one is)
 
 open_place : (partial : Partial) → Some (expected partial) ≡ Some ExpectedNode → awaits_more (Some partial) ≡ true
-open_place before_stream is = cc
-open_place (between_documents encoding before) is = cc
 open_place (within_document encoding before start levels) is = refl
-open_place (after_root encoding before start root) is = cc
-open_place (after_stream stream) is = cc
+open_place _ is = cc
 
 -- A place with such an error is open, and the event can't come there.
 at_place : (partial : Partial) (next : Option Partial) → some_if (is_none next) (expected partial) ≡ Some ExpectedNode

@@ -17,8 +17,7 @@ use Rattle.yaml_base.specs.values.JsonNumbers.{JsonExponent, JsonNumber, is_whol
 
 digits_pass : (digits : Text) → AllDigits 10 digits → list_all is_decimal digits ≡ true
 digits_pass [] h = refl
-digits_pass (c ∷ digits) h =
-    and_from (is_decimal c) (list_all is_decimal digits) (lt-ltb (digit_value c) 10 h.0) (digits_pass digits h.1)
+digits_pass (c ∷ digits) h = and_from (is_decimal c) (list_all is_decimal digits) (lt-ltb (digit_value c) 10 h.0) (digits_pass digits h.1)
 
 are_some : (digits : Text) → 0 < length digits → AllDigits 10 digits → are_digits 10 digits ≡ true
 are_some [] some h = absurd (omega arith)

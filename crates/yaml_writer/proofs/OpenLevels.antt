@@ -1,5 +1,5 @@
 -- The collections that are open after some events, and writers that were given these events.
-use Rattle.yaml_writer.proofs.Common.{ℕ, Bool, Result, List, [], ◌++◌, ◌∷◌, refl, ◌≡◌, ap, subst, sym, ◌∙◌, arith, length, take}
+use Rattle.yaml_writer.proofs.Common.{Bool, Result, List, [], ◌++◌, ◌∷◌, refl, ◌≡◌, ap, subst, sym, ◌∙◌, arith, length, take}
 use Rattle.yaml_writer.proofs.Common.{Event, WriterState, State, GaveEvent, PassedEvents, end_event, result_of_error}
 use Rattle.yaml_emitter.specs.Emits.{Emits}
 use Rattle.std.specs.Prelude.{◌-◌}
@@ -67,8 +67,7 @@ pub gave_event : (before first after : WriterState) (event : Event) (answer : Re
     → GaveEvents before (event ∷ []) after
 gave_event before first after event answer emitter canonical levels gave =
     record {
-      emits =
-          subst (λ (s : State). Emits s (event ∷ []) (result_of_error after.emitter.error) after.emitter) emitter (emits_by gave.emits);
+      emits = subst (λ (s : State). Emits s (event ∷ []) (result_of_error after.emitter.error) after.emitter) emitter (emits_by gave.emits);
       canonical = gave.canonical ∙ canonical;
       levels = gave.levels ∙ levels;
       bare = (gave.no_anchor, gave.no_tag);

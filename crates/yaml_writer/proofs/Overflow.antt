@@ -57,11 +57,10 @@ stopped_by given all prefix state is passes whole (stops_within event begun) =
 -- an emitter that answers the write error was given events whose bytes pass the limit
 pub overflowed : (given : Settings) (all : List Event) (state : State) → StateStands given all state → state.error ≡ Some WriteError → PassesLimit given all
 overflowed given all state stands is =
+    let stops = subst (λ (error : Option yaml_error_t). OutputBegins given all error state) is (promises_output given all state stands) in
+    let encoding = stopped_encoding given all state (stands_failed given all state WriteError stands is) (omega (arith, fills.passed)) in
     stopped_by given all stops.0 state encoding fills.passed whole stops.1
   where
-    stops : (prefix : List Event) × StopsWriting given all prefix state
-    stops = subst (λ (error : Option yaml_error_t). OutputBegins given all error state) is (promises_output given all state stands)
-
     fills : FillsLimit given all state
     fills = promises_full given all state stands is
 
@@ -69,6 +68,3 @@ overflowed given all state stands is =
     whole accepted uncut =
         let same = sym (append-nil all) in
         fills.unfit (record { more = []; accepted = subst (IsAccepted given.canonical) same accepted; uncut = subst (IsUncut given) same uncut })
-
-    encoding : state.page.encoding ≡ Some (settings_for given all).encoding
-    encoding = stopped_encoding given all state (stands_failed given all state WriteError stands is) (omega (arith, fills.passed))

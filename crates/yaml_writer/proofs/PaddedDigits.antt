@@ -120,18 +120,14 @@ IsInteger negative base digits = first_reading (numbers_11 negative digits) ≡ 
 octal_by_11 : (negative : Bool) (c d : ℕ) (digits : Text) → (c == 0x30) ≡ true → list_all is_decimal (c ∷ d ∷ digits) ≡ true
     → list_all (λ c. is_digit c 8) (c ∷ d ∷ digits) ≡ true → IsInteger negative 8 (c ∷ d ∷ digits)
 octal_by_11 negative c d digits begins decimal octal =
+    let later : list_all is_decimal (d ∷ digits) ≡ true = (and_parts (is_decimal c) (list_all is_decimal (d ∷ digits)) decimal).1 in
+    let digit : is_decimal d ≡ true = (and_parts (is_decimal d) (list_all is_decimal digits) later).0 in
     passed _ _ (float_11_none negative c (d ∷ digits) decimal)
     ∙ passed _ _ (based_11_none negative 0x62 2 c (d ∷ digits) (digit_unlike d 0x62 refl digit))
     ∙ passed _ _ (based_11_none negative 0x78 16 c (d ∷ digits) (digit_unlike d 0x78 refl digit))
     ∙ found _ _ _ (octal_read negative c d digits begins (and_parts (is_digit c 8) (list_all (λ c. is_digit c 8) (d ∷ digits)) octal).1)
     ∙ ap (λ t. meant_integer (signed negative (digits_value 8 t))) (digits_ungrouped (d ∷ digits) later)
     ∙ ap (λ n. meant_integer (signed negative n)) (sym (zero_first 8 c (d ∷ digits) begins))
-  where
-    later : list_all is_decimal (d ∷ digits) ≡ true
-    later = (and_parts (is_decimal c) (list_all is_decimal (d ∷ digits)) decimal).1
-
-    digit : is_decimal d ≡ true
-    digit = (and_parts (is_decimal d) (list_all is_decimal digits) later).0
 
 -- an octal digit after zeros to either base
 padded_by_11 : (negative : Bool) (c : ℕ) (digits : Text) → list_all is_decimal (c ∷ digits) ≡ true → is_padded_digit (c ∷ digits) ≡ true
@@ -171,8 +167,7 @@ other_by_11 negative (c ∷ digits) decimal other octal e = by (c == 0x30) digit
         let parts = or_parts (is_whole_part (c ∷ digits)) (is_padded_digit (c ∷ digits)) other in
         absurd (true≢false (sym (and_from (are_digits 10 (c ∷ digits)) _ decimal
         (or_right (is_word (c ∷ digits) (codes "0")) (not (c == 0x30)) (not_from_false (c == 0x30) begins))) ∙ parts.0))
-    by true [] begins decimal other octal e =
-        absurd (true≢false (sym (ap (λ c. are_integer_digits (c ∷ [])) (eqb-true c 0x30 begins)) ∙ other))
+    by true [] begins decimal other octal e = absurd (true≢false (sym (ap (λ c. are_integer_digits (c ∷ [])) (eqb-true c 0x30 begins)) ∙ other))
     by true (d ∷ digits) begins decimal other octal e =
         let parts = or_parts (is_whole_part (c ∷ d ∷ digits)) (is_padded_digit (c ∷ d ∷ digits)) other in
         let all = all_digits 10 (c ∷ d ∷ digits) decimal in

@@ -6,7 +6,7 @@ use Rattle.yaml_writer.proofs.Common.{is_json_number, minus, exponent_text, json
 use Rattle.yaml_base.proofs.Common.{⊤, slice_index_or as get_or, eq-eqb, ne_eqb, past_sign, is_negative}
 use Rattle.std.proofs.Common.{◌≢◌, subst}
 use Rattle.yaml_base.proofs.NumberCuts.{minus_read}
-use Rattle.yaml_writer.proofs.ValidNumbers.{Valid, valid_parts}
+use Rattle.yaml_writer.proofs.ValidNumbers.{valid_parts}
 use Rattle.yaml_writer.specs.NumberParts.{cut_at_first, past_minus, sign_of, exponent_in, around, exponent_cut, around_point, fraction_cut, number_in}
 use Rattle.yaml_writer.specs.NumberParts.{HasNumber}
 
@@ -19,11 +19,9 @@ lacks sign text = list_all (λ c. not (c == sign)) text
 pub cut_none : (sign : ℕ) (text : Text) → lacks sign text ≡ true → cut_at_first sign text ≡ None
 cut_none sign [] h = refl
 cut_none sign (c ∷ rest) h =
+    let both = and_parts (not (c == sign)) (lacks sign rest) h in
     ap (λ x. if x then Some ([], rest) else option_map (λ parts. (c ∷ parts.0, parts.1)) (cut_at_first sign rest)) (not-true (c == sign) both.0)
     ∙ ap (option_map (λ parts. (c ∷ parts.0, parts.1))) (cut_none sign rest both.1)
-  where
-    both : (not (c == sign) ≡ true) × (lacks sign rest ≡ true)
-    both = and_parts (not (c == sign)) (lacks sign rest) h
 
 same_sign : (sign : ℕ) → (sign == sign) ≡ true
 same_sign sign = eq-eqb sign sign refl
@@ -31,12 +29,10 @@ same_sign sign = eq-eqb sign sign refl
 pub cut_found : (sign : ℕ) (text rest : Text) → lacks sign text ≡ true → cut_at_first sign (text ++ (sign ∷ rest)) ≡ Some (text, rest)
 cut_found sign [] rest h = ap (λ x. if x then Some ([], rest) else option_map (λ parts. (sign ∷ parts.0, parts.1)) (cut_at_first sign rest)) (same_sign sign)
 cut_found sign (c ∷ text) rest h =
+    let both = and_parts (not (c == sign)) (lacks sign text) h in
     ap (λ x. if x then Some ([], text ++ (sign ∷ rest)) else option_map (λ parts. (c ∷ parts.0, parts.1)) (cut_at_first sign (text ++ (sign ∷ rest))))
     (not-true (c == sign) both.0)
     ∙ ap (option_map (λ parts. (c ∷ parts.0, parts.1))) (cut_found sign text rest both.1)
-  where
-    both : (not (c == sign) ≡ true) × (lacks sign text ≡ true)
-    both = and_parts (not (c == sign)) (lacks sign text) h
 
 -- the parts of a cut make the text
 abbrev pub Joins : ℕ → Text → Option (Text × Text) → Type 0
@@ -118,26 +114,16 @@ mantissa_joins text = by (cut_at_first 0x65 text) (cut_at_first 0x45 text) (cut_
 -- all parts together
 pub parts_join : (text : Text) → json_text (number_in text) ≡ text
 parts_join text =
+    let negative = is_negative text in
+    let unsigned = past_minus text in
+    let exponent : Option JsonExponent = (exponent_cut unsigned).1 in
+    let whole : Text = (fraction_cut (exponent_cut unsigned).0).0 in
+    let fraction : Option Text = (fraction_cut (exponent_cut unsigned).0).1 in
     ap (λ t. t ++ exponent_text exponent) (append_assoc (minus negative) whole (fraction_text fraction))
     ∙ append_assoc (minus negative) (whole ++ fraction_text fraction) (exponent_text exponent)
     ∙ ap (λ t. minus negative ++ (t ++ exponent_text exponent)) (fraction_joins (exponent_cut unsigned).0)
     ∙ ap (λ t. minus negative ++ t) (mantissa_joins unsigned)
     ∙ sign_joins text
-  where
-    negative : Bool
-    negative = is_negative text
-
-    unsigned : Text
-    unsigned = past_minus text
-
-    exponent : Option JsonExponent
-    exponent = (exponent_cut unsigned).1
-
-    whole : Text
-    whole = (fraction_cut (exponent_cut unsigned).0).0
-
-    fraction : Option Text
-    fraction = (fraction_cut (exponent_cut unsigned).0).1
 
 -- The parts of a number's text are the number's
 
@@ -147,10 +133,8 @@ lacks_both sign text rest h g = list_all-append (λ c. not (c == sign)) text res
 digits_lack : (sign : ℕ) (digits : Text) → is_decimal sign ≡ false → list_all is_decimal digits ≡ true → lacks sign digits ≡ true
 digits_lack sign [] other h = refl
 digits_lack sign (c ∷ digits) other h =
+    let both = and_parts (is_decimal c) (list_all is_decimal digits) h in
     and_from (not (c == sign)) (lacks sign digits) (not_from_false (c == sign) (digit_unlike c sign other both.0)) (digits_lack sign digits other both.1)
-  where
-    both : (is_decimal c ≡ true) × (list_all is_decimal digits ≡ true)
-    both = and_parts (is_decimal c) (list_all is_decimal digits) h
 
 fraction_lacks : (sign : ℕ) (fraction : Option Text) → is_decimal sign ≡ false → (0x2E == sign) ≡ false → is_fraction fraction ≡ true
     → lacks sign (fraction_text fraction) ≡ true
@@ -161,8 +145,7 @@ fraction_lacks sign (Some digits) other point h =
 
 fraction_cut_at : (whole : Text) (fraction : Option Text) → list_all is_decimal whole ≡ true
     → fraction_cut (whole ++ fraction_text fraction) ≡ (whole, fraction)
-fraction_cut_at whole None h =
-    ap fraction_cut (append-nil whole) ∙ ap (λ o. around_point o whole) (cut_none 0x2E whole (digits_lack 0x2E whole refl h))
+fraction_cut_at whole None h = ap fraction_cut (append-nil whole) ∙ ap (λ o. around_point o whole) (cut_none 0x2E whole (digits_lack 0x2E whole refl h))
 fraction_cut_at whole (Some digits) h =
     ap (λ o. around_point o (whole ++ (codes "." ++ digits))) (cut_found 0x2E whole digits (digits_lack 0x2E whole refl h))
 
@@ -185,24 +168,16 @@ exponent_found capital (Some true) digits h = refl
 exponent_found capital (Some false) digits h = refl
 exponent_found capital None [] h = absurd (true≢false (sym h))
 exponent_found capital None (c ∷ digits) h =
+    let digit : is_decimal c ≡ true =
+    (and_parts (is_decimal c) (list_all is_decimal digits) (and_parts (not (length (c ∷ digits) == 0)) (list_all is_decimal (c ∷ digits)) h).1).0 in
+    let no_plus = digit_unlike c 0x2B refl digit in
+    let no_minus = digit_unlike c 0x2D refl digit in
+    let unsigned = ap (λ x. if x then Some true else (if c == 0x2B then Some false else None)) no_minus ∙ ap (λ x. if x then Some false else None) no_plus in
     ap (λ s. made s (past_sign (c ∷ digits))) unsigned ∙ ap (made None)
     (ap (λ x. if x then digits else c ∷ digits) (or_from (c == 0x2B) (c == 0x2D) no_plus no_minus))
   where
     made : Option Bool → Text → JsonExponent
     made sign text = record { capital = capital; sign = sign; digits = text }
-
-    digit : is_decimal c ≡ true
-    digit = (and_parts (is_decimal c) (list_all is_decimal digits) (and_parts (not (length (c ∷ digits) == 0)) (list_all is_decimal (c ∷ digits)) h).1).0
-
-    no_plus : (c == 0x2B) ≡ false
-    no_plus = digit_unlike c 0x2B refl digit
-
-    no_minus : (c == 0x2D) ≡ false
-    no_minus = digit_unlike c 0x2D refl digit
-
-    unsigned : sign_of (c ∷ digits) ≡ None
-    unsigned =
-        ap (λ x. if x then Some true else (if c == 0x2B then Some false else None)) no_minus ∙ ap (λ x. if x then Some false else None) no_plus
 
 exponent_cut_at : (mantissa : Text) (exponent : Option JsonExponent) → lacks 0x65 mantissa ≡ true → lacks 0x45 mantissa ≡ true → is_exponent exponent ≡ true
     → exponent_cut (mantissa ++ exponent_text exponent) ≡ (mantissa, exponent)
@@ -251,6 +226,9 @@ cut_of : (negative : Bool) (c : ℕ) (whole : Text) (fraction : Option Text) (ex
     → number_in (minus negative ++ (((c ∷ whole) ++ fraction_text fraction) ++ exponent_text exponent))
     ≡ record { negative = negative; whole = c ∷ whole; fraction = fraction; exponent = exponent }
 cut_of negative c whole fraction exponent h g e =
+    let unsigned = mantissa ++ exponent_text exponent in
+    let rest : Text = (whole ++ fraction_text fraction) ++ exponent_text exponent in
+    let digit : is_decimal c ≡ true = (and_parts (is_decimal c) (list_all is_decimal whole) h).0 in
     ap (λ x. assembled x (exponent_cut (past_minus (minus negative ++ unsigned)))) (minus_read negative c rest digit)
     ∙ ap (λ t. assembled negative (exponent_cut t)) (past_minus_at negative c rest digit)
     ∙ ap (assembled negative) (exponent_cut_at mantissa exponent (mantissa_lacks 0x65 refl refl) (mantissa_lacks 0x45 refl refl) e)
@@ -259,17 +237,8 @@ cut_of negative c whole fraction exponent h g e =
     mantissa : Text
     mantissa = (c ∷ whole) ++ fraction_text fraction
 
-    unsigned : Text
-    unsigned = mantissa ++ exponent_text exponent
-
-    rest : Text
-    rest = (whole ++ fraction_text fraction) ++ exponent_text exponent
-
     made : Text → Option Text → JsonNumber
     made w f = record { negative = negative; whole = w; fraction = f; exponent = exponent }
-
-    digit : is_decimal c ≡ true
-    digit = (and_parts (is_decimal c) (list_all is_decimal whole) h).0
 
     mantissa_lacks : (sign : ℕ) → is_decimal sign ≡ false → (0x2E == sign) ≡ false → lacks sign mantissa ≡ true
     mantissa_lacks sign other point =
@@ -290,13 +259,11 @@ cut_of_parts negative (c ∷ whole) fraction exponent h g e =
 -- the number in the text of a number is that number
 pub number_found : (number : JsonNumber) → is_json_number number ≡ true → number_in (json_text number) ≡ number
 number_found number h =
+    let valid = valid_parts number h in
     ap number_in
     (ap (λ t. t ++ exponent_text number.exponent) (append_assoc (minus number.negative) number.whole (fraction_text number.fraction))
     ∙ append_assoc (minus number.negative) (number.whole ++ fraction_text number.fraction) (exponent_text number.exponent))
     ∙ cut_of_parts number.negative number.whole number.fraction number.exponent valid.whole valid.fraction valid.exponent
-  where
-    valid : Valid number
-    valid = valid_parts number h
 
 -- a text that is some number is the one in it
 pub number_in_text : (text : Text) → HasNumber text → IsNumber text (number_in text)

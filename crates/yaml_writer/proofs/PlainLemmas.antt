@@ -25,11 +25,7 @@ style_by broken sure style = style
 
 by_text : (asked : ScalarStyle) (text : Text) → style_asked asked text ≡ style_by (list_any is_break text) (is_surely_text text) asked
 by_text any_style text = refl
-by_text plain text = refl
-by_text single_quoted text = refl
-by_text double_quoted text = refl
-by_text literal text = refl
-by_text folded text = refl
+by_text _ text = refl
 
 -- plain is chosen only for a text that is surely one
 plain_sure : (asked : ScalarStyle) (allowed : Allowances) (plain_fits block_fits double broken sure : Bool)
@@ -37,13 +33,11 @@ plain_sure : (asked : ScalarStyle) (allowed : Allowances) (plain_fits block_fits
 plain_sure asked allowed plain_fits block_fits true broken sure is = cc
 plain_sure any_style allowed plain_fits block_fits false true sure is = absurd (block_apart block_fits is)
 plain_sure any_style allowed plain_fits block_fits false false true is = refl
-plain_sure any_style allowed plain_fits block_fits false false false is = absurd (quoted_apart allowed.single_quoted_allowed is)
 plain_sure plain allowed plain_fits block_fits false broken true is = refl
-plain_sure plain allowed plain_fits block_fits false broken false is = absurd (quoted_apart allowed.single_quoted_allowed is)
-plain_sure single_quoted allowed plain_fits block_fits false broken sure is = absurd (quoted_apart allowed.single_quoted_allowed is)
 plain_sure double_quoted allowed plain_fits block_fits false broken sure is = cc
 plain_sure literal allowed plain_fits block_fits false broken sure is = absurd (block_apart block_fits is)
 plain_sure folded allowed plain_fits block_fits false broken sure is = absurd (folded_apart block_fits is)
+plain_sure _ allowed plain_fits block_fits false _ _ is = absurd (quoted_apart allowed.single_quoted_allowed is)
 
 pub plain_texts : PlainTextsAreTexts
 plain_texts asked text allowed empty tag_written plain_implicit quoted_implicit flow simple_key canonical is =

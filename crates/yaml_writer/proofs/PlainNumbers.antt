@@ -2,10 +2,10 @@
 use Rattle.yaml_writer.proofs.Common.{ℕ, if◌then◌else◌, ◌==◌, codes, length, Bool, false, not, true, ◌&&◌, ◌||◌, [], ◌++◌, ◌∷◌, refl, ◌≡◌, ltb-true}
 use Rattle.yaml_writer.proofs.Common.{true≢false, ap, sym, ◌∙◌, arith, and_parts, and_from, and_left, and_right, or_from, not_from_false, not-true}
 use Rattle.yaml_writer.proofs.Common.{digit_from_value, digit_value, list_all, list_any, digit_unlike, Text, is_among, is_ascii, is_space, is_break, plain}
-use Rattle.yaml_writer.proofs.Common.{Allowances, requested_style, fitting_style, fits_plain, minus, fraction_or_default, is_json_integer, exponent_spelled}
+use Rattle.yaml_writer.proofs.Common.{requested_style, fitting_style, fits_plain, minus, fraction_or_default, is_json_integer, exponent_spelled}
 use Rattle.yaml_writer.proofs.Common.{yaml_number, is_decimal, are_digits}
 use Rattle.yaml_base.proofs.Common.{or_parts, agree_below_at, line_separator, paragraph_separator, is_printable, Charset, somewhere, is_empty, is_special}
-use Rattle.yaml_base.proofs.Common.{allowances, quoted_style, chosen, json_value, means_number, resolved_by_core, resolved_by_11}
+use Rattle.yaml_base.proofs.Common.{allowances, quoted_style, chosen}
 use Rattle.std.proofs.lemmas.Bool.{agree_below}
 use Rattle.yaml_base.proofs.NumbersRead.{numbers_are_read}
 use Rattle.yaml_base.specs.scalars.Analysis.{begins_with, is_gap, ends_word, begins_like_marker, is_indicator, begins_unlike_plain, bars_plain, allows_plain}
@@ -59,15 +59,11 @@ no_harm c h =
 -- The characters that are special in no set of characters.
 pub never_special : (charset : Charset) (c : ℕ) → is_special narrowest c ≡ false → is_special charset c ≡ false
 never_special charset c h =
+    let both = or_parts (not (is_printable c) || not (is_ascii c)) (c == line_separator || c == paragraph_separator) h in
+    let first = or_parts (not (is_printable c)) (not (is_ascii c)) both.0 in
     or_from (not (is_printable c) || (not charset.unicode && not (is_ascii c))) (charset.breaks12 && (c == line_separator || c == paragraph_separator))
     (or_from (not (is_printable c)) (not charset.unicode && not (is_ascii c)) first.0 (and_right (not charset.unicode) (not (is_ascii c)) first.1))
     (and_right charset.breaks12 (c == line_separator || c == paragraph_separator) both.1)
-  where
-    both : ((not (is_printable c) || not (is_ascii c)) ≡ false) × ((c == line_separator || c == paragraph_separator) ≡ false)
-    both = or_parts (not (is_printable c) || not (is_ascii c)) (c == line_separator || c == paragraph_separator) h
-
-    first : (not (is_printable c) ≡ false) × (not (is_ascii c) ≡ false)
-    first = or_parts (not (is_printable c)) (not (is_ascii c)) both.0
 
 -- Texts
 
@@ -82,25 +78,21 @@ unbarred charset flow c rest h =
 pub nowhere_barred : (charset : Charset) (flow : Bool) (text : Text) → list_all is_harmless text ≡ true → somewhere (bars_plain charset flow) text ≡ false
 nowhere_barred charset flow [] h = refl
 nowhere_barred charset flow (c ∷ rest) h =
+    let both = and_parts (is_harmless c) (list_all is_harmless rest) h in
     or_from (bars_plain charset flow c rest) (somewhere (bars_plain charset flow) rest) (unbarred charset flow c rest (no_harm c both.0))
     (nowhere_barred charset flow rest both.1)
-  where
-    both : (is_harmless c ≡ true) × (list_all is_harmless rest ≡ true)
-    both = and_parts (is_harmless c) (list_all is_harmless rest) h
 
 unbroken : (text : Text) → list_all is_harmless text ≡ true → list_any is_break text ≡ false
 unbroken [] h = refl
-unbroken (c ∷ rest) h = or_from (is_break c) (list_any is_break rest) (no_harm c both.0).breaks (unbroken rest both.1)
-  where
-    both : (is_harmless c ≡ true) × (list_all is_harmless rest ≡ true)
-    both = and_parts (is_harmless c) (list_all is_harmless rest) h
+unbroken (c ∷ rest) h =
+    let both = and_parts (is_harmless c) (list_all is_harmless rest) h in
+    or_from (is_break c) (list_any is_break rest) (no_harm c both.0).breaks (unbroken rest both.1)
 
 -- Beginnings
 
 pub no_exclamation : (c : ℕ) (rest : Text) → (c == 45 || c == 46) ≡ false → begins_like_marker (c ∷ rest) ≡ false
-no_exclamation c [] h = refl
-no_exclamation c (d ∷ []) h = refl
 no_exclamation c (d ∷ e ∷ rest) h = and_left ((c == 45 || c == 46) && d == c) (e == c) (and_left (c == 45 || c == 46) (d == c) h)
+no_exclamation c _ h = refl
 
 pub no_exponent_letter_after : (c : ℕ) (rest : Text) → (c == 45) ≡ false → begins_like_marker (0x2D ∷ c ∷ rest) ≡ false
 no_exponent_letter_after c [] h = refl
@@ -112,20 +104,14 @@ begins_as_plain true c rest digit =
     (or_from (begins_like_marker (0x2D ∷ c ∷ rest)) false (no_exponent_letter_after c rest (digit_unlike c 45 refl digit)) refl)
     (no_harm c (digit_harmless c digit)).gap
 begins_as_plain false c rest digit =
+    let alone =
+    or_parts (is_space c || (c == 45 || c == 46) || is_indicator c) (is_among (codes "?:-") c) (not-true _ (digits_pass begins_plain refl c digit)) in
+    let indicators = or_parts (is_space c || (c == 45 || c == 46)) (is_indicator c) alone.0 in
+    let marks = or_parts (is_space c) (c == 45 || c == 46) indicators.0 in
     or_from (is_space c || begins_like_marker (c ∷ rest) || is_indicator c) (is_among (codes "?:-") c && ends_word rest)
     (or_from (is_space c || begins_like_marker (c ∷ rest)) (is_indicator c)
     (or_from (is_space c) (begins_like_marker (c ∷ rest)) marks.0 (no_exclamation c rest marks.1)) indicators.1)
     (and_left (is_among (codes "?:-") c) (ends_word rest) alone.1)
-  where
-    alone : ((is_space c || (c == 45 || c == 46) || is_indicator c) ≡ false) × (is_among (codes "?:-") c ≡ false)
-    alone =
-        or_parts (is_space c || (c == 45 || c == 46) || is_indicator c) (is_among (codes "?:-") c) (not-true _ (digits_pass begins_plain refl c digit))
-
-    indicators : ((is_space c || (c == 45 || c == 46)) ≡ false) × (is_indicator c ≡ false)
-    indicators = or_parts (is_space c || (c == 45 || c == 46)) (is_indicator c) alone.0
-
-    marks : (is_space c ≡ false) × ((c == 45 || c == 46) ≡ false)
-    marks = or_parts (is_space c) (c == 45 || c == 46) indicators.0
 
 -- A text that begins with digits, after a minus or none, isn't empty and begins as plain text may.
 begins_digits : (negative : Bool) (whole rest : Text) → are_digits 10 whole ≡ true
@@ -134,8 +120,7 @@ begins_digits negative [] rest h = absurd (true≢false (sym h))
 begins_digits negative (c ∷ whole) rest h = by negative
   where
     digit : is_decimal c ≡ true
-    digit =
-        (and_parts (is_decimal c) (list_all is_decimal whole) (and_parts (not (length (c ∷ whole) == 0)) (list_all is_decimal (c ∷ whole)) h).1).0
+    digit = (and_parts (is_decimal c) (list_all is_decimal whole) (and_parts (not (length (c ∷ whole) == 0)) (list_all is_decimal (c ∷ whole)) h).1).0
 
     by : (x : Bool) → (is_empty (minus x ++ (c ∷ whole) ++ rest) ≡ false) × (begins_unlike_plain (minus x ++ (c ∷ whole) ++ rest) ≡ false)
     by true = (refl, begins_as_plain true c (whole ++ rest) digit)
@@ -180,17 +165,11 @@ module _ (text : Text) (flow : Bool) (free : (charset : Charset) → somewhere (
   pub stands_plain_there : (charset : Charset) (tag_written plain_implicit quoted_implicit simple_key : Bool) → (tag_written || plain_implicit) ≡ true
       → (chosen (allowances charset text) plain (is_empty text) tag_written plain_implicit quoted_implicit flow simple_key false).style ≡ plain
   stands_plain_there charset tag_written plain_implicit quoted_implicit simple_key returned =
+      let allowed = allowances charset text in
+      let fit = fits_plain allowed (is_empty text) tag_written plain_implicit flow simple_key in
+      let block = allowed.block_allowed && not flow && not simple_key in
       ap (λ double. fitting_style allowed fit block (requested_style double plain)) (and_right simple_key (list_any is_break text) one_line)
       ∙ ap (λ x. if x then plain else quoted_style allowed) (fits charset tag_written plain_implicit simple_key returned)
-    where
-      allowed : Allowances
-      allowed = allowances charset text
-
-      fit : Bool
-      fit = fits_plain allowed (is_empty text) tag_written plain_implicit flow simple_key
-
-      block : Bool
-      block = allowed.block_allowed && not flow && not simple_key
 
 -- a text without such characters, in block and in flow
 pub stands_plain : (text : Text) → list_all is_harmless text ≡ true → is_empty text ≡ false → begins_unlike_plain text ≡ false
@@ -203,17 +182,10 @@ stands_plain text harmless filled begins charset tag_written plain_implicit quot
 -- a number is written plain, and both schemas read it
 pub written_numbers : WrittenNumbersAreRead
 written_numbers number charset tag_written plain_implicit quoted_implicit flow simple_key valid returned =
+    let harmless = spelling_passes is_harmless harmless_passes number valid in
+    let first =
+    begins_digits number.negative number.whole
+    (if is_json_integer number then [] else codes "." ++ fraction_or_default (codes "0") number ++ exponent_spelled number.exponent)
+    (whole_digits number valid) in
+    let read = numbers_are_read number valid in
     (stands_plain (yaml_number number) harmless first.0 first.1 charset tag_written plain_implicit quoted_implicit flow simple_key returned, read.0, read.1)
-  where
-    harmless : list_all is_harmless (yaml_number number) ≡ true
-    harmless = spelling_passes is_harmless harmless_passes number valid
-
-    first : (is_empty (yaml_number number) ≡ false) × (begins_unlike_plain (yaml_number number) ≡ false)
-    first =
-        begins_digits number.negative number.whole
-        (if is_json_integer number then [] else codes "." ++ fraction_or_default (codes "0") number ++ exponent_spelled number.exponent)
-        (whole_digits number valid)
-
-    read : (means_number (json_value number) (resolved_by_11 (yaml_number number)) ≡ true)
-        × (means_number (json_value number) (resolved_by_core (yaml_number number)) ≡ true)
-    read = numbers_are_read number valid

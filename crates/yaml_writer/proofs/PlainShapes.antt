@@ -36,11 +36,10 @@ cut_of sign (c ∷ rest) first others e = by (sign c) (slice_split sign rest) re
         let same : slice_split sign rest ≡ others = cc in
         cut c rest begins h same
     by false [] h is behind = absurd (some_part sign rest is)
-    by false (part ∷ parts) h is behind = later (behind part parts is)
+    by false (part ∷ parts) h is behind =
+        let split = sym (ap (onto_first c) is) ∙ sym (slice_split-cons_no sign c rest h) ∙ e in
+        later (behind part parts is)
       where
-        split : (c ∷ part) ∷ parts ≡ first ∷ others
-        split = sym (ap (onto_first c) is) ∙ sym (slice_split-cons_no sign c rest h) ∙ e
-
         later : Cut sign rest part parts → Cut sign (c ∷ rest) first others
         later (uncut whole none) =
             let all : c ∷ rest ≡ first = cc in let same : others ≡ [] = cc in uncut all same
@@ -132,12 +131,11 @@ pointed_stands text h = sym (cut_passes in_plain_number is_point point_stands te
   where
     by : (parts : List Text) → is_pointed parts ≡ true → list_all (λ part. list_all in_plain_number part) parts ≡ true
     by [] h = refl
-    by (whole ∷ []) h = absurd (true≢false (sym h))
     by (whole ∷ fraction ∷ []) h =
         let both = and_parts (list_all in_plain_number whole) (list_all in_plain_number fraction)
         (sym (list_all-append in_plain_number whole fraction) ∙ digits_stand (whole ++ fraction) h) in
         and_from _ _ both.0 (and_from _ true both.1 refl)
-    by (a ∷ b ∷ c ∷ rest) h = absurd (true≢false (sym h))
+    by _ h = absurd (true≢false (sym h))
 
 float_stands : (text : Text) → is_float_cut (slice_split is_exponent_letter text) ≡ true → Stands text
 float_stands text h = sym (cut_passes in_plain_number is_exponent_letter letter_stands text) ∙ by (slice_split is_exponent_letter text) h
@@ -158,8 +156,6 @@ pub record Hexadecimal (text : Text) : Type 0 where
   pub hexadecimal : are_digits 16 digits ≡ true
 
 pub hexadecimal_parts : (text : Text) → is_hexadecimal text ≡ true → Hexadecimal text
-hexadecimal_parts [] h = absurd (true≢false (sym h))
-hexadecimal_parts (c ∷ []) h = absurd (true≢false (sym h))
 hexadecimal_parts (c ∷ d ∷ digits) h =
     let both = and_parts (c == 0x30 && d == 0x78) (are_digits 16 digits) h in
     let begin = and_parts (c == 0x30) (d == 0x78) both.0 in
@@ -168,6 +164,7 @@ hexadecimal_parts (c ∷ d ∷ digits) h =
       text_is = ap (λ c. c ∷ d ∷ digits) (eqb-true c 0x30 begin.0) ∙ ap (λ d. 0x30 ∷ d ∷ digits) (eqb-true d 0x78 begin.1);
       hexadecimal = both.1;
     }
+hexadecimal_parts _ h = absurd (true≢false (sym h))
 
 hexadecimal_passes : (text : Text) → is_hexadecimal text ≡ true → Stands text
 hexadecimal_passes text h =
@@ -199,23 +196,20 @@ pub mantissa_parts : (text : Text) → is_pointed (slice_split is_point text) �
 mantissa_parts text h = by (slice_split is_point text) refl h
   where
     by : (parts : List Text) → slice_split is_point text ≡ parts → is_pointed parts ≡ true → Mantissa text
-    by [] is h = absurd (true≢false (sym h))
-    by (whole ∷ []) is h = absurd (true≢false (sym h))
-    by (a ∷ b ∷ c ∷ rest) is h = absurd (true≢false (sym h))
     by (whole ∷ fraction ∷ []) is h = found (cut_of is_point text whole (fraction ∷ []) is)
       where
         none : (fraction ∷ []) ≡ [] → ⊥
         none e = cc
 
         last : (more : Text) → text ≡ whole ++ (0x2E ∷ more) → Cut is_point more fraction [] → Mantissa text
-        last more text_is (uncut is none) =
-            record { whole = whole; fraction = fraction; text_is = text_is ∙ ap (λ t. whole ++ (0x2E ∷ t)) is; digits = h }
+        last more text_is (uncut is none) = record { whole = whole; fraction = fraction; text_is = text_is ∙ ap (λ t. whole ++ (0x2E ∷ t)) is; digits = h }
         last more text_is (cut c later is at others) = absurd (some_part is_point later others)
 
         found : Cut is_point text whole (fraction ∷ []) → Mantissa text
         found (uncut is other) = absurd (none other)
         found (cut c more text_is at others) =
             last more (text_is ∙ ap (λ d. whole ++ (d ∷ more)) (eqb-true c 0x2E at)) (cut_of is_point more fraction [] others)
+    by _ is h = absurd (true≢false (sym h))
 
 -- Such digits, and the text after them.
 pub record Pointed (text : Text) : Type 0 where
@@ -243,12 +237,11 @@ pointed_parts text h = by (slice_split is_exponent_letter text) refl h
     first mantissa others h (cut c more is at later) = followed mantissa (c ∷ more) is (mantissa_parts mantissa h)
 
     by : (parts : List Text) → slice_split is_exponent_letter text ≡ parts → is_float_cut parts ≡ true → Pointed text
-    by [] is h = absurd (true≢false (sym h))
     by (mantissa ∷ []) is h = first mantissa [] h (cut_of is_exponent_letter text mantissa [] is)
     by (mantissa ∷ exponent ∷ []) is h =
         first mantissa (exponent ∷ []) (and_parts (is_pointed (slice_split is_point mantissa)) (is_signed exponent) h).0
         (cut_of is_exponent_letter text mantissa (exponent ∷ []) is)
-    by (a ∷ b ∷ c ∷ rest) is h = absurd (true≢false (sym h))
+    by _ is h = absurd (true≢false (sym h))
 
 -- A digit comes first after a sign or none, or after a point there.
 pub data Begins (text : Text) : Type 0 where
@@ -286,8 +279,7 @@ behind_plus rest =
 
 behind_point : (c : ℕ) (rest : Text) → is_decimal c ≡ true → begins_unlike_plain (0x2E ∷ c ∷ rest) ≡ false
 behind_point c [] digit = refl
-behind_point c (d ∷ rest) digit =
-    ap (λ x. x && d == 0x2E || false || false) (digit_unlike c 0x2E refl digit)
+behind_point c (d ∷ rest) digit = ap (λ x. x && d == 0x2E || false || false) (digit_unlike c 0x2E refl digit)
 
 pub begins_plainly : (text : Text) → Begins text → (is_empty text ≡ false) × (begins_unlike_plain text ≡ false)
 begins_plainly [] (by_digit c rest is digit) = cc
@@ -318,10 +310,9 @@ hexadecimal_small c h = by (nat_lt c 128) refl
   where
     by : (x : Bool) → nat_lt c 128 ≡ x → c < 128
     by true e = ltb-true c 128 e
-    by false e = absurd (true≢false (sym h ∙ far))
-      where
-        far : is_digit c 16 ≡ false
-        far = grind (arith, nat_tests)
+    by false e =
+        let far : is_digit c 16 ≡ false = grind (arith, nat_tests) in
+        absurd (true≢false (sym h ∙ far))
 
 among_small : (test : ℕ → Bool) → agree_below (λ c. not (is_digit c 16) || test c) (λ _. true) 128 ≡ true → test 0x2B ≡ true → test 0x2D ≡ true
     → test 0x2E ≡ true → test 0x78 ≡ true → (c : ℕ) → in_plain_number c ≡ true → test c ≡ true

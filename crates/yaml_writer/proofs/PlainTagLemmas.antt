@@ -145,6 +145,8 @@ by_groups : (text : Text)
     → option_map canonical_tag (word_meant text) ≡ picked (is_one_of null_words text) (is_one_of bool_words text) (is_one_of float_words text)
 by_groups [] = refl
 by_groups (c ∷ rest) =
+    let text = c ∷ rest in
+    let floats = meaning infinities (meant_infinity false) ++ (meaning negatives (meant_infinity true) ++ (meaning nans meant_nan ++ [])) in
     ap (option_map canonical_tag)
     (named_all (listed null_words) meant_null (meaning trues (meant_boolean true) ++ (meaning falses (meant_boolean false) ++ floats)) text
     ∙ ap (λ (o : Option Resolved). if is_one_of null_words text then Some meant_null else o)
@@ -164,12 +166,6 @@ by_groups (c ∷ rest) =
     ∙ ap (picked (is_one_of null_words text) (is_one_of bool_words text))
     (ap (λ x. is_one_of infinities text || x) (sym (list_any-append (is_word text) (listed negatives) (listed nans)))
     ∙ sym (list_any-append (is_word text) (listed infinities) (listed negatives ++ listed nans)))
-  where
-    text : Text
-    text = c ∷ rest
-
-    floats : List (Text × Resolved)
-    floats = meaning infinities (meant_infinity false) ++ (meaning negatives (meant_infinity true) ++ (meaning nans meant_nan ++ []))
 
 -- words are found by bytes as by characters
 words_by_chars : (words : List Text) (bytes : List ℕ) → list_all is_ascii_text words ≡ true → IsUtf8 bytes
@@ -197,9 +193,8 @@ pub same_bytes : (a b : List ℕ) → IsUtf8 a → IsUtf8 b → bytes_eq a b ≡
 same_bytes a b first second = by (bytes_eq a b) (bytes_eq (chars a) (chars b)) refl refl
   where
     by : (x y : Bool) → bytes_eq a b ≡ x → bytes_eq (chars a) (chars b) ≡ y → x ≡ y
-    by true true e f = refl
-    by false false e f = refl
     by true false e f = sym ((bytes_eq-Decides (chars a) (chars b)).1 (ap chars ((bytes_eq-Decides a b).0 e))) ∙ f
     by false true e f =
         sym e ∙ (bytes_eq-Decides a b).1
         (sym (encodes-chars a first) ∙ ap encode_utf8_all ((bytes_eq-Decides (chars a) (chars b)).0 f) ∙ encodes-chars b second)
+    by _ _ e f = refl

@@ -35,11 +35,9 @@ short_words : (text : Text) (words : List Text) → list_all (λ word. nat_lt (l
     → list_any (is_word (lowered (take_while is_ascii (take 10 text)))) words ≡ list_any (is_word (ascii_prefix text)) words
 short_words text [] h = refl
 short_words text (word ∷ words) h =
+    let both = and_parts (nat_lt (length word) 10) (list_all (λ w. nat_lt (length w) 10) words) h in
     ap (λ x. x || list_any (is_word (lowered (take_while is_ascii (take 10 text)))) words) (short_word 10 text word (ltb-true (length word) 10 both.0))
     ∙ ap (λ x. is_word (ascii_prefix text) word || x) (short_words text words both.1)
-  where
-    both : (nat_lt (length word) 10 ≡ true) × (list_all (λ w. nat_lt (length w) 10) words ≡ true)
-    both = and_parts (nat_lt (length word) 10) (list_all (λ w. nat_lt (length w) 10) words) h
 
 -- the first bytes tell a reserved word
 pub reserved_by_head : (text : Text) → is_reserved_word (lowered (take_while is_ascii (take 10 text))) ≡ list_any (is_word (ascii_prefix text)) reserved_words

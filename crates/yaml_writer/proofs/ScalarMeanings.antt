@@ -3,8 +3,8 @@ use Rattle.yaml_writer.proofs.Common.{ℕ, if◌then◌else◌, is_some, None, c
 use Rattle.yaml_writer.proofs.Common.{plain, Effective, JsonNumber, is_json_number, fraction_or_default, is_json_integer, yaml_number, int_tag}
 use Rattle.yaml_writer.proofs.Common.{float_tag, not, Allowances, requested_style, fitting_style, fits_plain, IsNumber}
 use Rattle.yaml_base.proofs.Common.{bytes_eq, false≢true, bytes_eq-Decides, ScalarStyle, Scalar, scalar_tag, collection_tag, scalar_node, is_empty}
-use Rattle.yaml_base.proofs.Common.{is_plain, resolved_by_core, resolved_by_11, digits_value, any_style, single_quoted, double_quoted, literal}
-use Rattle.yaml_base.proofs.Common.{folded, TagDirective, Place, is_simple_at, charset_of, style_asked_at, choice_of, allowances, allowed_under}
+use Rattle.yaml_base.proofs.Common.{is_plain, resolved_by_core, resolved_by_11, digits_value, any_style, double_quoted}
+use Rattle.yaml_base.proofs.Common.{TagDirective, Place, is_simple_at, charset_of, style_asked_at, choice_of, allowances, allowed_under}
 use Rattle.yaml_base.proofs.Common.{is_block, ChosenStyle, chosen, Stood, stood_plain, stood_quoted, Tagging, with_tag, without_tag, json_value}
 use Rattle.yaml_base.proofs.Common.{number_meant, means_number, Resolved, meant_integer, meant_decimal, meant_text, signed}
 use Rattle.yaml_base.proofs.{JsonSpelling.spelling_keeps_value, NumbersRead.spelling_read, PlainUnderQuotes.still_plain}
@@ -135,11 +135,7 @@ module _ (schema : Schema) (s : Effective) (place : Place) (simple : Bool) where
   -- plain or not
   plain_style : (style : ScalarStyle) → is_plain style ≡ true → style ≡ plain
   plain_style plain h = refl
-  plain_style any_style h = absurd (false≢true h)
-  plain_style single_quoted h = absurd (false≢true h)
-  plain_style double_quoted h = absurd (false≢true h)
-  plain_style literal h = absurd (false≢true h)
-  plain_style folded h = absurd (false≢true h)
+  plain_style _ h = absurd (false≢true h)
 
   as_it_stands : (text : Text) (style : ScalarStyle) → (style ≡ plain → schema text ≡ meant_text)
       → scalar_meant schema (without_tag (standing_in style false)) text ≡ meant_text
@@ -155,10 +151,8 @@ module _ (schema : Schema) (s : Effective) (place : Place) (simple : Bool) where
       → (chosen allowed (if instead then double_quoted else text_style text) empty tag_written plain_implicit quoted_implicit flow simple_key canonical).style
       ≡ plain
       → schema text ≡ meant_text
-  text_asked text texts true allowed empty tag_written plain_implicit quoted_implicit flow simple_key true is =
-      absurd (false≢true (ap is_plain is))
-  text_asked text texts true allowed empty tag_written plain_implicit quoted_implicit flow simple_key false is =
-      by (simple_key && allowed.multiline) is
+  text_asked text texts true allowed empty tag_written plain_implicit quoted_implicit flow simple_key true is = absurd (false≢true (ap is_plain is))
+  text_asked text texts true allowed empty tag_written plain_implicit quoted_implicit flow simple_key false is = by (simple_key && allowed.multiline) is
     where
       by : (x : Bool) → fitting_style allowed (fits_plain allowed empty tag_written plain_implicit flow simple_key)
           (allowed.block_allowed && not flow && not simple_key) (requested_style x double_quoted) ≡ plain → schema text ≡ meant_text

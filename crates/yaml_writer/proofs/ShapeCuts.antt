@@ -117,8 +117,7 @@ mantissa_uncut text h =
     (λ c digit. or_from (c == 0x65) (c == 0x45) (digit_unlike c 0x65 refl digit) (digit_unlike c 0x45 refl digit)) refl refl refl c e) text h
 
 digits_within : (digits : Text) → list_all is_decimal digits ≡ true → list_all in_mantissa digits ≡ true
-digits_within digits h =
-    all_pass is_decimal in_mantissa (λ c e. or_left (is_decimal c || is_plus_or_minus c) _ (or_left (is_decimal c) _ e)) digits h
+digits_within digits h = all_pass is_decimal in_mantissa (λ c e. or_left (is_decimal c || is_plus_or_minus c) _ (or_left (is_decimal c) _ e)) digits h
 
 pointed_within : (text : Text) → is_pointed (slice_split is_point text) ≡ true → list_all in_mantissa text ≡ true
 pointed_within text h =
@@ -159,14 +158,12 @@ split_float text = is_float_cut (slice_split is_exponent_letter text)
 letter_split : (letter : ℕ) (text mantissa exponent : Text) → text ≡ mantissa ++ (letter ∷ exponent) → is_exponent_letter letter ≡ true
     → is_pointed (slice_split is_point mantissa) ≡ true → (is_some (sign_of exponent) && are_digits 10 (past_sign exponent)) ≡ true → split_float text ≡ true
 letter_split letter text mantissa exponent is mark pointed has =
+    let signed = ap (λ x. x && are_digits 10 (past_sign exponent)) (sym (sign_there exponent)) ∙ has in
     ap is_float_cut
     (ap (slice_split is_exponent_letter) is
     ∙ slice_split_at is_exponent_letter mantissa letter exponent (mantissa_uncut mantissa (pointed_within mantissa pointed)) mark
     ∙ ap (λ parts. mantissa ∷ parts) (slice_split_none is_exponent_letter exponent (mantissa_uncut exponent (signed_within exponent signed))))
     ∙ and_from (is_pointed (slice_split is_point mantissa)) (is_signed exponent) pointed signed
-  where
-    signed : is_signed exponent ≡ true
-    signed = ap (λ x. x && are_digits 10 (past_sign exponent)) (sym (sign_there exponent)) ∙ has
 
 cut_split : (text : Text) → well_cut (exponent_cut text) ≡ true → split_float text ≡ true
 cut_split text h = by (cut_at_first 0x65 text) (cut_at_first 0x45 text) (cut_joins 0x65 text) (cut_joins 0x45 text) h
@@ -244,12 +241,11 @@ split_cut text h = by (slice_split is_exponent_letter text) refl h
         last c part more exponent is at pointed signed (cut_of is_exponent_letter more exponent [] others)
 
     by : (parts : List Text) → slice_split is_exponent_letter text ≡ parts → is_float_cut parts ≡ true → well_cut (exponent_cut text) ≡ true
-    by [] is h = absurd (true≢false (sym h))
     by (part ∷ []) is h = alone part h (cut_of is_exponent_letter text part [] is)
     by (part ∷ exponent ∷ []) is h =
         let both = and_parts (is_pointed (slice_split is_point part)) (is_signed exponent) h in
         two part exponent both.0 both.1 (cut_of is_exponent_letter text part (exponent ∷ []) is)
-    by (a ∷ b ∷ c ∷ rest) is h = absurd (true≢false (sym h))
+    by _ is h = absurd (true≢false (sym h))
 
 -- two tests that imply each other
 same_test : (x y : Bool) → (x ≡ true → y ≡ true) → (y ≡ true → x ≡ true) → x ≡ y
@@ -291,10 +287,8 @@ number_tag_by_chars bytes whole pointed utf8 h g =
 -- ---- after `0` and `x`
 
 pub no_zero_begins : (text : Text) → ((rest : Text) → text ≢ 0x30 ∷ rest) → is_hexadecimal text ≡ false
-no_zero_begins [] h = refl
-no_zero_begins (c ∷ []) h = refl
-no_zero_begins (c ∷ d ∷ rest) h =
-    and_left (c == 0x30 && d == 0x78) (are_digits 16 rest) (and_left (c == 0x30) (d == 0x78) (first_unlike 0x30 c (d ∷ rest) h))
+no_zero_begins (c ∷ d ∷ rest) h = and_left (c == 0x30 && d == 0x78) (are_digits 16 rest) (and_left (c == 0x30) (d == 0x78) (first_unlike 0x30 c (d ∷ rest) h))
+no_zero_begins _ h = refl
 
 pub no_letter_behind : (rest : Text) → ((more : Text) → rest ≢ 0x78 ∷ more) → is_hexadecimal (0x30 ∷ rest) ≡ false
 no_letter_behind [] h = refl

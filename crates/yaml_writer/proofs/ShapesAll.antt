@@ -45,25 +45,22 @@ no_octal negative c [] decimal other = refl
 no_octal negative c (d ∷ digits) decimal other = off _ _ (by (c == 0x30) (are_grouped 8 (d ∷ digits)) refl refl)
   where
     by : (x y : Bool) → (c == 0x30) ≡ x → are_grouped 8 (d ∷ digits) ≡ y → (x && y) ≡ false
-    by false y e f = refl
-    by true false e f = refl
     by true true e f =
         let later = (and_parts (is_decimal c) (list_all is_decimal (d ∷ digits)) decimal).1 in
         let octal : list_all (λ c. is_digit c 8) (c ∷ d ∷ digits) ≡ true = and_from (is_digit c 8) (list_all (λ c. is_digit c 8) (d ∷ digits))
         (ap (λ c. is_digit c 8) (eqb-true c 0x30 e)) (sym (grouped_octal (d ∷ digits) later) ∙ f) in
         absurd (true≢false (sym (and_from (not (length (c ∷ d ∷ digits) == 0)) _ (not_from_false _ (filled (length (d ∷ digits)))) octal) ∙ other))
+    by _ _ e f = refl
 
 no_whole : (negative : Bool) (c : ℕ) (digits : Text) → are_digits 10 (c ∷ digits) ≡ true → is_whole_part (c ∷ digits) ≡ false
     → decimal_11 negative (c ∷ digits) ≡ None
 no_whole negative c digits decimal other =
+    let parts =
+    or_parts (is_word (c ∷ digits) (codes "0")) (not (c == 0x30))
+    (sym (ap (λ x. x && (is_word (c ∷ digits) (codes "0") || not (c == 0x30))) decimal) ∙ other) in
     off (is_word (c ∷ digits) (codes "0") || begins_grouped is_leading (c ∷ digits)) _
     (or_from (is_word (c ∷ digits) (codes "0")) _ parts.0
     (and_left (is_decimal c && not (c == 0x30)) (are_grouped 10 (c ∷ digits)) (and_right (is_decimal c) (not (c == 0x30)) parts.1)))
-  where
-    parts : (is_word (c ∷ digits) (codes "0") ≡ false) × (not (c == 0x30) ≡ false)
-    parts =
-        or_parts (is_word (c ∷ digits) (codes "0")) (not (c == 0x30))
-        (sym (ap (λ x. x && (is_word (c ∷ digits) (codes "0") || not (c == 0x30))) decimal) ∙ other)
 
 abbrev IsText : Bool → Text → Type 0
 IsText negative digits = first_reading (numbers_11 negative digits) ≡ meant_text
@@ -102,35 +99,32 @@ grouped_none test a b text other =
 
 groups_none : (test : ℕ → Bool) (a b : ℕ) (text : Text) (groups : List Text) → first_part groups ≡ a ∷ b ∷ text
     → (is_decimal b || is_underscore b) ≡ false → are_sixtieths test groups ≡ false
-groups_none test a b text [] is other = refl
-groups_none test a b text (part ∷ []) is other = refl
 groups_none test a b text (first ∷ second ∷ rest) is other =
     and_left (begins_grouped test first) _ (ap (begins_grouped test) is ∙ grouped_none test a b text other)
+groups_none test a b text _ is other = refl
 
 fine_none : (negative : Bool) (a b : ℕ) (text : Text) (parts : List Text) → is_colon a ≡ false → is_colon b ≡ false
     → first_part parts ≡ a ∷ b ∷ text → (is_decimal b || is_underscore b) ≡ false → fine_sixties_11 negative parts ≡ None
-fine_none negative a b text [] first second is other = refl
-fine_none negative a b text (whole ∷ []) first second is other = refl
-fine_none negative a b text (whole ∷ c ∷ d ∷ rest) first second is other = refl
 fine_none negative a b text (whole ∷ fraction ∷ []) first second is other =
     off (are_sixtieths is_decimal (slice_split is_colon whole) && are_grouped 10 fraction) _
     (and_left (are_sixtieths is_decimal (slice_split is_colon whole)) (are_grouped 10 fraction)
     (groups_none is_decimal a b (first_part (slice_split is_colon text)) (slice_split is_colon whole)
     (ap (λ t. first_part (slice_split is_colon t)) is ∙ two_in_part is_colon a b text first second) other))
+fine_none negative a b text _ first second is other = refl
 
 points_none : (a b : ℕ) (text : Text) (parts : List Text) → first_part parts ≡ a ∷ b ∷ text → (is_decimal b || is_underscore b) ≡ false
     → has_more_points parts ≡ false
-points_none a b text [] is other = refl
-points_none a b text (whole ∷ []) is other = refl
-points_none a b text (whole ∷ c ∷ []) is other = refl
 points_none a b text (whole ∷ c ∷ d ∷ rest) is other =
     and_left (length whole == 0 || begins_grouped is_decimal whole) _
     (ap (λ t. length t == 0 || begins_grouped is_decimal t) is
     ∙ or_from (length (a ∷ b ∷ text) == 0) (begins_grouped is_decimal (a ∷ b ∷ text)) (filled (length (b ∷ text))) (grouped_none is_decimal a b text other))
+points_none a b text _ is other = refl
 
 -- 1.1 reads it as a text
 octal_text : (digits : Text) → resolved_by_11 (0x30 ∷ 0x6F ∷ digits) ≡ meant_text
 octal_text digits =
+    let text = 0x30 ∷ 0x6F ∷ digits in
+    let later = first_part (slice_split is_exponent_letter digits) in
     unsigned_by_11 text refl (no_date text (0x30 ∷ []) (0x6F ∷ digits) refl refl refl)
     ∙ passed _ _ (float_none false 0x30 0x6F digits refl refl refl refl refl) ∙ passed _ _ (based_11_none false 0x62 2 0x30 (0x6F ∷ digits) refl)
     ∙ passed _ _ (based_11_none false 0x78 16 0x30 (0x6F ∷ digits) refl) ∙ passed (octal_11 false text) (drop 4 (numbers_11 false text)) refl
@@ -146,12 +140,6 @@ octal_text digits =
     ∙ points_none 0x30 0x6F (first_part (slice_split is_point later)) (slice_split is_point (0x30 ∷ 0x6F ∷ later))
     (two_in_part is_point 0x30 0x6F later refl refl) refl))
     ∙ passed (points_11 text) [] refl
-  where
-    text : Text
-    text = 0x30 ∷ 0x6F ∷ digits
-
-    later : Text
-    later = first_part (slice_split is_exponent_letter digits)
 
 -- ---- parts of the texts that the core schema reads
 
@@ -168,8 +156,6 @@ record Based (letter base : ℕ) (text : Text) : Type 0 where
   has : are_digits base digits ≡ true
 
 based_parts : (letter base : ℕ) (text : Text) → some (core_based letter base text) ≡ true → Based letter base text
-based_parts letter base [] h = absurd (true≢false (sym h))
-based_parts letter base (c ∷ []) h = absurd (true≢false (sym h))
 based_parts letter base (c ∷ d ∷ digits) h =
     let both = and_parts (c == 0x30 && d == letter) (are_digits base digits) (held (c == 0x30 && d == letter && are_digits base digits) _ h) in
     let begin = and_parts (c == 0x30) (d == letter) both.0 in
@@ -178,6 +164,7 @@ based_parts letter base (c ∷ d ∷ digits) h =
       text_is = ap (λ c. c ∷ d ∷ digits) (eqb-true c 0x30 begin.0) ∙ ap (λ d. 0x30 ∷ d ∷ digits) (eqb-true d letter begin.1);
       has = both.1;
     }
+based_parts letter base _ h = absurd (true≢false (sym h))
 
 based_tag : (letter base : ℕ) (text : Text) (meant : Resolved) → core_based letter base text ≡ Some meant → canonical_tag meant ≡ int_tag
 based_tag letter base [] meant e = absurd (none_is meant e)
@@ -191,15 +178,13 @@ based_tag letter base (c ∷ d ∷ digits) meant e = by (c == 0x30 && d == lette
 times_tag : (decimal : Option Decimal) (exponent : Option ℤ) (meant : Resolved) → times_power_of_ten decimal exponent ≡ Some meant
     → canonical_tag meant ≡ float_tag
 times_tag (Some decimal) (Some exponent) meant e = ap canonical_tag (sym (same_held _ meant e))
-times_tag (Some decimal) None meant e = absurd (none_is meant e)
-times_tag None exponent meant e = absurd (none_is meant e)
+times_tag _ _ meant e = absurd (none_is meant e)
 
 decimal_tag : (mantissa : Text → Option Decimal) (exponent : Text → Option ℤ) (parts : List Text) (meant : Resolved)
     → scientific mantissa exponent parts ≡ Some meant → canonical_tag meant ≡ float_tag
-decimal_tag mantissa exponent [] meant e = absurd (none_is meant e)
 decimal_tag mantissa exponent (m ∷ []) meant e = times_tag (mantissa m) (Some (pos 0)) meant e
 decimal_tag mantissa exponent (m ∷ p ∷ []) meant e = times_tag (mantissa m) (exponent p) meant e
-decimal_tag mantissa exponent (x ∷ y ∷ z ∷ rest) meant e = absurd (none_is meant e)
+decimal_tag mantissa exponent _ meant e = absurd (none_is meant e)
 
 -- ---- all
 
@@ -256,8 +241,7 @@ module _ (text tag : Text) (filled_text : is_empty text ≡ false) (other : byte
   no_text e = absurd (true≢false (sym ((bytes_eq-Decides tag string_tag).1 (sym by_11 ∙ ap canonical_tag e)) ∙ other))
 
   integer_tag : is_plain_integer text ≡ true → int_tag ≡ tag → plain_number_tag text ≡ Some tag
-  integer_tag h same =
-      ap (λ x. option_or (some_if x int_tag) (some_if (is_plain_float text) float_tag)) h ∙ ap (λ (t : Text). Some t) same
+  integer_tag h same = ap (λ x. option_or (some_if x int_tag) (some_if (is_plain_float text) float_tag)) h ∙ ap (λ (t : Text). Some t) same
 
   of_integer : are_digits 10 (past_sign text) ≡ true → int_tag ≡ tag → plain_number_tag text ≡ Some tag
   of_integer decimal same = by (are_integer_digits (past_sign text)) (are_digits 8 (past_sign text)) refl refl

@@ -1,10 +1,10 @@
 -- Both schemas read numbers of these shapes as integers and floats.
 use Rattle.yaml_writer.proofs.Common.{ℕ, if◌then◌else◌, ◌==◌, Option, None, Some, length, Bool, false, not, true, ◌&&◌, ◌||◌, List, []}
-use Rattle.yaml_writer.proofs.Common.{◌++◌, ◌∷◌, refl, ◌≡◌, eqb-true, true≢false, ap, sym, ◌∙◌, and_parts, and_from, and_left, and_right}
+use Rattle.yaml_writer.proofs.Common.{◌++◌, ◌∷◌, refl, ◌≡◌, eqb-true, true≢false, ap, sym, ◌∙◌, and_parts, and_left, and_right}
 use Rattle.yaml_writer.proofs.Common.{list_all-append, list_all, list_any, Text, is_decimal, first_meets, are_digits}
 use Rattle.yaml_writer.proofs.Common.{int_tag, float_tag, append-nil, option_or, drop}
 use Rattle.yaml_base.specs.Options.{some_if}
-use Rattle.yaml_base.proofs.Common.{or_left, or_right, slice_split, onto_first, ℤ, pos, named, digits_value, Resolved, Decimal}
+use Rattle.yaml_base.proofs.Common.{or_left, or_right, slice_split, onto_first, pos, named, digits_value, Resolved, Decimal}
 use Rattle.yaml_base.proofs.Common.{meant_integer, meant_decimal, first_reading, words_of_core, words_of_11, is_point, is_exponent_letter, is_plus_or_minus}
 use Rattle.yaml_base.proofs.Common.{past_sign, is_negative, signed, exponent_read, times_power_of_ten, scientific, core_integer, core_based}
 use Rattle.yaml_base.proofs.Common.{core_mantissa, core_decimal, resolved_by_core, ungrouped, are_grouped, begins_grouped, based_11, mantissa_11}
@@ -75,30 +75,24 @@ two_in_part sign a b text first second =
 -- The second character of a mantissa is a digit.
 pub mantissa_none : (negative : Bool) (a b : ℕ) (text : Text) (parts : List Text) → first_part parts ≡ a ∷ b ∷ text
     → (is_decimal b || is_underscore b) ≡ false → mantissa_11 negative parts ≡ None
-mantissa_none negative a b text [] is other = refl
 mantissa_none negative a b text ([] ∷ rest) is other = cc
-mantissa_none negative a b text ((c ∷ whole) ∷ []) is other = refl
-mantissa_none negative a b text ((c ∷ whole) ∷ d ∷ e ∷ rest) is other = refl
 mantissa_none negative a b text ((c ∷ whole) ∷ fraction ∷ []) is other =
     off (begins_grouped is_decimal (c ∷ whole) && are_grouped 10 fraction) _
     (and_left (begins_grouped is_decimal (c ∷ whole)) (are_grouped 10 fraction)
     (ap (begins_grouped is_decimal) is
     ∙ and_right (first_meets is_decimal (a ∷ b ∷ text)) (are_grouped 10 (a ∷ b ∷ text))
     (and_right (is_decimal a || is_underscore a) (are_grouped 10 (b ∷ text)) (and_left (is_decimal b || is_underscore b) (are_grouped 10 text) other))))
+mantissa_none negative a b text _ is other = refl
 
 -- so a text with such a character is no float
 pub float_none : (negative : Bool) (a b : ℕ) (text : Text) → is_exponent_letter a ≡ false → is_exponent_letter b ≡ false → is_point a ≡ false
     → is_point b ≡ false → (is_decimal b || is_underscore b) ≡ false → float_11 negative (a ∷ b ∷ text) ≡ None
 float_none negative a b text mark_a mark_b point_a point_b other =
+    let later = first_part (slice_split is_exponent_letter text) in
+    let first = two_in_part is_exponent_letter a b text mark_a mark_b in
     scientific_begins _ _ (slice_split is_exponent_letter (a ∷ b ∷ text))
     (ap (λ t. mantissa_11 negative (slice_split is_point t)) first
     ∙ mantissa_none negative a b _ (slice_split is_point (a ∷ b ∷ later)) (two_in_part is_point a b later point_a point_b) other)
-  where
-    later : Text
-    later = first_part (slice_split is_exponent_letter text)
-
-    first : first_part (slice_split is_exponent_letter (a ∷ b ∷ text)) ≡ a ∷ b ∷ later
-    first = two_in_part is_exponent_letter a b text mark_a mark_b
 
 hexadecimal_ungrouped : (digits : Text) → list_all (λ c. is_digit c 16) digits ≡ true → ungrouped digits ≡ digits
 hexadecimal_ungrouped [] h = refl
@@ -115,61 +109,43 @@ hexadecimal_meant : (digits : Text) → are_digits 16 digits ≡ true
     → first_reading (numbers_11 false (0x30 ∷ 0x78 ∷ digits)) ≡ meant_integer (pos (digits_value 16 digits))
 hexadecimal_meant [] h = absurd (true≢false (sym h))
 hexadecimal_meant (d ∷ digits) h =
+    let all = all_digits 16 (d ∷ digits) h in
+    let text = 0x30 ∷ 0x78 ∷ d ∷ digits in
+    let meant = integer_of_digits false 16 (ungrouped (d ∷ digits)) in
+    let grouped = all_pass (λ c. is_digit c 16) (λ c. is_digit c 16 || is_underscore c) (λ c h. or_left (is_digit c 16) _ h) (d ∷ digits) all in
+    let base_read = given (are_grouped 16 (d ∷ digits)) meant grouped in
+    let others = drop 3 (numbers_11 false text) in
+    let read =
+    passed (float_11 false text) (based_11 false 0x62 2 text ∷ based_11 false 0x78 16 text ∷ others)
+    (float_none false 0x30 0x78 (d ∷ digits) refl refl refl refl refl)
+    ∙ passed (based_11 false 0x62 2 text) (based_11 false 0x78 16 text ∷ others) (based_11_none false 0x62 2 0x30 (0x78 ∷ d ∷ digits) refl)
+    ∙ found (based_11 false 0x78 16 text) others meant base_read in
     read ∙ ap (integer_of_digits false 16) (hexadecimal_ungrouped (d ∷ digits) all)
     ∙ ap (λ x. if x then meant_by_nobody else meant_integer (signed false (digits_value 16 (d ∷ digits)))) (filled (length digits))
-  where
-    all : list_all (λ c. is_digit c 16) (d ∷ digits) ≡ true
-    all = all_digits 16 (d ∷ digits) h
-
-    text : Text
-    text = 0x30 ∷ 0x78 ∷ d ∷ digits
-
-    meant : Resolved
-    meant = integer_of_digits false 16 (ungrouped (d ∷ digits))
-
-    grouped : are_grouped 16 (d ∷ digits) ≡ true
-    grouped = all_pass (λ c. is_digit c 16) (λ c. is_digit c 16 || is_underscore c) (λ c h. or_left (is_digit c 16) _ h) (d ∷ digits) all
-
-    base_read : based_11 false 0x78 16 text ≡ Some meant
-    base_read = given (are_grouped 16 (d ∷ digits)) meant grouped
-
-    others : List (Option Resolved)
-    others = drop 3 (numbers_11 false text)
-
-    read : first_reading (numbers_11 false text) ≡ meant
-    read =
-        passed (float_11 false text) (based_11 false 0x62 2 text ∷ based_11 false 0x78 16 text ∷ others)
-        (float_none false 0x30 0x78 (d ∷ digits) refl refl refl refl refl)
-        ∙ passed (based_11 false 0x62 2 text) (based_11 false 0x78 16 text ∷ others) (based_11_none false 0x62 2 0x30 (0x78 ∷ d ∷ digits) refl)
-        ∙ found (based_11 false 0x78 16 text) others meant base_read
 
 -- ---- floats
 
 -- Both read digits with a point as the same decimal.
 mantissa_same : (negative : Bool) (parts : List Text) → is_pointed parts ≡ true → mantissa_11 negative parts ≡ core_mantissa negative parts
-mantissa_same negative [] h = absurd (true≢false (sym h))
-mantissa_same negative (whole ∷ []) h = absurd (true≢false (sym h))
 mantissa_same negative ([] ∷ fraction ∷ []) h = refl
 mantissa_same negative ((c ∷ whole) ∷ fraction ∷ []) h =
     let both = and_parts (list_all is_decimal (c ∷ whole)) (list_all is_decimal fraction)
     (sym (list_all-append is_decimal (c ∷ whole) fraction) ∙ all_digits 10 ((c ∷ whole) ++ fraction) h) in
     mantissa_11_read negative c whole fraction both.0 both.1 ∙ sym (pointed_read negative c whole fraction both.0 both.1)
-mantissa_same negative (a ∷ b ∷ c ∷ rest) h = absurd (true≢false (sym h))
+mantissa_same negative _ h = absurd (true≢false (sym h))
 
 exponent_same : (text : Text) → is_signed text ≡ true → exponent_11 text ≡ exponent_read text
-exponent_same text h =
-    ap (λ x. if x then exponent_read text else None) (and_parts (first_meets is_plus_or_minus text) (are_digits 10 (past_sign text)) h).0
+exponent_same text h = ap (λ x. if x then exponent_read text else None) (and_parts (first_meets is_plus_or_minus text) (are_digits 10 (past_sign text)) h).0
 
 scientific_same : (negative : Bool) (parts : List Text) → is_float_cut parts ≡ true
     → scientific (λ mantissa. mantissa_11 negative (slice_split is_point mantissa)) exponent_11 parts
     ≡ scientific (λ mantissa. core_mantissa negative (slice_split is_point mantissa)) exponent_read parts
-scientific_same negative [] h = absurd (true≢false (sym h))
 scientific_same negative (m ∷ []) h = ap (λ o. times_power_of_ten o (Some (pos 0))) (mantissa_same negative (slice_split is_point m) h)
 scientific_same negative (m ∷ e ∷ []) h =
     let both = and_parts (is_pointed (slice_split is_point m)) (is_signed e) h in
     ap (λ o. times_power_of_ten o (exponent_11 e)) (mantissa_same negative (slice_split is_point m) both.0)
     ∙ ap (times_power_of_ten (core_mantissa negative (slice_split is_point m))) (exponent_same e both.1)
-scientific_same negative (a ∷ b ∷ c ∷ rest) h = absurd (true≢false (sym h))
+scientific_same negative _ h = absurd (true≢false (sym h))
 
 -- They read some decimal.
 abbrev GivesDecimal : Option Resolved → Type 0
@@ -177,14 +153,11 @@ GivesDecimal reading = (decimal : Decimal) × (reading ≡ Some (meant_decimal d
 
 core_mantissa_given : (negative : Bool) (parts : List Text) → is_pointed parts ≡ true
     → (decimal : Decimal) × (core_mantissa negative parts ≡ Some decimal)
-core_mantissa_given negative [] h = absurd (true≢false (sym h))
-core_mantissa_given negative (whole ∷ []) h = absurd (true≢false (sym h))
 core_mantissa_given negative (whole ∷ fraction ∷ []) h = (_, given (are_digits 10 (whole ++ fraction)) _ h)
-core_mantissa_given negative (a ∷ b ∷ c ∷ rest) h = absurd (true≢false (sym h))
+core_mantissa_given negative _ h = absurd (true≢false (sym h))
 
 scientific_given : (negative : Bool) (parts : List Text) → is_float_cut parts ≡ true
     → GivesDecimal (scientific (λ mantissa. core_mantissa negative (slice_split is_point mantissa)) exponent_read parts)
-scientific_given negative [] h = absurd (true≢false (sym h))
 scientific_given negative (m ∷ []) h =
     let first = core_mantissa_given negative (slice_split is_point m) h in (_, ap (λ o. times_power_of_ten o (Some (pos 0))) first.1)
 scientific_given negative (m ∷ e ∷ []) h =
@@ -195,7 +168,7 @@ scientific_given negative (m ∷ e ∷ []) h =
           ∙ ap (times_power_of_ten (Some first.0))
           (given (are_digits 10 (past_sign e)) _ (and_parts (first_meets is_plus_or_minus e) (are_digits 10 (past_sign e)) both.1).1),
     )
-scientific_given negative (a ∷ b ∷ c ∷ rest) h = absurd (true≢false (sym h))
+scientific_given negative _ h = absurd (true≢false (sym h))
 
 float_same : (text : Text) → is_plain_float text ≡ true → float_11 (is_negative text) (past_sign text) ≡ core_decimal text
 float_same text h = scientific_same (is_negative text) (slice_split is_exponent_letter (past_sign text)) h
@@ -256,8 +229,7 @@ abbrev pub decimal_meant : Text → Resolved
 decimal_meant text = meant_integer (signed (is_negative text) (digits_value 10 (past_sign text)))
 
 pub digits_by_core : (text : Text) → list_any is_decimal text ≡ true → are_digits 10 (past_sign text) ≡ true → resolved_by_core text ≡ decimal_meant text
-digits_by_core text digit decimal =
-    passed _ _ (no_word_of words_of_core text refl digit) ∙ found _ _ _ (given (are_digits 10 (past_sign text)) _ decimal)
+digits_by_core text digit decimal = passed _ _ (no_word_of words_of_core text refl digit) ∙ found _ _ _ (given (are_digits 10 (past_sign text)) _ decimal)
 
 integer_read : (text : Text) → are_integer_digits (past_sign text) ≡ true → BothRead text (decimal_meant text)
 integer_read text h =
@@ -288,6 +260,10 @@ hexadecimal_read digits h = (
 
 float_by_both : (text : Text) → is_plain_float text ≡ true → BothGive text float_tag
 float_by_both text h =
+    let read = core_decimal_given text h in
+    let no_digits = ap (are_digits 10) parts.text_is ∙ pointed_no_digits parts.whole (parts.fraction ++ parts.rest) in
+    let digit = begins_digit text (shaped_begins text (float h)) in
+    let date = no_date text parts.whole (0x2E ∷ (parts.fraction ++ parts.rest)) parts.text_is whole refl in
     given_by_both text (meant_decimal read.0) (
       unsigned_by_11 text digit date ∙ found _ _ _ (float_same text h ∙ read.1),
       passed _ _ (no_word_of words_of_core text refl digit)
@@ -296,9 +272,6 @@ float_by_both text h =
           ∙ found _ _ _ read.1,
     )
   where
-    read : GivesDecimal (core_decimal text)
-    read = core_decimal_given text h
-
     parts : Pointed (past_sign text)
     parts = pointed_parts (past_sign text) h
 
@@ -306,15 +279,6 @@ float_by_both text h =
     whole =
         (and_parts (list_all is_decimal parts.whole) (list_all is_decimal parts.fraction)
         (sym (list_all-append is_decimal parts.whole parts.fraction) ∙ all_digits 10 (parts.whole ++ parts.fraction) parts.digits)).0
-
-    no_digits : are_digits 10 (past_sign text) ≡ false
-    no_digits = ap (are_digits 10) parts.text_is ∙ pointed_no_digits parts.whole (parts.fraction ++ parts.rest)
-
-    digit : list_any is_decimal text ≡ true
-    digit = begins_digit text (shaped_begins text (float h))
-
-    date : timestamp_11 text ≡ None
-    date = no_date text parts.whole (0x2E ∷ (parts.fraction ++ parts.rest)) parts.text_is whole refl
 
     unbased : (letter : ℕ) → is_decimal letter ≡ false → (0x2E == letter) ≡ false → begins_based_by letter (past_sign text) ≡ false
     unbased letter other point =

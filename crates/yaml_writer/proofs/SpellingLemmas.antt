@@ -35,10 +35,9 @@ module _ (test : ℕ → Bool) (passes : PassesNumbers test) where
 
   digits_pass : (digits : Text) → list_all is_decimal digits ≡ true → list_all test digits ≡ true
   digits_pass [] h = refl
-  digits_pass (c ∷ digits) h = one_passes c digits (passes.digit c both.0) (digits_pass digits both.1)
-    where
-      both : (is_decimal c ≡ true) × (list_all is_decimal digits ≡ true)
-      both = and_parts (is_decimal c) (list_all is_decimal digits) h
+  digits_pass (c ∷ digits) h =
+      let both = and_parts (is_decimal c) (list_all is_decimal digits) h in
+      one_passes c digits (passes.digit c both.0) (digits_pass digits both.1)
 
   some_pass : (digits : Text) → are_digits 10 digits ≡ true → list_all test digits ≡ true
   some_pass digits h = digits_pass digits (and_parts (not (length digits == 0)) (list_all is_decimal digits) h).1
@@ -80,8 +79,7 @@ module _ (test : ℕ → Bool) (passes : PassesNumbers test) where
   spelled_passes (Some exponent) h = by (exponent_negative exponent)
     where
       signed : (sign : ℕ) → test sign ≡ true → list_all test (0x65 ∷ sign ∷ exponent.digits) ≡ true
-      signed sign g =
-          one_passes 0x65 (sign ∷ exponent.digits) passes.small (one_passes sign exponent.digits g (some_pass exponent.digits h))
+      signed sign g = one_passes 0x65 (sign ∷ exponent.digits) passes.small (one_passes sign exponent.digits g (some_pass exponent.digits h))
 
       by : (x : Bool) → list_all test (codes "e" ++ (if x then codes "-" else codes "+") ++ exponent.digits) ≡ true
       by true = signed 0x2D passes.minus_sign
@@ -90,17 +88,13 @@ module _ (test : ℕ → Bool) (passes : PassesNumbers test) where
   -- a number's text
   pub text_passes : (number : JsonNumber) → is_json_number number ≡ true → list_all test (json_text number) ≡ true
   text_passes number h =
+      let valid = valid_parts number h in
+      let fraction : Text = elim number.fraction as (λ _. Text) [ None ↦ [] | Some digits ↦ codes "." ++ digits ] in
       both_pass (minus number.negative ++ number.whole ++ fraction) (exponent_text number.exponent)
       (both_pass (minus number.negative ++ number.whole) fraction
       (both_pass (minus number.negative) number.whole (minus_passes number.negative) (some_pass number.whole (whole_digits number h)))
       (fraction_passes number.fraction valid.fraction))
       (exponent_passes number.exponent valid.exponent)
-    where
-      valid : Valid number
-      valid = valid_parts number h
-
-      fraction : Text
-      fraction = elim number.fraction as (λ _. Text) [ None ↦ [] | Some digits ↦ codes "." ++ digits ]
 
   -- and its spelling
   pub spelling_passes : (number : JsonNumber) → is_json_number number ≡ true → list_all test (yaml_number number) ≡ true
@@ -169,10 +163,9 @@ same_exponent (Some exponent) h = by exponent.capital exponent.sign h
     by : (a : Bool) (s : Option Bool) → (not a && is_some s) ≡ true
         → exponent_spelled (Some (record { capital = a; sign = s; digits = exponent.digits }))
         ≡ exponent_text (Some (record { capital = a; sign = s; digits = exponent.digits }))
-    by true s g = absurd (true≢false (sym g))
-    by false None g = absurd (true≢false (sym g))
     by false (Some true) g = refl
     by false (Some false) g = refl
+    by _ _ g = absurd (true≢false (sym g))
 
 same_parts : (negative : Bool) (whole : Text) (fraction : Option Text) (exponent : Option JsonExponent)
     → is_spelled (record { negative = negative; whole = whole; fraction = fraction; exponent = exponent }) ≡ true

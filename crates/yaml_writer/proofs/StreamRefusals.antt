@@ -64,8 +64,7 @@ module _ (canonical : Bool) (all : List Event) (tree : Stream) (flat : stream_ev
         ∙ sym (pushed-append prefix (event ∷ []) before_stream) ∙ with_event.1
 
     event_in_order : is_sound canonical event ≡ true
-    event_in_order =
-        (and_parts (is_sound canonical event) (list_all (is_sound canonical) later) (both_in_order prefix (event ∷ later) parts).1).0
+    event_in_order = (and_parts (is_sound canonical event) (list_all (is_sound canonical) later) (both_in_order prefix (event ∷ later) parts).1).0
 
     pub refused_by_depth : (error : yaml_error_t) → refusal canonical prefix event ≡ Some error → error ≡ TooDeep
     refused_by_depth error refused =

@@ -1,9 +1,9 @@
 -- The bytes that the caller of a writer has taken, and those that are left, after its calls.
-use Rattle.yaml_writer.proofs.Common.{IfErr, OnOk, Option, None, Some, Result, Err, Ok, Bool, true, List, [], ◌++◌, ◌∷◌, refl, ◌≡◌, ap, subst}
-use Rattle.yaml_writer.proofs.Common.{sym, inr, ◌∙◌, Text, Event, State, output_left, result_of_error, WriterState, PassedEvents, GaveEvent, option_or}
+use Rattle.yaml_writer.proofs.Common.{IfErr, OnOk, Option, None, Some, Result, Err, Ok, Bool, List, [], ◌++◌, ◌∷◌, refl, ◌≡◌, ap, subst}
+use Rattle.yaml_writer.proofs.Common.{sym, ◌∙◌, Text, Event, State, output_left, result_of_error, WriterState, PassedEvents, GaveEvent, option_or}
 use Rattle.yaml_base.proofs.Common.{inl, ◌⊎◌, append-nil}
 use Rattle.std.{proofs.Common.take-append-drop, proofs.Math.Seq.take-length}
-use Rattle.yaml_emitter.specs.{Emits.Emits, Emits.TakesEvent, Emits.TakesScalar, EmitsEvent.CopyFailed}
+use Rattle.yaml_emitter.specs.{Emits.Emits, Emits.TakesEvent}
 use Rattle.yaml_emitter.{proofs.Common.with_all_taken, specs.State.bytes_taken}
 use Rattle.yaml_pen.proofs.Composing.{grows_itself}
 use Rattle.yaml_base.specs.declared.errors.yaml_error_t.{yaml_error_t}
@@ -66,11 +66,6 @@ gives_gave : (before after : WriterState) (event : Event) (answer : Result (Unit
 gives_gave before after event (Ok done) gave = gave
 gives_gave before after event (Err error) gave = inl gave
 
-pub begins_gave : (kind : CollectionKind) (before after : WriterState) (event : Event) (answer : Result (Unit {0}) yaml_error_t)
-    → GaveEvent (with_collection before kind) event answer after → Begins kind before event answer after
-begins_gave kind before after event (Ok done) gave = gave
-begins_gave kind before after event (Err error) gave = inl gave
-
 -- Calls that give a scalar, whose texts are borrowed
 
 -- the emitter took it, and the properties are used up
@@ -80,21 +75,6 @@ pub gave_taken : (inside before : WriterState) (emitter : State) (anchor tag : O
 gave_taken inside before emitter anchor tag event answer view emits no_anchor no_tag =
     gives_gave before (record inside { emitter = emitter; anchor = anchor; tag = tag }) event answer
     (gave_event inside before emitter anchor tag event event answer view refl emits.emits no_anchor no_tag)
-
--- it didn't, since there was no memory to copy it
-pub gave_untaken : (inside before : WriterState) (emitter : State) (event : Event) (answer : Result (Unit {0}) yaml_error_t) → inside ≡ before
-    → CopyFailed inside.emitter answer emitter → Gives before event answer (record inside { emitter = emitter })
-gave_untaken inside before emitter event answer view failed =
-    subst (λ (a : Result (Unit {0}) yaml_error_t). Gives before event a (record inside { emitter = emitter })) (sym failed.answered)
-    (inr (refl, ap (λ (e : State). record inside { emitter = e }) failed.unchanged ∙ view))
-
--- If the next node has no properties, it has none after a scalar either.
-pub gave_bare : (inside before : WriterState) (emitter : State) (event : Event) (answer : Result (Unit {0}) yaml_error_t) → inside ≡ before
-    → TakesScalar inside.emitter event answer emitter → inside.anchor ≡ None → inside.tag ≡ None
-    → Gives before event answer (record inside { emitter = emitter })
-gave_bare inside before emitter event answer view (inl emits) no_anchor no_tag =
-    gave_taken inside before emitter inside.anchor inside.tag event answer view emits no_anchor no_tag
-gave_bare inside before emitter event answer view (inr failed) no_anchor no_tag = gave_untaken inside before emitter event answer view failed
 
 -- a call that gives the same event
 pub given_as : {given event : Event} (before after : WriterState) (answer : Result (Unit {0}) yaml_error_t) → given ≡ event

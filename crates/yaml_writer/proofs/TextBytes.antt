@@ -58,10 +58,8 @@ unlike n c small h = by (c == n) refl
 not_among : (members : Text) (c : ℕ) → list_all is_ascii members ≡ true → is_ascii c ≡ false → is_among members c ≡ false
 not_among [] c small h = refl
 not_among (member ∷ members) c small h =
+    let both = and_parts (is_ascii member) (list_all is_ascii members) small in
     or_from (c == member) _ (unlike member c both.0 h) (not_among members c both.1 h)
-  where
-    both : (is_ascii member ≡ true) × (list_all is_ascii members ≡ true)
-    both = and_parts (is_ascii member) (list_all is_ascii members) small
 
 no_digit : (c : ℕ) → is_ascii c ≡ false → is_decimal c ≡ false
 no_digit c h = by (is_decimal c) refl
@@ -72,8 +70,7 @@ no_digit c h = by (is_decimal c) refl
     by false e = refl
 
 not_before_number : (c : ℕ) → is_ascii c ≡ false → precedes_number c ≡ false
-not_before_number c h =
-    or_from (is_plus_or_minus c) _ (or_from (c == 0x2B) _ (unlike 0x2B c refl h) (unlike 0x2D c refl h)) (unlike 0x5F c refl h)
+not_before_number c h = or_from (is_plus_or_minus c) _ (or_from (c == 0x2B) _ (unlike 0x2B c refl h) (unlike 0x2D c refl h)) (unlike 0x5F c refl h)
 
 not_within : (c : ℕ) → is_ascii c ≡ false → in_number c ≡ false
 not_within c h =
@@ -86,9 +83,8 @@ not_within c h =
 
 first_alike : (test : ℕ → Bool) → ((c : ℕ) → is_ascii c ≡ false → test c ≡ false) → (text : Text) (bytes : List ℕ) → Alike text bytes
     → first_meets test text ≡ first_meets test bytes
-first_alike test fails _ _ at_end = refl
-first_alike test fails _ _ (same c text bytes a) = refl
 first_alike test fails _ _ (others c b text bytes h k) = fails c h ∙ sym (fails b k)
+first_alike test fails _ _ _ = refl
 
 prefix_alike : (text : Text) (bytes : List ℕ) → Alike text bytes → take_while is_ascii text ≡ take_while is_ascii bytes
 prefix_alike _ _ at_end = refl
@@ -109,10 +105,8 @@ reserved_alike text bytes a =
     ∙ ap (λ (t : Text). length bytes == 0 || list_any (is_word (map to_ascii_lowercase t)) reserved_words) (prefix_alike text bytes a)
 
 second_alike : (c : ℕ) (text : Text) (bytes : List ℕ) → Alike text bytes → begins_based (c ∷ text) ≡ begins_based (c ∷ bytes)
-second_alike c _ _ at_end = refl
-second_alike c _ _ (same d text bytes a) = refl
-second_alike c _ _ (others d b text bytes h k) =
-    ap (λ x. c == 0x30 && x) (not_among (codes "_xXoObB") d refl h ∙ sym (not_among (codes "_xXoObB") b refl k))
+second_alike c _ _ (others d b text bytes h k) = ap (λ x. c == 0x30 && x) (not_among (codes "_xXoObB") d refl h ∙ sym (not_among (codes "_xXoObB") b refl k))
+second_alike c _ _ _ = refl
 
 no_base : (c : ℕ) (text : Text) → is_ascii c ≡ false → begins_based (past precedes_number (c ∷ text)) ≡ false
 no_base c text h =
@@ -137,15 +131,12 @@ based_alike _ _ (others c b text bytes h k) = no_base c text h ∙ sym (no_base 
 all_alike : (text : Text) (bytes : List ℕ) → Alike text bytes → list_all in_number text ≡ list_all in_number bytes
 all_alike _ _ at_end = refl
 all_alike _ _ (same c text bytes a) = ap (λ x. in_number c && x) (all_alike text bytes a)
-all_alike _ _ (others c b text bytes h k) =
-    and_left (in_number c) _ (not_within c h) ∙ sym (and_left (in_number b) _ (not_within b k))
+all_alike _ _ (others c b text bytes h k) = and_left (in_number c) _ (not_within c h) ∙ sym (and_left (in_number b) _ (not_within b k))
 
 equal_alike : (text : Text) (bytes : List ℕ) → Alike text bytes → list_all in_number text ≡ true → text ≡ bytes
 equal_alike _ _ at_end e = refl
-equal_alike _ _ (same c text bytes a) e =
-    ap (λ (t : Text). c ∷ t) (equal_alike text bytes a (and_parts (in_number c) (list_all in_number text) e).1)
-equal_alike _ _ (others c b text bytes h k) e =
-    absurd (true≢false (sym (and_parts (in_number c) (list_all in_number text) e).0 ∙ not_within c h))
+equal_alike _ _ (same c text bytes a) e = ap (λ (t : Text). c ∷ t) (equal_alike text bytes a (and_parts (in_number c) (list_all in_number text) e).1)
+equal_alike _ _ (others c b text bytes h k) e = absurd (true≢false (sym (and_parts (in_number c) (list_all in_number text) e).0 ∙ not_within c h))
 
 numeric_alike : (text : Text) (bytes : List ℕ) → Alike text bytes → is_numeric text ≡ is_numeric bytes
 numeric_alike text bytes a = by (list_all in_number text) refl
@@ -170,5 +161,4 @@ doubtful_alike text bytes a =
 
 -- A text is doubtful if its bytes are.
 pub doubtful_by_bytes : (bytes : List ℕ) → IsUtf8 bytes → is_doubtful (chars bytes) ≡ is_doubtful bytes
-doubtful_by_bytes bytes is =
-    doubtful_alike (chars bytes) bytes (subst (Alike (chars bytes)) (encodes-chars bytes is) (alike_bytes (chars bytes)))
+doubtful_by_bytes bytes is = doubtful_alike (chars bytes) bytes (subst (Alike (chars bytes)) (encodes-chars bytes is) (alike_bytes (chars bytes)))

@@ -251,7 +251,15 @@ record Reads (time : Option ClockTime) : Type 0 where
 
 time_reads : (time : Option ClockTime) → is_time_or_none time ≡ true → Reads time
 time_reads None h = record { ends = refl; fits = stands_alone; value = refl }
-time_reads (Some time) h = record { ends = refl; fits = fits; value = value }
+time_reads (Some time) h =
+    let first : is_decimal (0x30 + time.hour / 10 % 10) ≡ true = (and_parts (is_decimal (0x30 + time.hour / 10 % 10)) _ parts.hour.decimal).0 in
+    let unblank = not-true (is_blank (0x30 + time.hour / 10 % 10)) (digits_pass (λ c. not (is_blank c)) refl (0x30 + time.hour / 10 % 10) first) in
+    let value =
+    ap (λ (text : Text). clock_of (slice_split is_colon (take_while in_clock text)) (zone_in (past is_blank (past in_clock text))))
+    (splits is_blank [] text refl unblank).1
+    ∙ ap₂ (λ (clock rest : Text). clock_of (slice_split is_colon clock) (zone_in (past is_blank rest))) split.0 split.1
+    ∙ ap (λ zone. clock_of (slice_split is_colon (clock_text time)) zone) zone.value ∙ clock_value time parts in
+    record { ends = refl; fits = fits; value = value }
   where
     both : (is_clock_reading time.hour time.minute time.second time.nanosecond ≡ true) × (is_zone_offset time.offset ≡ true)
     both = and_parts (is_clock_reading time.hour time.minute time.second time.nanosecond) (is_zone_offset time.offset) h
@@ -279,19 +287,6 @@ time_reads (Some time) h = record { ends = refl; fits = fits; value = value }
         (or_right (is_date 2 (date_digits date) && length (0x54 ∷ text) == 0) (is_date 1 (date_digits date) && is_time_after_date (0x54 ∷ text))
         (ap₂ (λ a b. a && b) (ap₂ (λ a b. a && b) (ap₂ (λ a b. a && b) says.year.counted says.month.decimal) says.day.decimal)
         (ap (λ x. x || false) is)))
-
-    first : is_decimal (0x30 + time.hour / 10 % 10) ≡ true
-    first = (and_parts (is_decimal (0x30 + time.hour / 10 % 10)) _ parts.hour.decimal).0
-
-    unblank : first_meets is_blank text ≡ false
-    unblank = not-true (is_blank (0x30 + time.hour / 10 % 10)) (digits_pass (λ c. not (is_blank c)) refl (0x30 + time.hour / 10 % 10) first)
-
-    value : time_in (0x54 ∷ text) ≡ Some (Some time)
-    value =
-        ap (λ (text : Text). clock_of (slice_split is_colon (take_while in_clock text)) (zone_in (past is_blank (past in_clock text))))
-        (splits is_blank [] text refl unblank).1
-        ∙ ap₂ (λ (clock rest : Text). clock_of (slice_split is_colon clock) (zone_in (past is_blank rest))) split.0 split.1
-        ∙ ap (λ zone. clock_of (slice_split is_colon (clock_text time)) zone) zone.value ∙ clock_value time parts
 
 pub timestamps_read : TimestampsAreRead
 timestamps_read moment h =

@@ -11,7 +11,7 @@ use Rattle.yaml_base.proofs.Common.{style_asked_at, allowed_under, allowances, i
 use Rattle.yaml_base.proofs.Common.{as_value, has_no_nodes, has_no_pairs, is_written_in_flow, is_plain, stood_plain, stood_quoted, stood_bare, with_tag, agrees}
 use Rattle.yaml_base.proofs.Common.{without_tag, DocumentTree, document_agrees, documents_in_order, resolved_by_core, resolved_by_11, meant_text, Collection}
 use Rattle.yaml_base.proofs.Common.{effective, directives_in_force, root_place}
-use Rattle.yaml_base.proofs.{PlainUnderQuotes.plain_under, stream_nodes.StreamAgrees.document_tree_agrees}
+use Rattle.yaml_base.proofs.{PlainUnderQuotes.plain_under, TagForms.same_text, stream_nodes.StreamAgrees.document_tree_agrees}
 use Rattle.yaml_base.proofs.Trees.{tree_of-stream_events, one_tree}
 use Rattle.yaml_base.proofs.stream_documents.{StreamLawStands.agree_more, StreamWholeReads.document_trees}
 use Rattle.yaml_base.proofs.stream_nodes.StreamAgrees.{standing_in, tagging_in, node_tree, nodes_tree, pairs_tree, document_tree, node_agrees}
@@ -61,14 +61,13 @@ both_typed first second one other a b =
 
 mutual
   node_typed : (node : Node) → node_events (typed_node node) ≡ map typed_event (node_events node)
-  node_typed (alias_node name) = refl
-  node_typed (scalar_node content) = refl
   node_typed (sequence_node start items) =
       ap (λ (events : List Event). sequence_start start ∷ events)
       (both_typed (nodes_events items) (sequence_end ∷ []) (nodes_events (typed_nodes items)) (sequence_end ∷ []) (nodes_typed items) refl)
   node_typed (mapping_node start pairs) =
       ap (λ (events : List Event). mapping_start start ∷ events)
       (both_typed (pairs_events pairs) (mapping_end ∷ []) (pairs_events (typed_pairs pairs)) (mapping_end ∷ []) (pairs_typed pairs) refl)
+  node_typed _ = refl
 
   nodes_typed : (items : Nodes) → nodes_events (typed_nodes items) ≡ map typed_event (nodes_events items)
   nodes_typed no_nodes = refl
@@ -104,18 +103,14 @@ stream_typed stream =
 
 -- ---- tags
 
-same_text : (text : Text) → bytes_eq text text ≡ true
-same_text text = (bytes_eq-Decides text text).1 refl
-
 same_option : (text : Option Text) → is_same_text text text ≡ true
 same_option None = refl
 same_option (Some text) = same_text text
 
 option_is : (a b : Option Text) → is_same_text a b ≡ true → a ≡ b
 option_is None None h = refl
-option_is None (Some b) h = absurd (false≢true h)
-option_is (Some a) None h = absurd (false≢true h)
 option_is (Some a) (Some b) h = ap (λ (t : Text). Some t) ((bytes_eq-Decides a b).0 h)
+option_is _ _ h = absurd (false≢true h)
 
 -- a collection has its tag, written or not
 collection_kept : (canonical : Bool) (start : Collection) (own : Text) → is_same_text (Some (unwrap_or (collection_tag false start) own)) start.tag ≡ true
@@ -154,8 +149,7 @@ module _ (schema : Schema) (reads : ReadsPlain schema) (s : Effective) (directiv
 
     -- a written tag
     written : (content : Scalar) (tag : Text) → scalar_tag s.canonical content ≡ Some tag → tag_meant schema (tagging_at content) content.value ≡ tag
-    written content tag e =
-        ap (λ (o : Option Text). tag_meant schema (tagging_in o (choice_of s place (simple_at content) content)) content.value) e
+    written content tag e = ap (λ (o : Option Text). tag_meant schema (tagging_in o (choice_of s place (simple_at content) content)) content.value) e
 
     -- a text without one
     flagged : (x y : Bool) → not (not x && not y && not true) ≡ true
@@ -197,8 +191,7 @@ module _ (schema : Schema) (reads : ReadsPlain schema) (s : Effective) (directiv
 
         by : (x : Bool) → s.canonical ≡ x → tag_meant schema (tagging_at now) content.value ≡ tag
         by true e = written now tag (ap (λ x. scalar_tag x now) e ∙ has)
-        by false e =
-            text_read implied content text (scalar_tag s.canonical now) (tagging_at now) (ap (λ x. scalar_tag x now) e ∙ none implied) agree ∙ sym is
+        by false e = text_read implied content text (scalar_tag s.canonical now) (tagging_at now) (ap (λ x. scalar_tag x now) e ∙ none implied) agree ∙ sym is
 
     -- A plain scalar of another type.
     plain_kept : (content : Scalar) (tag : Text) → content.tag ≡ Some tag → IsWrittenPlain content.value → canonical_tag (schema content.value) ≡ tag
@@ -264,8 +257,7 @@ module _ (schema : Schema) (reads : ReadsPlain schema) (s : Effective) (directiv
     node_kept : (node : Node) (place : Place) → AllSay (node_events node)
         → tree_agrees true node (tree_by schema (node_tree (typed_node node) s directives place)) ≡ true
     node_kept (alias_node name) place say = same_text name
-    node_kept (scalar_node content) place say =
-        scalar_agrees place content content.tag refl (and_parts (is_some content.tag) true say).0
+    node_kept (scalar_node content) place say = scalar_agrees place content content.tag refl (and_parts (is_some content.tag) true say).0
     node_kept (sequence_node start items) place say =
         let in_flow = is_written_in_flow s place start (has_no_nodes (typed_nodes items)) in
         let parts = and_parts (says_tag (sequence_start start)) (list_all says_tag (nodes_events items ++ sequence_end ∷ [])) say in
@@ -315,26 +307,20 @@ module _ (schema : Schema) (reads : ReadsPlain schema) where
   document_kept : (s : Effective) (document : Document) → list_all says_tag (document_events document) ≡ true
       → document_agrees true document (document_by schema (document_tree s (typed_document document))) ≡ true
   document_kept s document say =
+      let directives = directives_in_force document.start.directives in
+      let bare : Document = record document { root = alias_node [] } in
+      let start : (is_same_version document.start.version document.start.version
+      && are_same_directives document.start.directives document.start.directives) ≡ true =
+      (and_parts
+      (is_same_version document.start.version document.start.version && are_same_directives document.start.directives document.start.directives)
+      (tree_agrees s.canonical (alias_node []) (node_tree (alias_node []) s directives root_place))
+      (document_tree_agrees s bare refl)).0 in
       and_from
       (is_same_version document.start.version document.start.version && are_same_directives document.start.directives document.start.directives)
       (tree_agrees true document.root (tree_by schema (node_tree (typed_node document.root) s directives root_place)))
       start
       (node_kept schema reads s directives document.root root_place
       (say_both schema reads s directives (node_events document.root) (document_end document.end_implicit ∷ []) say).0)
-    where
-      directives : List TagDirective
-      directives = directives_in_force document.start.directives
-
-      bare : Document
-      bare = record document { root = alias_node [] }
-
-      start : (is_same_version document.start.version document.start.version && are_same_directives document.start.directives document.start.directives)
-          ≡ true
-      start =
-          (and_parts
-          (is_same_version document.start.version document.start.version && are_same_directives document.start.directives document.start.directives)
-          (tree_agrees s.canonical (alias_node []) (node_tree (alias_node []) s directives root_place))
-          (document_tree_agrees s bare refl)).0
 
   documents_kept : (s : Effective) (documents : Documents) → list_all says_tag (documents_events documents) ≡ true
       → documents_agree true (documents_in_order documents) (map (document_by schema) (document_trees s (typed_documents documents))) ≡ true
@@ -352,6 +338,8 @@ module _ (schema : Schema) (reads : ReadsPlain schema) where
 
   pub tags_read : ReadsTags schema
   tags_read given encoding stream typed is accepted texts portable say =
+      let s = effective given encoding in
+      let trees = map (document_by schema) (document_trees s (typed_documents stream.documents)) in
       ap (λ (read : Option (List DocumentTree)). agrees true (stream_events stream) (option_map (map (document_by schema)) read))
       (stream_found given encoding typed accepted texts portable
       ∙ ap (λ (t : Stream). Some (document_trees s t.documents))
@@ -362,12 +350,6 @@ module _ (schema : Schema) (reads : ReadsPlain schema) where
       ∙ documents_kept s stream.documents
       (and_parts (list_all says_tag (documents_events stream.documents)) (list_all says_tag (stream_end ∷ []))
       (sym (list_all-append says_tag (documents_events stream.documents) (stream_end ∷ [])) ∙ say)).0
-    where
-      s : Effective
-      s = effective given encoding
-
-      trees : List DocumentTree
-      trees = map (document_by schema) (document_trees s (typed_documents stream.documents))
 
 pub typed_read : TypedEventsAreRead
 typed_read = (tags_read resolved_by_11 plain_by_11, tags_read resolved_by_core plain_by_core)

@@ -29,8 +29,7 @@ apart negative whole (Some fraction) (Some exponent) e = by exponent.capital exp
       negative = negative;
       whole = whole;
       fraction = Some fraction;
-      exponent =
-          Some (record { capital = a; sign = s; digits = exponent.digits });
+      exponent = Some (record { capital = a; sign = s; digits = exponent.digits });
     }
 
     unsigned : (letter : ℕ) → (minus negative ++ whole) ++ ((codes "." ++ fraction) ++ (0x65 ∷ 0x2B ∷ exponent.digits))

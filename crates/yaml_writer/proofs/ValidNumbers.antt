@@ -9,20 +9,13 @@ pub record Valid (number : JsonNumber) : Type 0 where
   pub exponent : is_exponent number.exponent ≡ true
 
 pub valid_parts : (number : JsonNumber) → is_json_number number ≡ true → Valid number
-valid_parts number h = record { whole = inner.0; fraction = by_fraction number.fraction inner.1; exponent = by_exponent number.exponent outer.1 }
+valid_parts number h =
+    let fraction_valid : Bool = elim number.fraction as (λ _. Bool) [ None ↦ true | Some digits ↦ are_digits 10 digits ] in
+    let exponent_valid : Bool = elim number.exponent as (λ _. Bool) [ None ↦ true | Some exponent ↦ are_digits 10 exponent.digits ] in
+    let outer = and_parts (is_whole_part number.whole && fraction_valid) exponent_valid h in
+    let inner = and_parts (is_whole_part number.whole) fraction_valid outer.0 in
+    record { whole = inner.0; fraction = by_fraction number.fraction inner.1; exponent = by_exponent number.exponent outer.1 }
   where
-    fraction_valid : Bool
-    fraction_valid = elim number.fraction as (λ _. Bool) [ None ↦ true | Some digits ↦ are_digits 10 digits ]
-
-    exponent_valid : Bool
-    exponent_valid = elim number.exponent as (λ _. Bool) [ None ↦ true | Some exponent ↦ are_digits 10 exponent.digits ]
-
-    outer : ((is_whole_part number.whole && fraction_valid) ≡ true) × (exponent_valid ≡ true)
-    outer = and_parts (is_whole_part number.whole && fraction_valid) exponent_valid h
-
-    inner : (is_whole_part number.whole ≡ true) × (fraction_valid ≡ true)
-    inner = and_parts (is_whole_part number.whole) fraction_valid outer.0
-
     by_fraction : (o : Option Text) → elim o as (λ _. Bool) [ None ↦ true | Some digits ↦ are_digits 10 digits ] ≡ true → is_fraction o ≡ true
     by_fraction None g = refl
     by_fraction (Some digits) g = g

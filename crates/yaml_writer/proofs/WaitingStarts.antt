@@ -2,7 +2,7 @@
 use Rattle.yaml_writer.proofs.Common.{suc, zero, ℕ, ◌<◌, ◌≤◌, IfErr, OnOk, None, Some, Result, Err, Ok, drop, length, take, Bool, true, List, [], ◌++◌, ◌∷◌}
 use Rattle.yaml_writer.proofs.Common.{refl, ◌≡◌, length-append, append-nil, append_assoc, ap, subst, sym, ◌∙◌, arith, nil_from_length, Event, stream_end}
 use Rattle.yaml_writer.proofs.Common.{document_end, settings_for, list_layout, written, IsAccepted, Settings, Effective, ends_last, some_from_result}
-use Rattle.yaml_writer.proofs.Common.{IsRefusal, HasRoomAndMemory, Promised, StandsAfter, State, none_from_result, result_of_error, RefusesOne, PassesLimit}
+use Rattle.yaml_writer.proofs.Common.{HasRoomAndMemory, Promised, StandsAfter, State, none_from_result, result_of_error, RefusesOne, PassesLimit}
 use Rattle.yaml_writer.proofs.Common.{IsUnfinishedBy, closing_by}
 use Rattle.yaml_base.specs.{Output.bytes_written, Refusal.IsAcceptedPrefix, declared.errors.yaml_error_t.yaml_error_t}
 use Rattle.yaml_emitter.proofs.standing.{Standing.settings_grown, StandingEnds.whole_accepted, StandingPromises.most_few}
@@ -13,8 +13,7 @@ use Rattle.yaml_writer.proofs.{Finishing.refuses_one, MissingNodes.misses, Overf
 shorter : {A : Type 0} (prefix later all : List A) (last : A) → prefix ++ later ≡ all ++ last ∷ [] → (later ≡ [] → ⊥)
     → (rest : List A) × (prefix ++ rest ≡ all)
 shorter [] later all last parts some = (all, refl)
-shorter (x ∷ prefix) later [] last parts some =
-    absurd (some (nil_from_length later (omega (arith, ap length parts, length-append prefix later))))
+shorter (x ∷ prefix) later [] last parts some = absurd (some (nil_from_length later (omega (arith, ap length parts, length-append prefix later))))
 shorter (x ∷ prefix) later (y ∷ all) last parts some =
     let same : x ≡ y = cc in
     let less = shorter prefix later all last (ap (drop 1) parts) some in
@@ -46,10 +45,8 @@ module _ (implicit : Bool) where
 
   -- The last event is no start.
   tail_none : (n : ℕ) → begins_with_start (drop n closed_twice) ≡ true → drop n closed_twice ≡ []
-  tail_none zero starts = cc
-  tail_none (suc zero) starts = cc
-  tail_none (suc (suc zero)) starts = cc
   tail_none (suc (suc (suc n))) starts = drop_nil n [] refl
+  tail_none _ starts = cc
 
   -- so no start is among the last three
   few_none : (all : List Event) (n : ℕ) → begins_with_start (drop n (all ++ closed_twice)) ≡ true → length (drop n (all ++ closed_twice)) ≤ 3
@@ -62,12 +59,10 @@ module _ (implicit : Bool) where
     -- If the events are no stream, no stream begins with them.
     begins_none : IsAcceptedPrefix canonical (all ++ closing) → ⊥
     begins_none begins =
+        let same = append_assoc all (document_end implicit ∷ []) (stream_end ∷ []) in
         unaccepted
         (subst (IsAccepted canonical) same
         (whole_accepted canonical (all ++ document_end implicit ∷ []) (subst (IsAcceptedPrefix canonical) (sym same) begins)))
-      where
-        same : (all ++ document_end implicit ∷ []) ++ stream_end ∷ [] ≡ all ++ closing
-        same = append_assoc all (document_end implicit ∷ []) (stream_end ∷ [])
 
     -- nor with one event more
     pub accepts_none : IsAccepted canonical ((all ++ closing) ++ stream_end ∷ []) → ⊥
@@ -124,6 +119,7 @@ module _ (implicit : Bool) where
   passes_shorter : (given : Settings) (all : List Event) → (IsAccepted given.canonical (all ++ closing) → ⊥)
       → PassesLimit given ((all ++ closing) ++ stream_end ∷ []) → PassesLimit given (all ++ closing)
   passes_shorter given all unaccepted passes =
+      let before = shorter passes.prefix passes.later (all ++ closing) stream_end passes.parts not_all in
       record {
         prefix = passes.prefix;
         later = before.0;
@@ -148,25 +144,18 @@ module _ (implicit : Bool) where
                 (ap (λ prefix. prefix ++ passes.more) whole ∙ append_assoc (all ++ closing) (stream_end ∷ []) passes.more) passes.accepted;
           })
 
-      before : (rest : List Event) × (passes.prefix ++ rest ≡ all ++ closing)
-      before = shorter passes.prefix passes.later (all ++ closing) stream_end passes.parts not_all
-
   -- the third event is answered with an error
   pub third_fails : (given : Settings) (all : List Event) (state : State) → (IsAccepted given.canonical (all ++ closing) → ⊥)
       → Promised given ((all ++ closing) ++ stream_end ∷ []) state → state.error ≡ None → ⊥
   third_fails given all state unaccepted promised none =
+      let same = append_assoc all closing (stream_end ∷ []) in
+      let held =
+      let waits = promised.held none in
+      let n = written ((all ++ closing) ++ stream_end ∷ []) in
+      let is : state.held ≡ drop n (all ++ closed_twice) = waits.held ∙ ap (drop n) same in
+      let few : length (drop n (all ++ closed_twice)) ≤ 3 = omega (arith, waits.few, most_few state.held, ap length is) in
+      is ∙ few_none all n (ap begins_with_start (sym is) ∙ waits.starts) few in
       accepts_none given.canonical all unaccepted ((promised.ends (ends_last (all ++ closing)) (subst HasRoomAndMemory (sym none) tt)).1 (none, held))
-    where
-      same : (all ++ closing) ++ stream_end ∷ [] ≡ all ++ closed_twice
-      same = append_assoc all closing (stream_end ∷ [])
-
-      held : state.held ≡ []
-      held =
-          let waits = promised.held none in
-          let n = written ((all ++ closing) ++ stream_end ∷ []) in
-          let is : state.held ≡ drop n (all ++ closed_twice) = waits.held ∙ ap (drop n) same in
-          let few : length (drop n (all ++ closed_twice)) ≤ 3 = omega (arith, waits.few, most_few state.held, ap length is) in
-          is ∙ few_none all n (ap begins_with_start (sym is) ∙ waits.starts) few
 
   -- The meaning of its error.
   pub third_unfinished : (before after : State) (error : yaml_error_t) → ((earlier : yaml_error_t) → before.error ≡ Some earlier → ⊥)

@@ -10,6 +10,7 @@ pub mod Floats
 pub mod Binary
 pub mod WasGiven
 pub mod Failing
+pub mod Answering
 pub mod Means
 pub mod Inside
 pub mod PlainTexts

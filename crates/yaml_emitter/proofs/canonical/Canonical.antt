@@ -3,13 +3,13 @@ use Rattle.yaml_emitter.proofs.Common.{◌≤◌, if◌then◌else◌, ◌==◌,
 use Rattle.yaml_emitter.proofs.Common.{refl, ◌≡◌, append-nil, ap, subst, sym, ◌∙◌, and_parts, and_from, list_all, all_scalars, tree_of-stream_events}
 use Rattle.yaml_emitter.proofs.Common.{all_of_both, Text, line_feed, Event, stream_start, stream_end, Stream, documents_events, stream_events, layout, Piece}
 use Rattle.yaml_emitter.proofs.Common.{text_of, break_text, with_breaks_written, has_scalar_texts, bytes_written, list_layout, IsAccepted, LineBreak}
-use Rattle.yaml_emitter.proofs.Common.{carriage_return_break, line_feed_break, both_break, Effective, effective, documents_read, canonical_content, free}
+use Rattle.yaml_emitter.proofs.Common.{carriage_return_break, Effective, effective, documents_read, canonical_content, free}
 use Rattle.yaml_emitter.proofs.Common.{tokens_from, documents_content}
 use lib.Utf8.{scalar}
 use Rattle.yaml_base.{proofs.BreakLaws.breaks-round, proofs.stream_nodes.StreamNames.all_good, specs.Grammar.tree_of, specs.LineBreaks.with_line_breaks_read}
 use Rattle.yaml_base.{specs.Meaning.CanonicalBytesRead, specs.reading.Content.content_of}
 use Rattle.yaml_emitter.proofs.canonical.{CanonicalBytes.characters_back, CanonicalDocuments.stream_read, CanonicalPlaces.in_canonical}
-use Rattle.yaml_emitter.proofs.canonical.{CanonicalStream.stream_says, CanonicalText.scalars-append, CanonicalTokens.documents_tokens}
+use Rattle.yaml_emitter.proofs.canonical.{CanonicalStream.stream_says, CanonicalText.all_scalars-append, CanonicalTokens.documents_tokens}
 use Rattle.yaml_emitter.proofs.canonical.CanonicalSound.{is_good_canonical, DocumentsOk, documents_ok, each_document}
 use Rattle.yaml_emitter.proofs.layouts.Meaning.{is_indent}
 
@@ -18,13 +18,12 @@ written_scalars : (setting : LineBreak) (text : Text) → all_scalars text ≡ t
 written_scalars setting [] h = refl
 written_scalars setting (c ∷ rest) h =
     let p : (scalar c ≡ true) × (all_scalars rest ≡ true) = and_parts _ _ h in
-    scalars-append (if c == line_feed then break_text setting else c ∷ []) (with_breaks_written setting rest) (by (c == line_feed) p.0)
+    all_scalars-append (if c == line_feed then break_text setting else c ∷ []) (with_breaks_written setting rest) (by (c == line_feed) p.0)
     (written_scalars setting rest p.1)
   where
     break_scalars : (given : LineBreak) → all_scalars (break_text given) ≡ true
     break_scalars carriage_return_break = refl
-    break_scalars line_feed_break = refl
-    break_scalars both_break = refl
+    break_scalars _ = refl
 
     by : (b : Bool) → scalar c ≡ true → all_scalars (if b then break_text setting else c ∷ []) ≡ true
     by true h = break_scalars setting

@@ -33,11 +33,10 @@ no_exclamation : (a : ℕ) → nat_lt a 0xF8 ≡ true → ((a == 0xFE) ≡ false
 no_exclamation a h = (grind (arith, nat_tests), grind (arith, nat_tests))
 
 as_utf8 : (bytes : List ℕ) → below bytes ≡ true → characters_read bytes ≡ utf8_read bytes
-as_utf8 [] h = refl
-as_utf8 (a ∷ []) h = refl
 as_utf8 (a ∷ b ∷ rest) h =
     let no = no_exclamation a (and_parts (nat_lt a 0xF8) (below (b ∷ rest)) h).0 in
     rw (no.0, no.1) refl
+as_utf8 _ h = refl
 
 utf8_back : (text : Text) → scalars text ≡ true → utf8_read (encodes text) ≡ Some text
 utf8_back text h =

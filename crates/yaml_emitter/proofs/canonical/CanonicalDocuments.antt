@@ -24,8 +24,7 @@ closing_fold before true true = record { may_end = false; is = refl }
 version_fold : (before : List DocumentContent) (version : Option Version) (reading : Reading) → Outside before no_head reading
     → Outside before (head_of version []) (fold token_read reading (version_tokens version))
 version_fold before None reading stands = stands
-version_fold before (Some version) reading stands =
-    record { may_end = false; is = ap (λ r. fold token_read r (version_tokens (Some version))) stands.is }
+version_fold before (Some version) reading stands = record { may_end = false; is = ap (λ r. fold token_read r (version_tokens (Some version))) stands.is }
 
 lines_fold : (before : List DocumentContent) (version : Option Version) (more own : List TagDirective) (reading : Reading)
     → Outside before (head_of version own) reading

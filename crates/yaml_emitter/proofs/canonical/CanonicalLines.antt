@@ -13,7 +13,7 @@ use Rattle.yaml_base.proofs.stream_documents.StreamPrologues.{handle_reads, vers
 use Rattle.yaml_base.specs.Indicators.{document_start, document_end}
 use Rattle.yaml_base.specs.reading.CanonicalTokens.{in_line, words_of_line, tag_line_of, directive_token}
 use Rattle.yaml_emitter.proofs.canonical.CanonicalNames.{is_written, all_written, all-scalars, all-rendered, prefix-written, handle_text}
-use Rattle.yaml_emitter.proofs.canonical.CanonicalText.{anything, Says, scalars-append, says_after, says_text, says_nothing, says_white, space_if-white}
+use Rattle.yaml_emitter.proofs.canonical.CanonicalText.{anything, Says, all_scalars-append, says_after, says_text, says_nothing, says_white, space_if-white}
 use Rattle.yaml_emitter.proofs.canonical.CanonicalText.{line_says, indicator_says}
 use Rattle.yaml_emitter.proofs.canonical.CanonicalTokens.{version_tokens, tag_line_tokens}
 
@@ -176,8 +176,8 @@ module _ (breaks12 portable : Bool) where
       ∙ ap (tag_line_of directive.handle) (decoded_prefix portable directive.prefix ok.scalars)
       ∙ rw (handle_reads directive.handle ok.handle) refl in
       record {
-        scalars = scalars-append inner (line_feed ∷ [])
-            (scalars-append directive.handle (space ∷ prefix_escaped portable directive.prefix) (all-scalars directive.handle h)
+        scalars = all_scalars-append inner (line_feed ∷ [])
+            (all_scalars-append directive.handle (space ∷ prefix_escaped portable directive.prefix) (all-scalars directive.handle h)
             (all-scalars (prefix_escaped portable directive.prefix) p)) refl;
         rendered = rendered-append inner (line_feed ∷ [])
             (rendered-append directive.handle (space ∷ prefix_escaped portable directive.prefix) (all-rendered directive.handle h)

@@ -1,10 +1,10 @@
 -- The canonical reader's tokens for the text of a node, after any text before it.
-use Rattle.yaml_base.proofs.Common.{and-false}
+use Rattle.yaml_base.proofs.{Common.and-false, DumpedLeaves.text_of-append}
 use Rattle.yaml_emitter.proofs.Common.{ℕ, ◌≤◌, if◌then◌else◌, is_some, Option, None, Some, codes, Bool, false, not, true, ◌&&◌, List, [], ◌++◌, ◌∷◌, refl, ◌≡◌}
-use Rattle.yaml_emitter.proofs.Common.{true≢false, append-nil, append_assoc, ap, subst, sym, ◌∙◌, arith, flat_map-append, all_scalars, Text, space, Cursor}
+use Rattle.yaml_emitter.proofs.Common.{true≢false, append-nil, append_assoc, ap, subst, sym, ◌∙◌, arith, all_scalars, Text, space, Cursor}
 use Rattle.yaml_emitter.proofs.Common.{render_then, new_line, space_if, indicator, TagDirective, Scalar, Collection, Event, alias, scalar, sequence_start, Node}
 use Rattle.yaml_emitter.proofs.Common.{mapping_start, alias_node, scalar_node, Nodes, sequence_node, Pairs, mapping_node, no_nodes, nodes_and, no_pairs, Piece}
-use Rattle.yaml_emitter.proofs.Common.{pairs_and, piece_text, text_of, Standing, RenderedPieces, render_properties, choice_of, scalar_lead, scalar_piece, curly}
+use Rattle.yaml_emitter.proofs.Common.{pairs_and, text_of, Standing, RenderedPieces, render_properties, choice_of, scalar_lead, scalar_piece, curly}
 use Rattle.yaml_emitter.proofs.Common.{alias_piece, start_piece, is_written_in_flow, Brackets, square, render_end, end_piece, render_node, as_item, as_key}
 use Rattle.yaml_emitter.proofs.Common.{as_value, is_key, line_column, deeper, has_no_nodes, has_no_pairs, render_place, Effective, directives_fault, Token}
 use Rattle.yaml_emitter.proofs.Common.{directives_in_force, alias_token, scalar_token, opens_sequence, closes_sequence, opens_mapping, closes_mapping, comma}
@@ -43,10 +43,6 @@ record EntriesAfter (breaks12 : Bool) (empty : Bool) (demand : Demand) (text : T
   entered : Entered empty (demand_at empty demand) rendered.standing.cursor
   open_ended : rendered.standing.open_ended ≡ before.open_ended
 
--- the text of pieces after pieces
-text_of-append : (a b : List Piece) → text_of (a ++ b) ≡ text_of a ++ text_of b
-text_of-append a b = flat_map-append piece_text a b
-
 pub more_text : (text : Text) (a b : List Piece) → text ++ text_of (a ++ b) ≡ (text ++ text_of a) ++ text_of b
 more_text text a b = ap (λ t. text ++ t) (text_of-append a b) ∙ sym (append_assoc text (text_of a) (text_of b))
 
@@ -71,8 +67,7 @@ space_opens space_next cursor h = by cursor.whitespace h
 bare_tokens : (portable : Bool) (own : List TagDirective) (tag : Option Text) (quoted : Bool)
     → tag_tokens portable own tag (not (is_some tag) && not quoted && not false) ≡ tag_tokens portable own tag (not quoted)
 bare_tokens portable own None true = refl
-bare_tokens portable own None false = refl
-bare_tokens portable own (Some tag) quoted = refl
+bare_tokens portable own _ _ = refl
 
 -- the tokens for brackets
 record BracketsSay (breaks12 : Bool) (brackets : Brackets) (opens closes : Token) : Type 0 where

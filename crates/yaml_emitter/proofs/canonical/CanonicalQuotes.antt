@@ -9,7 +9,7 @@ use Rattle.yaml_base.specs.{Cursor.render_text, Characters.backslash}
 use Rattle.yaml_base.specs.reading.CanonicalTokens.{Token, scalar_token, free, in_quotes, quotes_step, tokens_from}
 use Rattle.yaml_base.specs.reading.ReadDouble.{QuoteStep, quote_step, QuotedReading, double_quoted_prefix}
 use Rattle.yaml_base.specs.scalars.DoubleQuoted.{quote, ShortEscape, may_fold, space_kept, double_fold, double_character, double_quoted_body}
-use Rattle.yaml_emitter.proofs.canonical.CanonicalText.{anything, Says, scalars-append, says_white, new_line-white, step_fixed}
+use Rattle.yaml_emitter.proofs.canonical.CanonicalText.{anything, Says, all_scalars-append, says_white, new_line-white, step_fixed}
 use Rattle.yaml_scalar.proofs.DoubleReads.{double-prefix, double-rendered}
 
 -- a unit before the units that were read
@@ -99,7 +99,7 @@ digit-scalar n = agree_below_at (λ d. scalar (hex_digit d)) (λ d. true) 16 (n 
 digits-scalars : (count n : ℕ) → all_scalars (hex_digits count n) ≡ true
 digits-scalars zero n = refl
 digits-scalars (suc count) n =
-    scalars-append (hex_digits count (n / 16)) (hex_digit (n % 16) ∷ []) (digits-scalars count (n / 16)) (and_from _ true (digit-scalar n) refl)
+    all_scalars-append (hex_digits count (n / 16)) (hex_digit (n % 16) ∷ []) (digits-scalars count (n / 16)) (and_from _ true (digit-scalar n) refl)
 
 number-scalars : (c : ℕ) (two four : Bool)
     → all_scalars (if two then 120 ∷ hex_digits 2 c else (if four then 117 ∷ hex_digits 4 c else 85 ∷ hex_digits 8 c)) ≡ true
@@ -132,7 +132,7 @@ module _ (unicode : Bool) (limit : Option ℕ) (indent : ℕ) where
   character-scalars before c rest cursor h = by (is_space c && may_fold before rest && is_past_width limit cursor)
     where
       by : (b : Bool) → all_scalars (if b then double_fold indent rest cursor else render_text (character_text unicode c) cursor).text ≡ true
-      by true = scalars-append (new_line indent cursor).text (space_kept rest)
+      by true = all_scalars-append (new_line indent cursor).text (space_kept rest)
           (says_white false (new_line indent cursor).text (new_line-white indent cursor)).scalars (kept-scalars rest)
       by false = text-scalars unicode c h
 
@@ -142,12 +142,12 @@ module _ (unicode : Bool) (limit : Option ℕ) (indent : ℕ) where
   inside-scalars (c ∷ rest) before cursor h =
       let p : (scalar c ≡ true) × (all_scalars rest ≡ true) = and_parts _ _ h in
       let first = double_character unicode limit indent before c rest cursor in
-      scalars-append first.text (double_inside unicode limit indent (Some c) rest first.cursor).text
+      all_scalars-append first.text (double_inside unicode limit indent (Some c) rest first.cursor).text
       (character-scalars before c rest cursor p.0) (inside-scalars rest (Some c) first.cursor p.1)
 
   body-scalars : (value : Text) (cursor : Cursor) → all_scalars value ≡ true → all_scalars (double_quoted_body unicode limit indent value cursor).text ≡ true
   body-scalars value cursor h =
-      scalars-append (double_inside unicode limit indent None value (render_quote cursor).cursor).text (quote ∷ [])
+      all_scalars-append (double_inside unicode limit indent None value (render_quote cursor).cursor).text (quote ∷ [])
       (inside-scalars value None (render_quote cursor).cursor h) refl
 
   -- A body's token is its value.

@@ -1,11 +1,12 @@
 -- The tokens as which the canonical reader reads a text between tokens, if the text after it meets a demand.
 use Rattle.yaml_emitter.proofs.Common.{suc, zero, ℕ, ◌-◌, if◌then◌else◌, ◌==◌, replicate, Bool, false, not, true, ◌&&◌, ◌||◌, List, [], ◌++◌, ◌∷◌, refl, ◌≡◌}
-use Rattle.yaml_emitter.proofs.Common.{eqb-true, true≢false, append_assoc, ap, subst, sym, ◌∙◌, and_parts, and_from, list_all, all_scalars, rendered-append}
+use Rattle.yaml_emitter.proofs.Common.{eqb-true, true≢false, append_assoc, ap, subst, sym, ◌∙◌, and_parts, list_all, all_scalars, rendered-append}
 use Rattle.yaml_emitter.proofs.Common.{Text, line_feed, space, is_alpha, is_space, Cursor, new_line, space_if, indicator, is_rendered_text, Token, free}
 use Rattle.yaml_emitter.proofs.Common.{tokens_from, begins_with}
 use Rattle.yaml_base.proofs.Common.{breaks_line, is_break}
 use Rattle.yaml_base.proofs.stream_lines.StreamLineLaws.{break_line}
 use Rattle.yaml_base.specs.reading.CanonicalTokens.{CanonicalStep, ends_token, step_between_tokens}
+pub use Rattle.yaml_pen.proofs.Adding.{all_scalars-append}
 
 -- a demand on the text after another: any text, no letter of a name first, or a space first
 pub data Demand : Type 0 where
@@ -33,18 +34,12 @@ opens_append {demand} a b o = record { meets = λ rest. subst (Meets demand) (sy
 pub opens_any : (text : Text) → Opens anything text
 opens_any text = record { meets = λ rest. tt }
 
-pub scalars-append : (a b : Text) → all_scalars a ≡ true → all_scalars b ≡ true → all_scalars (a ++ b) ≡ true
-scalars-append [] b h k = k
-scalars-append (c ∷ a) b h k =
-    let p = and_parts _ _ h in
-    and_from _ _ p.0 (scalars-append a b p.1 k)
-
 -- One text after another.
 pub says_then : {breaks12 : Bool} {d e : Demand} {a b : Text} {j k : List Token} → Says breaks12 d a j → Opens d b → Says breaks12 e b k
     → Says breaks12 e (a ++ b) (j ++ k)
 says_then {breaks12} {d} {e} {a} {b} {j} {k} first opens second =
     record {
-      scalars = scalars-append a b first.scalars second.scalars;
+      scalars = all_scalars-append a b first.scalars second.scalars;
       rendered = rendered-append a b first.rendered second.rendered;
       reads = λ rest meets.
           ap (tokens_from breaks12 free) (append_assoc a b rest)
@@ -122,8 +117,7 @@ line_says breaks12 at cursor = says_white breaks12 (new_line at cursor).text (ne
 pub indicator_says : {breaks12 : Bool} {d : Demand} {symbol : Text} {k : List Token} (need whitespace indention : Bool) (cursor : Cursor)
     → Says breaks12 d symbol k
     → Says breaks12 d (indicator symbol need whitespace indention cursor).text k
-indicator_says {breaks12} need whitespace indention cursor says =
-    says_after (says_white breaks12 (space_if need cursor) (space_if-white need cursor)) says
+indicator_says {breaks12} need whitespace indention cursor says = says_after (says_white breaks12 (space_if need cursor) (space_if-white need cursor)) says
 
 pub indicator_opens : (symbol : Text) (need whitespace indention : Bool) (cursor : Cursor) → Opens name_ends symbol
     → Opens name_ends (indicator symbol need whitespace indention cursor).text

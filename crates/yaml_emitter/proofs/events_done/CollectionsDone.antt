@@ -1,9 +1,9 @@
 -- The work of a collection's start and end, as a step of the emitter.
-use Rattle.yaml_emitter.proofs.Common.{ℕ, Option, None, Some, Result, Err, Ok, nat_lt, length, Bool, false, not, true, ◌&&◌, List, ◌∷◌, refl, ◌≡◌, ap, subst}
+use Rattle.yaml_emitter.proofs.Common.{ℕ, Option, None, Result, Err, Ok, nat_lt, length, Bool, false, not, true, ◌&&◌, List, ◌∷◌, refl, ◌≡◌, ap, subst}
 use Rattle.yaml_emitter.proofs.Common.{sym, ◌∙◌, option_or, Cursor, TagDirective, Collection, start_piece, is_written_in_flow, end_piece, entry_place, Place}
 use Rattle.yaml_emitter.proofs.Common.{is_key, flushes, some_if, name_or_tag_fault, most_open, Effective, Frame, Stage, at_node, next_place, stage_after}
 use Rattle.yaml_emitter.proofs.Common.{is_first, step, stage_refusal, start_of_kind, end_of_kind, brackets_of, Processed, MachineState, piece_at, Page, encoded}
-use Rattle.yaml_emitter.proofs.Common.{result_of_error, Wrote, OnOk}
+use Rattle.yaml_emitter.proofs.Common.{none_from_result, Wrote, OnOk}
 use Rattle.std.specs.Result.{IfErr}
 use Rattle.yaml_base.specs.{Event.CollectionStyle, Layout.entries_column, Layout.is_simple_collection, Steps.node_allowed}
 use Rattle.yaml_base.specs.Steps.{at_stream, at_document, at_document_end, at_nothing, stage_allows}
@@ -85,10 +85,6 @@ start_cut before directives frames mapping start empty simple place page error a
     (start_refusal before.given.canonical directives frames mapping start true none room)
     (start_wrote before directives frames mapping start empty simple place page (Err error) place_is simple_is wrote)
 
-stated_well : (given : Option yaml_error_t) → Ok tt ≡ result_of_error given → given ≡ None
-stated_well None is = refl
-stated_well (Some other) is = cc
-
 -- no memory for the open collection, after the start was written
 start_unkept : (before : MachineState) (directives : List TagDirective) (frames : List Frame) (mapping : Bool) (start : Collection) (empty simple : Bool)
     (place : Place) (after : Stage) (page : Page)
@@ -98,7 +94,7 @@ start_unkept : (before : MachineState) (directives : List TagDirective) (frames 
     → Wrote (piece_at (start_piece before.settings directives place simple start) before.open_ended) before.page page (Ok tt)
     → Processed (start_of_kind mapping start) empty before (record before { stage = after; page = page }) (Err Memory)
 start_unkept before directives frames mapping start empty simple place after page at none room place_is simple_is wrote =
-    let well = stated_well page.error wrote.answered in
+    let well = none_from_result page.error wrote.answered in
     processed_after_writing (start_of_kind mapping start) empty before (record before { stage = after; page = page }) (at_node directives frames) at refl refl
     (start_refusal before.given.canonical directives frames mapping start true none room) well
     (start_wrote before directives frames mapping start empty simple place page (Ok tt) place_is simple_is wrote)
@@ -130,7 +126,7 @@ start_written before directives frames mapping start empty simple in_flow place 
     ∙ ap (λ (b : Bool). opened s mapping (is_written_in_flow s place start empty) b place page.cursor) simple_is
     ∙ ap (λ (p : Place). opened s mapping (is_written_in_flow s p start empty) (start_simple s directives start empty p) p page.cursor) place_is
     ∙ ap (λ (c : Cursor). opened s mapping (is_written_in_flow s (next_place frames) start empty) (start_simple s directives start empty (next_place frames))
-    (next_place frames) c) (whole.all (stated_well page.error whole.answered)).cursor in
+    (next_place frames) c) (whole.all (none_from_result page.error whole.answered)).cursor in
     processed_written_at (start_of_kind mapping start) empty before (record before { stage = after; page = page }) (at_node directives frames) at
     (in_stream mapping) refl
     (start_refusal before.given.canonical directives frames mapping start true none room) refl

@@ -25,9 +25,6 @@ at_node_inside e is at = is_node e.stage e.directives e.frames (ap (λ (s : Mach
 pub seen_at_node : {A : Type 0} (e : Inside A) → e.stage ≡ Node → (machine_state e).stage ≡ at_node e.directives e.frames
 seen_at_node e at = ap (λ (st : stage.Stage). seen_stage st e.directives e.frames) at
 
-pub ready_inside : {A : Type 0} (e : Inside A) → IsMachine e → e.stage ≡ Node → IsReady e.pen
-ready_inside e kept at = subst (λ (st : stage.Stage). FitsPage (seen_stage st e.directives e.frames) e.pen) at kept.page
-
 pub names_inside : {A : Type 0} (e : Inside A) {seen : MachineState} → machine_state e ≡ seen → (event : Event)
     → name_or_tag_fault seen.given.canonical event ≡ None
     → name_or_tag_fault (machine_state e).given.canonical event ≡ None
@@ -35,8 +32,7 @@ names_inside e is event none = ap (λ (s : MachineState). name_or_tag_fault s.gi
 
 pub pushed_at_node : {A : Type 0} (e : Inside A) (frames : List Frame) (frame : Frame) → e.stage ≡ Node → frames ≡ frame ∷ e.frames
     → seen_stage e.stage e.directives frames ≡ at_node e.directives (frame ∷ e.frames)
-pushed_at_node e frames frame at pushed =
-    ap (λ (st : stage.Stage). seen_stage st e.directives frames) at ∙ ap (at_node e.directives) pushed
+pushed_at_node e frames frame at pushed = ap (λ (st : stage.Stage). seen_stage st e.directives frames) at ∙ ap (at_node e.directives) pushed
 
 -- the invariants while the stage stays
 pub kept_at_node : {A : Type 0} (e : Inside A) (pen : Page) (frames : List Frame) (open_ended : OpenEnded) → IsMachine e

@@ -97,8 +97,7 @@ processed_cut event empty before after error kept settings accepted wrote =
 -- want of memory before anything of the event is written
 pub processed_unwritten : (event : Event) (empty : Bool) (before after : MachineState) → Keeps before after → after.settings ≡ before.settings
     → after.page ≡ before.page → Processed event empty before after (Err Memory)
-processed_unwritten event empty before after kept settings page =
-    record { kept = kept; settings = settings; page = unwritten refl page }
+processed_unwritten event empty before after kept settings page = record { kept = kept; settings = settings; page = unwritten refl page }
 
 -- The event is written, with the stage known by an equation.
 rendered_at : (before after : MachineState) (event : Event) (empty : Bool) (stage : Stage) (answer : Result (Unit {0}) yaml_error_t) → before.stage ≡ stage

@@ -1,6 +1,6 @@
 -- Output in every encoding, without its byte order mark, has the characters of output in UTF-8.
 use Rattle.yaml_emitter.proofs.Common.{ℕ, Some, List, ◌++◌, refl, ◌≡◌, take_all, ap, sym, ◌∙◌, Text, text_bytes, encode, Event, settings_for, text_written}
-use Rattle.yaml_emitter.proofs.Common.{bytes_written, output_of, list_layout, Encoding, utf8, utf16_little, utf16_big, Settings, IsUncut}
+use Rattle.yaml_emitter.proofs.Common.{bytes_written, output_of, list_layout, Encoding, utf8, Settings, IsUncut}
 use Rattle.yaml_base.specs.Decode.{text_of_bytes, decode}
 use Rattle.yaml_emitter.{proofs.layouts.RawTexts.streams_agree, specs.EncodedAlike.bom_bytes}
 use Rattle.yaml_emitter.specs.EncodedAlike as spec
@@ -8,15 +8,13 @@ use Rattle.yaml_emitter.specs.EncodedAlike as spec
 -- bytes begin with their byte order mark
 with_bom : (encoding : Encoding) (text : Text) → bom_bytes encoding ++ text_bytes encoding text ≡ encode (Some encoding) text
 with_bom utf8 text = refl
-with_bom utf16_little text = refl
-with_bom utf16_big text = refl
+with_bom _ text = refl
 
 -- to decode is to read the text after the byte order mark
 without_bom : (encoding : Encoding) (text : Text) → text_of_bytes encoding (text_bytes encoding text) ≡ decode (Some encoding) (encode (Some encoding) text)
 unfolding decode
 without_bom utf8 text = refl
-without_bom utf16_little text = refl
-without_bom utf16_big text = refl
+without_bom _ text = refl
 
 of_utf8 : (bytes : List ℕ) → decode (Some utf8) bytes ≡ text_of_bytes utf8 bytes
 unfolding decode

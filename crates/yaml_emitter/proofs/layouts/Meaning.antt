@@ -1,6 +1,6 @@
 -- A fact about each body that a value allows holds for all bodies of a stream's layout: so each scalar of it reads back as exactly
 -- its value.
-use Rattle.yaml_emitter.proofs.Common.{ℕ, if◌then◌else◌, unwrap_or, option_map, Option, None, Some, nat_le, negsuc, pos, ℤ, Bool, false, true, ◌&&◌, List, []}
+use Rattle.yaml_emitter.proofs.Common.{ℕ, if◌then◌else◌, unwrap_or, option_map, Option, None, Some, nat_le, pos, ℤ, Bool, false, true, ◌&&◌, List, []}
 use Rattle.yaml_emitter.proofs.Common.{◌∷◌, refl, ◌≡◌, ap, subst, sym, ◌∙◌, arith, and_parts, All-nil, All-cons, All, list_all, tree_of-stream_events, Cursor}
 use Rattle.yaml_emitter.proofs.Common.{ScalarStyle, TagDirective, Scalar, Event, stream_start, stream_end, document_start, document_end, scalar, sequence_end}
 use Rattle.yaml_emitter.proofs.Common.{mapping_end, Stream, stream_events, first_standing, layout, Piece, Standing, render_body, choice_of, scalar_lead, Place}
@@ -93,12 +93,11 @@ bounded n false h = record { low = omega arith; high = omega arith }
 
 -- so is the indent that settings come to
 pub is_indent : (indent : Option ℤ) → IsIndent (effective_indent indent)
-is_indent None = record { low = omega arith; high = omega arith }
-is_indent (Some (negsuc n)) = record { low = omega arith; high = omega arith }
 is_indent (Some (pos n)) =
     bounded n (nat_le 2 n && nat_le n 9) (λ e.
     let parts : (nat_le 2 n ≡ true) × (nat_le n 9 ≡ true) = and_parts _ _ e in
     record { low = leb-true 2 n parts.0; high = leb-true n 9 parts.1 })
+is_indent _ = record { low = omega arith; high = omega arith }
 
 -- A body that a value allows reads as the value.
 scalar_means : (s : Effective) → IsIndent s.indent → (place : Place) (style : ScalarStyle) (limit : Option ℕ) (content : Scalar) (cursor : Cursor)

@@ -34,13 +34,12 @@ AllowsByBreaks s flow value style = Allows (allowances (charset_by_breaks s) val
 
 -- a style that a value allows, it allows so too
 pub allows_still : (s : Effective) (flow : Bool) (value : Text) (style : ScalarStyle) → AllowsUnder s flow value style → AllowsByBreaks s flow value style
-allows_still s flow value any_style h = h
 allows_still s true value plain h = plain_still s.unicode s.breaks12 s.portable true value h
 allows_still s false value plain h = plain_still s.unicode s.breaks12 s.portable false value h
 allows_still s flow value single_quoted h = single_still s.unicode s.breaks12 s.portable value h
-allows_still s flow value double_quoted h = h
 allows_still s flow value literal h = literal_still s.unicode s.breaks12 s.portable value h.literal
 allows_still s flow value folded h = block_still s.unicode s.breaks12 s.portable value h
+allows_still s flow value _ h = h
 
 pub body_means : (s : Effective) (place : Place) (style : ScalarStyle) (limit : Option ℕ) (value : Text) (cursor : Cursor)
     → IsIndent s.indent → all_scalars value ≡ true → AllowsUnder s place.in_flow value style

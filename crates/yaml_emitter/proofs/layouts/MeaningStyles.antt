@@ -36,12 +36,11 @@ plain_allowed allowed flow false h = quoted_allowed allowed flow
 fitting_allowed : (allowed : Allowances) (flow plain_fits block_fits : Bool) (style : ScalarStyle)
     → (plain_fits ≡ true → Allows allowed flow plain) → (block_fits ≡ true → allowed.block_allowed ≡ true)
     → Allows allowed flow (fitting_style allowed plain_fits block_fits style)
-fitting_allowed allowed flow plain_fits block_fits any_style p b = tt
 fitting_allowed allowed flow plain_fits block_fits plain p b = plain_allowed allowed flow plain_fits p
 fitting_allowed allowed flow plain_fits block_fits single_quoted p b = quoted_allowed allowed flow
-fitting_allowed allowed flow plain_fits block_fits double_quoted p b = tt
 fitting_allowed allowed flow plain_fits block_fits literal p b = block_allowed allowed flow block_fits literal b
 fitting_allowed allowed flow plain_fits block_fits folded p b = block_allowed allowed flow block_fits folded b
+fitting_allowed allowed flow plain_fits block_fits _ p b = tt
 
 -- Plain is chosen only if the context allows it, the block styles only if the value does, and any never.
 pub chosen_allowed : (allowed : Allowances) (asked : ScalarStyle) (empty tag_written plain_implicit quoted_implicit flow simple canonical : Bool)
@@ -57,12 +56,8 @@ chosen_allowed allowed asked empty tag_written plain_implicit quoted_implicit fl
 -- A value allows without single quotes at most the styles that it allows with them.
 pub allowed_with_single : (double_quotes : Bool) (allowed : Allowances) (flow : Bool) (style : ScalarStyle)
     → Allows (allowed_by_quotes double_quotes allowed) flow style → Allows allowed flow style
-allowed_with_single double_quotes allowed flow any_style h = h
-allowed_with_single double_quotes allowed flow plain h = h
 allowed_with_single double_quotes allowed flow single_quoted h = (and_parts (not double_quotes) allowed.single_quoted_allowed h).1
-allowed_with_single double_quotes allowed flow double_quoted h = h
-allowed_with_single double_quotes allowed flow literal h = h
-allowed_with_single double_quotes allowed flow folded h = h
+allowed_with_single double_quotes allowed flow _ h = h
 
 -- The styles that a scalar's value allows under settings
 
@@ -79,20 +74,15 @@ AllowsUnder s flow value style = Allows (allowances (charset_of s) value) flow s
 -- the condition of block styles
 under_of : (s : Effective) (flow : Bool) (value : Text) (style : ScalarStyle) → Allows (allowances (charset_of s) value) flow style
     → AllowsUnder s flow value style
-under_of s flow value any_style h = h
-under_of s flow value plain h = h
-under_of s flow value single_quoted h = h
-under_of s flow value double_quoted h = h
 under_of s flow value literal h = record { literal = literal_of_block (charset_of s) value h; block = λ off. h }
-under_of s flow value folded h = h
+under_of s flow value _ h = h
 
 -- if literal is asked for, it is chosen only if it fits, or else double quotes are
 module _ (s : Effective) (flow : Bool) (value : Text) (allowed : Allowances) (plain_fits : Bool) where
   asks_literal : (must fits : Bool) → (fits ≡ true → AllowsLiteral s value)
       → AllowsUnder s flow value (fitting_style allowed plain_fits fits (requested_style must literal))
-  asks_literal true fits h = tt
   asks_literal false true h = h refl
-  asks_literal false false h = tt
+  asks_literal _ _ h = tt
 
   asks_double : (must fits : Bool) → AllowsUnder s flow value (fitting_style allowed plain_fits fits (requested_style must double_quoted))
   asks_double true fits = tt

@@ -3,7 +3,7 @@
 use Rattle.yaml_emitter.proofs.Common.{ℕ, if◌then◌else◌, ◌==◌, Option, None, Some, codes, Bool, false, not, true, ◌&&◌, ◌||◌, List, [], ◌++◌, ◌∷◌, refl, ◌≡◌}
 use Rattle.yaml_emitter.proofs.Common.{ap, ◌∙◌, arith, and_parts, and_from, nat_tests, list_all, list_any, IsHandle, handle_form, AreFound, spelling_is, Text}
 use Rattle.yaml_emitter.proofs.Common.{space, is_alpha, Cursor, Rendered, render_nothing, render_then, new_line, space_if, indicator, is_past_width}
-use Rattle.yaml_emitter.proofs.Common.{ScalarStyle, any_style, plain, single_quoted, double_quoted, literal, folded, Version, TagDirective, DocumentStart}
+use Rattle.yaml_emitter.proofs.Common.{ScalarStyle, plain, Version, TagDirective, DocumentStart}
 use Rattle.yaml_emitter.proofs.Common.{render_indicator, spaced, yaml_directive, render_if, render_closing_marker, render_version, render_tag_directive}
 use Rattle.yaml_emitter.proofs.Common.{render_tag_directives, has_directives, is_explicit, render_document_marker, render_document_start, Standing}
 use Rattle.yaml_emitter.proofs.Common.{render_anchor, render_handle, render_spelling, render_tag, render_properties, render_alias, render_separation}
@@ -184,11 +184,7 @@ module _ (test : ℕ → Bool) (spares : Spares test) where
   -- the space before a body
   pub lacks_separation : (style : ScalarStyle) (in_flow : Bool) (value : Text) (cursor : Cursor) → Lacks (render_separation style in_flow value cursor)
   lacks_separation plain in_flow value cursor = lacks_space _ cursor
-  lacks_separation any_style in_flow value cursor = lacks_space true cursor
-  lacks_separation single_quoted in_flow value cursor = lacks_space true cursor
-  lacks_separation double_quoted in_flow value cursor = lacks_space true cursor
-  lacks_separation literal in_flow value cursor = lacks_space true cursor
-  lacks_separation folded in_flow value cursor = lacks_space true cursor
+  lacks_separation _ in_flow value cursor = lacks_space true cursor
 
   -- Ends of collections
 

@@ -55,11 +55,9 @@ node_step_found s directives frames (alias name) empty standing found = found_af
 node_step_found s directives frames (scalar content) empty standing found = found_after directives frames _ found
 node_step_found s directives frames (sequence_start start) empty standing found = found
 node_step_found s directives frames (mapping_start start) empty standing found = found
-node_step_found s directives [] sequence_end empty standing found = tt
 node_step_found s directives (frame ∷ outer) sequence_end empty standing found = found_after directives outer frame.simple found
-node_step_found s directives [] mapping_end empty standing found = tt
 node_step_found s directives (frame ∷ outer) mapping_end empty standing found = found_after directives outer frame.simple found
-node_step_found s directives frames _ empty standing found = tt
+node_step_found s directives _ _ empty standing found = tt
 
 -- at any stage
 pub step_found : (s : Effective) (stage : Stage) (event : Event) (empty : Bool) (standing : Standing) → StageFound stage → NamesOk event
@@ -145,15 +143,13 @@ module _ (s : Effective) (test : ℕ → Bool) (spared : Spared s test) where
   lacks_node_step directives frames (scalar content) empty standing found ok = lacks_scalar directives (next_place frames) _ content standing found ok
   lacks_node_step directives frames (sequence_start start) empty standing found ok = lacks_start directives (next_place frames) _ start standing found ok
   lacks_node_step directives frames (mapping_start start) empty standing found ok = lacks_start directives (next_place frames) _ start standing found ok
-  lacks_node_step directives [] sequence_end empty standing found ok = refl
   lacks_node_step directives (frame ∷ outer) sequence_end empty standing found ok =
       lacks_closed square frame.place.in_flow (is_first frame.place.role) (next_place outer).column standing
       (lacks_end test spared.spares s square frame.place.in_flow (is_first frame.place.role) (next_place outer).column standing.cursor refl refl)
-  lacks_node_step directives [] mapping_end empty standing found ok = refl
   lacks_node_step directives (frame ∷ outer) mapping_end empty standing found ok =
       lacks_closed curly frame.place.in_flow (is_first frame.place.role) (next_place outer).column standing
       (lacks_end test spared.spares s curly frame.place.in_flow (is_first frame.place.role) (next_place outer).column standing.cursor refl refl)
-  lacks_node_step directives frames _ empty standing found ok = refl
+  lacks_node_step directives _ _ empty standing found ok = refl
 
   -- a document's end
   lacks_document_end : (implicit : Bool) (standing : Standing) → LacksPiece (document_end_piece implicit standing).piece

@@ -1,11 +1,10 @@
 -- Writing atoms gives the text that the definitions render.
-use Rattle.yaml_emitter.proofs.Common.{ℕ, if◌then◌else◌, is_some, option_map, Option, None, Some, Result, Bool, false, true, List, ◌++◌, refl, ◌≡◌}
+use Rattle.yaml_emitter.proofs.Common.{ℕ, if◌then◌else◌, is_some, option_map, Option, None, Some, Bool, false, true, List, ◌++◌, refl, ◌≡◌}
 use Rattle.yaml_emitter.proofs.Common.{append-nil, ap, sym, ◌∙◌, Text, Cursor, Rendered, render_nothing, render_then, TagDirective, render_anchor, render_tag}
-use Rattle.yaml_emitter.proofs.Common.{render_properties, Brackets, render_end, end_piece, Role, as_root, as_item, as_key, as_value, Place, line_column}
+use Rattle.yaml_emitter.proofs.Common.{render_properties, Role, as_root, as_item, as_key, as_value, Place, line_column}
 use Rattle.yaml_emitter.proofs.Common.{tag_count, render_flow_place, render_block_place, render_place, Effective, Spelling, spelling, seen_tag}
-use Rattle.yaml_emitter.proofs.Common.{render_spelled_tag, spelled_count, piece_at, wrote_as, Page, Wrote}
-use Rattle.yaml_base.specs.declared.errors.yaml_error_t.{yaml_error_t}
-use Rattle.yaml_emitter.{proofs.pieces.WritingPieces.wrote_lead, specs.declared.writing.spelling.SpelledTag.SpelledTag}
+use Rattle.yaml_emitter.proofs.Common.{render_spelled_tag, spelled_count}
+use Rattle.yaml_emitter.{specs.declared.writing.spelling.SpelledTag.SpelledTag}
 
 -- a place in flow
 pub flow_here : (s : Effective) (place : Place) (simple : Bool) (cursor : Cursor) → place.in_flow ≡ true
@@ -35,16 +34,14 @@ tag_count-spelled directives (Some tag) = refl
 -- a tag is written exactly if its spelling is
 pub written_is_some : (directives : List TagDirective) (text : Option Text) (tag : Option SpelledTag) → seen_tag tag ≡ option_map (spelling directives) text
     → is_some tag ≡ is_some text
-written_is_some directives None None is = refl
 written_is_some directives None (Some tag) is = cc
 written_is_some directives (Some text) None is = cc
-written_is_some directives (Some text) (Some tag) is = refl
+written_is_some directives _ _ is = refl
 
 tag-spelled : (portable : Bool) (directives : List TagDirective) (tag : Option Text) (bare : Bool) (cursor : Cursor)
     → render_spelled_tag portable (option_map (spelling directives) tag) bare cursor ≡ render_tag portable directives tag bare cursor
 tag-spelled portable directives (Some tag) bare cursor = refl
-tag-spelled portable directives None true cursor = refl
-tag-spelled portable directives None false cursor = refl
+tag-spelled portable directives _ _ cursor = refl
 
 -- the text before a node, with its tag as it is spelled
 pub lead-spelled : (s : Effective) (directives : List TagDirective) (place : Place) (simple : Bool) (anchor tag : Option Text) (spelled : Option Spelling)
@@ -66,22 +63,3 @@ rendered_alone render next cursor none =
     let here = render cursor in
     ap (λ (text : Text). let l : Rendered = record { text = text; cursor = here.cursor } in l) (sym (append-nil here.text))
     ∙ ap (λ (last : Rendered). let l : Rendered = record { text = here.text ++ last.text; cursor = last.cursor } in l) (sym (none here.cursor))
-
--- an end in flow, and one in a block
-pub end_in_flow : (s : Effective) (brackets : Brackets) (in_flow empty other : Bool) (column : Option ℕ) (open_ended : ℕ)
-    (render : Cursor → Rendered) {before after : Page} {answer : Result (Unit {0}) yaml_error_t}
-    → ((cursor : Cursor) → render cursor ≡ render_end s brackets true other column cursor) → other ≡ empty → in_flow ≡ true → Wrote render before after answer
-    → Wrote (piece_at (end_piece s brackets in_flow empty column) open_ended) before after answer
-end_in_flow s brackets in_flow empty other column open_ended render {before} same other_is flow wrote =
-    wrote_lead (render_end s brackets in_flow empty column) open_ended
-    (wrote_as (render_end s brackets in_flow empty column)
-    (same before.cursor ∙ ap (λ (b : Bool). render_end s brackets true b column before.cursor) other_is
-    ∙ ap (λ (b : Bool). render_end s brackets b empty column before.cursor) (sym flow)) wrote)
-
-pub end_in_block : (s : Effective) (brackets : Brackets) (in_flow empty : Bool) (column : Option ℕ)
-    (open_ended : ℕ) {before after : Page} {answer : Result (Unit {0}) yaml_error_t}
-    → in_flow ≡ false → Wrote render_nothing before after answer
-    → Wrote (piece_at (end_piece s brackets in_flow empty column) open_ended) before after answer
-end_in_block s brackets in_flow empty column open_ended {before} flow wrote =
-    wrote_lead (render_end s brackets in_flow empty column) open_ended
-    (wrote_as (render_end s brackets in_flow empty column) (ap (λ (b : Bool). render_end s brackets b empty column before.cursor) (sym flow)) wrote)

@@ -1,10 +1,9 @@
 -- Adding both defaults in turn gives the directives in force.
-use Rattle.yaml_emitter.proofs.Common.{ℕ, if◌then◌else◌, OnOk, Some, None, Result, Err, Ok, codes, length, Bool, false, not, true, List, [], ◌++◌, ◌∷◌, refl}
-use Rattle.yaml_emitter.proofs.Common.{◌≡◌, Text, append-nil, append_assoc, ap, sym, ◌∙◌, list_any, TagDirective, gives_handle, default_directives}
+use Rattle.yaml_emitter.proofs.Common.{ℕ, if◌then◌else◌, OnOk, Some, Result, Err, Ok, codes, length, Bool, false, not, true, List, [], ◌++◌, ◌∷◌, refl}
+use Rattle.yaml_emitter.proofs.Common.{◌≡◌, append-nil, append_assoc, ap, sym, ◌∙◌, list_any, TagDirective, gives_handle, default_directives}
 use Rattle.yaml_emitter.proofs.Common.{directives_in_force}
 use Rattle.std.{proofs.Common.bytes_eq, proofs.Math.Bool.or-false, proofs.lemmas.List.Folds.list_any-append, specs.Prelude.slice_get, specs.Str.chars}
-use Rattle.std.specs.Result.{IfErr, is_ok}
-use Rattle.yaml_base.specs.{Errors.refused, declared.errors.yaml_error_t.yaml_error_t, declared.errors.yaml_error_t.TheVariants.Memory}
+use Rattle.yaml_base.specs.{declared.errors.yaml_error_t.yaml_error_t}
 use Rattle.yaml_emitter.specs.InForce.{with_default}
 
 abbrev pub own_default : TagDirective
@@ -26,9 +25,7 @@ added own default = by (gives_handle default.handle own)
 chosen_two : (own_given yaml_given : Bool) → one_if_not own_given own_default ++ one_if_not yaml_given yaml_default
     ≡ (if not own_given then own_default ∷ (if not yaml_given then yaml_default ∷ [] else []) else (if not yaml_given then yaml_default ∷ [] else []))
 chosen_two true true = refl
-chosen_two true false = refl
-chosen_two false true = refl
-chosen_two false false = refl
+chosen_two _ _ = refl
 
 -- the first default has another handle than the second
 still_given : (own : List TagDirective) (given : Bool)
@@ -58,30 +55,6 @@ own_default_read = refl
 yaml_default_read : of_bytes (codes "!!") (codes "tag:yaml.org,2002:") ≡ yaml_default
 unfolding chars
 yaml_default_read = refl
-
-by_answer : {P : Type 0} (given : Bool) → (given ≡ true → P) → (given ≡ false → P) → P
-by_answer true here there = here refl
-by_answer false here there = there refl
-
-chosen_by : {A : Type 0} (given : Bool) (last kept more : A) → (given ≡ true → last ≡ kept) → (given ≡ false → last ≡ more)
-    → last ≡ (if given then kept else more)
-chosen_by true last kept more here there = here refl
-chosen_by false last kept more here there = there refl
-
--- adding a default that may be there already
-pub default_added : (own last : List TagDirective) (given default : TagDirective) (answer : Result (Unit {0}) yaml_error_t)
-    → (gives_handle given.handle own ≡ true → (refused answer ≡ None) × (last ≡ own))
-    → (gives_handle given.handle own ≡ false → last ≡ (if is_ok answer then own ++ given ∷ [] else own))
-    → given ≡ default → OnOk answer (last ≡ with_default own default)
-default_added own last given default (Ok _) there more is =
-    chosen_by (gives_handle given.handle own) last own (own ++ given ∷ []) (λ has. (there has).1) more ∙ ap (with_default own) is
-default_added own last given default (Err _) there more is = tt
-
-pub default_memory : (own last : List TagDirective) (handle : Text) (answer : Result (Unit {0}) yaml_error_t)
-    → (gives_handle handle own ≡ true → (refused answer ≡ None) × (last ≡ own))
-    → (gives_handle handle own ≡ false → IfErr answer (λ e. e ≡ Memory)) → IfErr answer (λ e. e ≡ Memory)
-default_memory own last handle (Ok _) there more = tt
-default_memory own last handle (Err error) there more = by_answer (gives_handle handle own) (λ has. let wrong : Some error ≡ None = (there has).0 in cc) more
 
 pub defaults_added : (own middle last : List TagDirective) (answer : Result (Unit {0}) yaml_error_t)
     → middle ≡ with_default own (of_bytes (codes "!") (codes "!"))

@@ -1,6 +1,6 @@
 -- The styles that a value allows, with or without single quotes, and with or without literal blanks.
 use Rattle.yaml_emitter.proofs.Common.{if◌then◌else◌, Bool, false, not, ◌&&◌, ◌||◌, ◌≡◌, subst, sym, ap, ◌∙◌, Scalar, allowed_by_quotes, allowed_by_blanks}
-use Rattle.yaml_emitter.proofs.Common.{allowed_under, allowances, Allowances, Charset, charset_of, Effective, chosen}
+use Rattle.yaml_emitter.proofs.Common.{allowed_under, allowances, Allowances, Charset, charset_of, Effective}
 use Rattle.yaml_base.proofs.Common.{allows_literal, is_literal, or_parts}
 use Rattle.yaml_scalar.specs.ScalarData.{ChooseAlike}
 
@@ -16,11 +16,6 @@ alike_under s found content keeps alike =
     subst (λ (double : Bool). ChooseAlike found (allowed_by_quotes double
     (allowed_by_blanks (is_literal content.style && s.literal_blanks) (charset_of s) content.value))) (sym off.0)
     (subst (λ (blanks : Bool). ChooseAlike found (allowed_by_quotes false (allowed_by_blanks blanks (charset_of s) content.value))) (sym off.1) alike)
-
--- equal allowances lead to the same choices
-pub alike_same : (found other : Allowances) → found ≡ other → ChooseAlike found other
-alike_same found other same asked empty tag_written plain_implicit quoted_implicit flow simple_key canonical =
-    ap (λ (a : Allowances). chosen a asked empty tag_written plain_implicit quoted_implicit flow simple_key canonical) same
 
 -- the allowances that were found, with other single quotes and block styles
 abbrev pub found_with : (single_quoted block : Bool) → Allowances → Allowances

@@ -1,7 +1,7 @@
 -- A scalar that is plain as it is: plain is chosen for it, and only its place precedes it.
 use Rattle.yaml_emitter.proofs.Common.{ℕ, ◌+◌, if◌then◌else◌, is_some, option_map, Option, None, Some, Result, Bool, false, not, true, ◌&&◌, ◌||◌, List, [], ap}
 use Rattle.yaml_emitter.proofs.Common.{◌∷◌, refl, ◌≡◌, subst, sym, ◌∙◌, and_parts, false≢true, Text, Cursor, Rendered, render_then, ScalarStyle, any_style}
-use Rattle.yaml_emitter.proofs.Common.{plain, single_quoted, double_quoted, literal, folded, TagDirective, scalar_tag, render_anchor, charset_of, choice_of}
+use Rattle.yaml_emitter.proofs.Common.{plain, double_quoted, literal, folded, TagDirective, scalar_tag, render_anchor, charset_of, choice_of}
 use Rattle.yaml_emitter.proofs.Common.{allowed_by_quotes, allowed_by_blanks, allowed_under, scalar_piece, Place, deeper, byte_count, name_count, tag_count}
 use Rattle.yaml_emitter.proofs.Common.{is_short, is_simple_scalar, render_place, seen_scalar_style, Effective, Spelling, spelling, Charset, Allowances}
 use Rattle.yaml_emitter.proofs.Common.{ChosenStyle}
@@ -77,12 +77,9 @@ chosen_plain double_quotes asked quoted_implicit flow simple h =
 -- no block style is asked for, so its header is no matter
 never_block : (style : ScalarStyle) (root portable blank : Bool) → requested_style false style ≡ plain
     → (if is_block style && root && portable && blank then double_quoted else style) ≡ style
-never_block any_style root portable blank h = refl
-never_block plain root portable blank h = refl
-never_block single_quoted root portable blank h = refl
-never_block double_quoted root portable blank h = refl
 never_block literal root portable blank h = absurd (false≢true (ap is_plain h))
 never_block folded root portable blank h = absurd (false≢true (ap is_plain h))
+never_block _ root portable blank h = refl
 
 -- nor literal
 never_literal : (s : Effective) (content : Scalar) → requested_style false content.style ≡ plain
@@ -90,12 +87,8 @@ never_literal : (s : Effective) (content : Scalar) → requested_style false con
 never_literal s content h = ap (λ (x : Bool). x && s.literal_blanks) (unliteral content.style h)
   where
     unliteral : (style : ScalarStyle) → requested_style false style ≡ plain → is_literal style ≡ false
-    unliteral any_style h = refl
-    unliteral plain h = refl
-    unliteral single_quoted h = refl
-    unliteral double_quoted h = refl
     unliteral literal h = absurd (false≢true (ap is_plain h))
-    unliteral folded h = refl
+    unliteral _ h = refl
 
 filled : (text : Text) (charset : Charset) → allows_plain charset true text ≡ true → is_empty text ≡ false
 filled [] charset h = cc

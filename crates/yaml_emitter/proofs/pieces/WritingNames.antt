@@ -4,7 +4,7 @@ use Rattle.yaml_emitter.proofs.Common.{◌++◌, ◌∷◌, refl, ◌≡◌, eqb
 use Rattle.yaml_emitter.proofs.Common.{is_alpha, is_break, TagDirective, name_fault, anchor_fault, alias_fault, exclamation_mark, last_from, without_last}
 use Rattle.yaml_emitter.proofs.Common.{handle_fault, prefix_fault, directive_fault, gives_handle, next_directive_fault, directives_fault_after}
 use Rattle.yaml_emitter.proofs.Common.{directives_fault, default_directives, directives_in_force, name_breaks, some_handle_breaks}
-use Rattle.yaml_base.{proofs.TagForms.prefix_and_last, specs.declared.errors.yaml_error_t.yaml_error_t}
+use Rattle.yaml_base.{proofs.Common.not-false, proofs.TagForms.prefix_and_last, specs.declared.errors.yaml_error_t.yaml_error_t}
 use Rattle.yaml_base.specs.declared.errors.yaml_error_t.TheVariants.{AliasAlphabet, AliasEmpty, AnchorAlphabet, AnchorEmpty, TagHandleAlphabet, TagHandleEnd}
 use Rattle.yaml_base.specs.declared.errors.yaml_error_t.TheVariants.{TagHandleStart}
 
@@ -45,14 +45,8 @@ any-append p (x ∷ xs) ys here there =
 
 three_tests : (m n k : yaml_error_t) (a b t : Bool) → (if a then Some m else (if b then Some n else (if t then None else Some k))) ≡ None
     → (a ≡ false) × (b ≡ false) × (t ≡ true)
-three_tests m n k true b t none = cc
-three_tests m n k false true t none = cc
 three_tests m n k false false true none = (refl, refl, refl)
-three_tests m n k false false false none = cc
-
-is_true : (b : Bool) → not b ≡ false → b ≡ true
-is_true true is = refl
-is_true false is = cc
+three_tests m n k _ _ _ none = cc
 
 exclamation_is_no_break : (c : ℕ) → (c == exclamation_mark) ≡ true → is_break c ≡ false
 exclamation_is_no_break c is = ap is_break (eqb-true c exclamation_mark is)
@@ -62,13 +56,13 @@ pub sound_handle : (handle : Text) → handle_fault handle ≡ None → list_any
 sound_handle [] none = refl
 sound_handle (c ∷ []) none =
     let tests = three_tests TagHandleStart TagHandleEnd TagHandleAlphabet (not (c == exclamation_mark)) (not (c == exclamation_mark)) true none in
-    either_false (is_break c) false (exclamation_is_no_break c (is_true (c == exclamation_mark) tests.0)) refl
+    either_false (is_break c) false (exclamation_is_no_break c (not-false (c == exclamation_mark) tests.0)) refl
 sound_handle (c ∷ d ∷ rest) none =
     let last = last_from c (d ∷ rest) in
     let tests = three_tests TagHandleStart TagHandleEnd TagHandleAlphabet (not (c == exclamation_mark)) (not (last == exclamation_mark))
     (list_all is_alpha (without_last (d ∷ rest))) none in
-    let ends = either_false (is_break last) false (exclamation_is_no_break last (is_true (last == exclamation_mark) tests.1)) refl in
-    either_false (is_break c) (list_any is_break (d ∷ rest)) (exclamation_is_no_break c (is_true (c == exclamation_mark) tests.0))
+    let ends = either_false (is_break last) false (exclamation_is_no_break last (not-false (last == exclamation_mark) tests.1)) refl in
+    either_false (is_break c) (list_any is_break (d ∷ rest)) (exclamation_is_no_break c (not-false (c == exclamation_mark) tests.0))
     (ap (list_any is_break) (prefix_and_last c d rest)
     ∙ any-append is_break (without_last (d ∷ rest)) (last ∷ []) (letters_no_break (without_last (d ∷ rest)) tests.2) ends)
 

@@ -1,20 +1,20 @@
 -- Scalars: the writers of the styles write the text that the layout has there, and with the text before it the scalar's piece.
-use Rattle.yaml_emitter.proofs.Common.{ℕ, if◌then◌else◌, ◌==◌, option_map, Option, None, Result, Err, Ok, negsuc, pos, ℤ, length, Bool, false, not, true, ◌&&◌}
+use Rattle.yaml_emitter.proofs.Common.{ℕ, if◌then◌else◌, ◌==◌, option_map, Option, None, Result, negsuc, pos, ℤ, length, Bool, false, not, true, ◌&&◌}
 use Rattle.yaml_emitter.proofs.Common.{List, refl, ◌≡◌, append_assoc, inl, inr, ap, subst, sym, ◌∙◌, arith, and_parts, ints, chars, Text, Cursor, Rendered}
-use Rattle.yaml_emitter.proofs.Common.{render_then, ScalarStyle, any_style, plain, single_quoted, double_quoted, literal, folded, TagDirective, Scalar, Place}
+use Rattle.yaml_emitter.proofs.Common.{render_then, ScalarStyle, plain, single_quoted, double_quoted, literal, folded, TagDirective, Scalar, Place}
 use Rattle.yaml_emitter.proofs.Common.{scalar_tag, render_anchor, render_properties, render_separation, render_body, allowed_under, charset_of, choice_of, Page}
 use Rattle.yaml_emitter.proofs.Common.{scalar_piece, deeper, render_place, Effective, Spelling, spelling, Charset, Allowances, is_empty, ChosenStyle}
 use Rattle.yaml_emitter.proofs.Common.{quoted_style}
 use Rattle.yaml_emitter.proofs.Common.{fitting_style, seen_effective, render_scalar_text, style_fits, render_spelled_tag, piece_at, wrote_as, Wrote}
 use Rattle.yaml_base.proofs.Charsets.{literal_allowed}
-use Rattle.yaml_base.proofs.Common.{allows_literal, false≢true, [], ◌∷◌}
+use Rattle.yaml_base.proofs.Common.{allows_literal, not-true, false≢true, [], ◌∷◌}
 use Rattle.yaml_scalar.proofs.Common.{limit_of, limit_where}
-use Rattle.std.{proofs.Common.◌≤ℤ◌, proofs.lemmas.Bool.cases_Bool, specs.Result.IfOk, specs.Result.MatchResult, specs.Str.IsUtf8}
+use Rattle.std.{proofs.Common.◌≤ℤ◌, proofs.lemmas.Bool.cases_Bool, specs.Str.IsUtf8}
 use Rattle.yaml_base.specs.{declared.errors.yaml_error_t.yaml_error_t, scalars.SingleQuoted.render_single_quoted}
-use Rattle.yaml_base.specs.scalars.{DoubleQuoted.render_double_quoted, Folded.render_folded, Literal.render_literal, Plain.render_plain}
+use Rattle.yaml_base.specs.scalars.{Folded.render_folded, Literal.render_literal, Plain.render_plain}
 use Rattle.yaml_base.specs.{Layout.open_ended_after, Seen.seen_scalar_style, declared.styles.yaml_scalar_style_t.yaml_scalar_style_t}
-use Rattle.yaml_base.specs.declared.styles.yaml_scalar_style_t.TheVariants.{YAML_ANY_SCALAR_STYLE, YAML_PLAIN_SCALAR_STYLE}
-use Rattle.yaml_base.specs.declared.styles.yaml_scalar_style_t.TheVariants.{YAML_SINGLE_QUOTED_SCALAR_STYLE, YAML_DOUBLE_QUOTED_SCALAR_STYLE}
+use Rattle.yaml_base.specs.declared.styles.yaml_scalar_style_t.TheVariants.{YAML_PLAIN_SCALAR_STYLE}
+use Rattle.yaml_base.specs.declared.styles.yaml_scalar_style_t.TheVariants.{YAML_SINGLE_QUOTED_SCALAR_STYLE}
 use Rattle.yaml_base.specs.declared.styles.yaml_scalar_style_t.TheVariants.{YAML_LITERAL_SCALAR_STYLE, YAML_FOLDED_SCALAR_STYLE}
 use Rattle.yaml_emitter.proofs.pieces.AtomsWritten.{lead-spelled}
 use Rattle.yaml_emitter.specs.{Given.seen_width, declared.effective.EffectiveSettings.EffectiveSettings}
@@ -30,39 +30,16 @@ line_limit : (simple : Bool) (width : ℤ) → pos 0 ≤ℤ width → limit_wher
 line_limit true width low = refl
 line_limit false width low = width_limit width low
 
--- a block style is for a value that isn't empty, and not for a simple key
-not_true : (b : Bool) → not b ≡ true → b ≡ false
-not_true true is = cc
-not_true false is = refl
-
-pub block_some : (value : Text) (simple : Bool) → style_fits literal value simple ≡ true → is_empty value ≡ false
-block_some value simple fits = not_true (is_empty value) (and_parts (not (is_empty value)) (not simple) fits).0
-
+-- a block style isn't for a simple key
 block_long : (value : Text) (simple : Bool) → style_fits folded value simple ≡ true → simple ≡ false
-block_long value simple fits = not_true simple (and_parts (not (is_empty value)) (not simple) fits).1
-
--- the styles that aren't the others are written in double quotes
-as_double : (style : yaml_scalar_style_t) → (style ≡ YAML_PLAIN_SCALAR_STYLE → ⊥) → (style ≡ YAML_SINGLE_QUOTED_SCALAR_STYLE → ⊥)
-    → (style ≡ YAML_LITERAL_SCALAR_STYLE → ⊥) → (style ≡ YAML_FOLDED_SCALAR_STYLE → ⊥)
-    → (s : Effective) (in_flow simple : Bool) (column : ℕ) (value : Text) (cursor : Cursor)
-    → render_scalar_text double_quoted s in_flow simple column value cursor
-    ≡ render_scalar_text (seen_scalar_style style) s in_flow simple column value cursor
-as_double YAML_ANY_SCALAR_STYLE p q l f s in_flow simple column value cursor = refl
-as_double YAML_PLAIN_SCALAR_STYLE p q l f s in_flow simple column value cursor = absurd (p refl)
-as_double YAML_SINGLE_QUOTED_SCALAR_STYLE p q l f s in_flow simple column value cursor = absurd (q refl)
-as_double YAML_DOUBLE_QUOTED_SCALAR_STYLE p q l f s in_flow simple column value cursor = refl
-as_double YAML_LITERAL_SCALAR_STYLE p q l f s in_flow simple column value cursor = absurd (l refl)
-as_double YAML_FOLDED_SCALAR_STYLE p q l f s in_flow simple column value cursor = absurd (f refl)
+block_long value simple fits = not-true simple (and_parts (not (is_empty value)) (not simple) fits).1
 
 -- all but block scalars leave the open-ended state
 pub open_ended_kept : (style : yaml_scalar_style_t) → (style ≡ YAML_LITERAL_SCALAR_STYLE → ⊥) → (style ≡ YAML_FOLDED_SCALAR_STYLE → ⊥)
     → (value : Text) (open_ended : ℕ) → open_ended ≡ open_ended_after (seen_scalar_style style) value open_ended
-open_ended_kept YAML_ANY_SCALAR_STYLE l f value open_ended = refl
-open_ended_kept YAML_PLAIN_SCALAR_STYLE l f value open_ended = refl
-open_ended_kept YAML_SINGLE_QUOTED_SCALAR_STYLE l f value open_ended = refl
-open_ended_kept YAML_DOUBLE_QUOTED_SCALAR_STYLE l f value open_ended = refl
 open_ended_kept YAML_LITERAL_SCALAR_STYLE l f value open_ended = absurd (l refl)
 open_ended_kept YAML_FOLDED_SCALAR_STYLE l f value open_ended = absurd (f refl)
+open_ended_kept _ l f value open_ended = refl
 
 module _ (settings : EffectiveSettings) (in_flow simple : Bool) (value : Text) {indent width : ℤ} {column : ℕ} (is : indent ≡ pos column)
     (width_is : width ≡ settings.width) (low : pos 0 ≤ℤ settings.width) where
@@ -98,18 +75,6 @@ module _ (settings : EffectiveSettings) (in_flow simple : Bool) (value : Text) {
       (ap (λ (l : Option ℕ). render_single_quoted l (natural indent) value before.cursor) limit_is
       ∙ ap (λ (i : ℤ). render_single_quoted (if simple then None else seen_width settings.width) (natural i) value before.cursor) is)
       wrote)
-
-  pub wrote_double : (style : yaml_scalar_style_t) → (style ≡ YAML_PLAIN_SCALAR_STYLE → ⊥) → (style ≡ YAML_SINGLE_QUOTED_SCALAR_STYLE → ⊥)
-      → (style ≡ YAML_LITERAL_SCALAR_STYLE → ⊥) → (style ≡ YAML_FOLDED_SCALAR_STYLE → ⊥)
-      → {before after : Page} {answer : Result (Unit {0}) yaml_error_t}
-      → Wrote (render_double_quoted settings.unicode (limit_where (not simple) width) (natural indent) value) before after answer
-      → Wrote (render_scalar_text (seen_scalar_style style) (seen_effective settings) in_flow simple column value) before after answer
-  wrote_double style p q l f {before} wrote =
-      wrote_as (text (seen_scalar_style style))
-      (ap (λ (l : Option ℕ). render_double_quoted settings.unicode l (natural indent) value before.cursor) limit_is
-      ∙ ap (λ (i : ℤ). render_double_quoted settings.unicode (if simple then None else seen_width settings.width) (natural i) value before.cursor) is
-      ∙ as_double style p q l f (seen_effective settings) in_flow simple column value before.cursor)
-      wrote
 
   pub wrote_literal : {best : ℤ} {style : yaml_scalar_style_t} → best ≡ pos settings.indent → style ≡ YAML_LITERAL_SCALAR_STYLE
       → {before after : Page} {answer : Result (Unit {0}) yaml_error_t}
@@ -153,13 +118,11 @@ block_or_double style false value simple is holds = refl
 fitting_fits : (allowed : Allowances) (plain_fits block_fits : Bool) (asked : ScalarStyle) (value : Text) (simple : Bool)
     → (block_fits ≡ true → (not (is_empty value) && not simple) ≡ true)
     → style_fits (fitting_style allowed plain_fits block_fits asked) value simple ≡ true
-fitting_fits allowed true block_fits plain value simple holds = refl
 fitting_fits allowed false block_fits plain value simple holds = quoted_fits allowed value simple
 fitting_fits allowed plain_fits block_fits single_quoted value simple holds = quoted_fits allowed value simple
 fitting_fits allowed plain_fits block_fits literal value simple holds = block_or_double literal block_fits value simple refl holds
 fitting_fits allowed plain_fits block_fits folded value simple holds = block_or_double folded block_fits value simple refl holds
-fitting_fits allowed plain_fits block_fits any_style value simple holds = refl
-fitting_fits allowed plain_fits block_fits double_quoted value simple holds = refl
+fitting_fits allowed _ block_fits _ value simple holds = refl
 
 both : (a b c : Bool) (d : Bool) → (a && b && c) ≡ true → (a ≡ true → d ≡ true) → (d && c) ≡ true
 both a b c d is holds =
@@ -211,11 +174,6 @@ module _ (s : Effective) (directives : List TagDirective) (place : Place) (simpl
       wrote_as (piece_at (scalar_piece s directives place simple content) open_ended)
       (ap (λ (c : ChosenStyle). render_scalar c tag before.cursor) is ∙ whole_rendered open_ended tag before.cursor tag_is)
       wrote
-
--- a fact about an answer by its kind, if the answer is Ok
-pub if_ok_from : {T E : Type 0} (P P' : T → Type 0) (Q : E → Type 0) (r : Result T E) → ((x : T) → P x → P' x) → MatchResult r P Q → IfOk r P'
-if_ok_from P P' Q (Ok x) holds h = holds x h
-if_ok_from P P' Q (Err e) holds h = tt
 
 -- a text without bytes is one without characters
 pub empty_value : (bytes : List ℕ) → IsUtf8 bytes → (length bytes == 0) ≡ is_empty (chars bytes)

@@ -38,10 +38,8 @@ spelled_handle directives (Some tag) spelled is none = ap spelling_breaks is ∙
 
 -- without a value nothing is added
 pub short_collection : {empty : Bool} (name tag : ℕ) → empty ≡ true → is_short (0 + name + tag) ≡ (empty && is_short (name + tag))
-short_collection {empty} name tag is =
-    ap (λ n. is_short (n + tag)) (zero-add name) ∙ ap (λ e. e && is_short (name + tag)) (sym is)
+short_collection {empty} name tag is = ap (λ n. is_short (n + tag)) (zero-add name) ∙ ap (λ e. e && is_short (name + tag)) (sym is)
 
 -- a key outside canonical mode is simple exactly if its node is
 pub simple_where : (key canonical : Bool) {simple : Bool} → key ≡ true → canonical ≡ false → simple ≡ (key && (not canonical && simple))
-simple_where key canonical {simple} is_key plain =
-    sym (ap (λ k. k && (not canonical && simple)) is_key ∙ ap (λ c. not c && simple) plain)
+simple_where key canonical {simple} is_key plain = sym (ap (λ k. k && (not canonical && simple)) is_key ∙ ap (λ c. not c && simple) plain)

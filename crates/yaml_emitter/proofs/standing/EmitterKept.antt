@@ -1,6 +1,6 @@
 -- The invariants of an emitter.
 use Rattle.yaml_emitter.proofs.Common.{ℕ, ◌<◌, ◌≤◌, vec_len, vec_capacity, length, false, true, List, [], map, ◌++◌, ◌∷◌, refl, ◌≡◌, ap, sym, ◌∙◌, arith, Event}
-use Rattle.yaml_emitter.proofs.Common.{length-map, map-append, scalar, seen_event, seen_events, Settings, state_of, IsEngine, is_head_ready, State}
+use Rattle.yaml_emitter.proofs.Common.{length-map, map-append, scalar, seen_event, seen_events, state_of, IsEngine, is_head_ready, State}
 use Rattle.yaml_emitter.proofs.Common.{MachineState, None, Bool, false≢true, is_ready, ◌==◌, ◌&&◌, ◌||◌, nat_lt, list_any, is_balanced, and_parts}
 use Rattle.yaml_emitter.proofs.Common.{eqb-true, nonempty_prefixes, awaited, document_start, sequence_start, mapping_start}
 use Rattle.yaml_base.proofs.ReadyLaws.{ready_stays}
@@ -37,8 +37,7 @@ some_last StreamEnd = (stream_end, refl)
 some_last DocumentStart = (document_start (record { version = None; directives = []; implicit = true }), refl)
 some_last DocumentEnd = (document_end true, refl)
 some_last Alias = (alias [], refl)
-some_last Scalar =
-    (scalar (record { anchor = None; tag = None; value = []; plain_implicit = true; quoted_implicit = true; style = any_style }), refl)
+some_last Scalar = (scalar (record { anchor = None; tag = None; value = []; plain_implicit = true; quoted_implicit = true; style = any_style }), refl)
 some_last SequenceStart = (sequence_start no_collection, refl)
 some_last SequenceEnd = (sequence_end, refl)
 some_last MappingStart = (mapping_start no_collection, refl)
@@ -78,8 +77,7 @@ no_pass seen first rest awaits both =
 -- If it may, it awaits none, and none waits.
 pub passes : {E : Type 0} (seen : E → Event) (queue : List E) (event : Event) → (length queue == 0 && awaited event == 0) ≡ true
     → (map seen queue ≡ []) × (is_head_ready (event ∷ []) ≡ true)
-passes seen [] event both =
-    (refl, ap (λ b. b || nat_lt (awaited event) 1 || list_any is_balanced (nonempty_prefixes (event ∷ []))) both)
+passes seen [] event both = (refl, ap (λ b. b || nat_lt (awaited event) 1 || list_any is_balanced (nonempty_prefixes (event ∷ []))) both)
 passes seen (first ∷ rest) event both = absurd (no_pass seen first rest (awaited event == 0) both)
 
 pub within_count : {E : Type 0} (seen : E → Event) (xs : List E) (count len : ℕ) → count ≤ length (map seen xs) → length xs ≡ len → count ≤ len
@@ -101,5 +99,4 @@ kept_emitting e after output same room waits =
     }
 
 pub kept_limited : {A : Type 0} (e : Inside A) (after : MachineState) → IsEngine e → IsEngine (record e { has_output = true; machine = after })
-kept_limited e after kept =
-    record { untouched = λ none. cc; begun = λ begun. refl; opened = λ opened. refl; room = kept.room; waits = kept.waits }
+kept_limited e after kept = record { untouched = λ none. cc; begun = λ begun. refl; opened = λ opened. refl; room = kept.room; waits = kept.waits }

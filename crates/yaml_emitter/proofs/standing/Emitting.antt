@@ -1,9 +1,9 @@
 -- The events that wait are written one after another.
-use Rattle.yaml_emitter.proofs.Common.{suc, ℕ, ◌+◌, ◌-◌, ◌≤◌, if◌then◌else◌, None, Result, Err, Ok, drop, length, take, Bool, false, true, List, [], map, ◌++◌}
-use Rattle.yaml_emitter.proofs.Common.{◌∷◌, refl, ◌≡◌, drop-drop, ap, subst, sym, ◌∙◌, arith, drop-map, length-map, written-append, Event, sequence_start}
-use Rattle.yaml_emitter.proofs.Common.{mapping_start, is_ready, written, held_back, Settings, closes_at_once, Processed, is_head_ready, StandsWithoutError}
+use Rattle.yaml_emitter.proofs.Common.{suc, ℕ, ◌+◌, ◌-◌, if◌then◌else◌, None, Result, Err, Ok, drop, length, take, Bool, false, true, List, [], map, ◌++◌}
+use Rattle.yaml_emitter.proofs.Common.{◌∷◌, refl, ◌≡◌, drop-drop, ap, subst, sym, ◌∙◌, arith, drop-map, written-append, Event, sequence_start}
+use Rattle.yaml_emitter.proofs.Common.{is_ready, written, held_back, Settings, closes_at_once, Processed, is_head_ready, StandsWithoutError}
 use Rattle.yaml_emitter.proofs.Common.{MachineStands, StateStands, HasReached, ReachedOn, ProcessedFirst, State, MachineState, machine_of}
-use Rattle.std.proofs.lemmas.List.{length-drop, take_rest}
+use Rattle.std.proofs.lemmas.List.{take_rest}
 use Rattle.yaml_base.specs.declared.errors.{yaml_error_t.yaml_error_t, yaml_error_t.TheVariants.Memory, yaml_error_t.TheVariants.WriteError}
 use Rattle.yaml_emitter.proofs.standing.{Standing.reached_first, StandingFailed.reached_failed, StandingPromises.stands_well, StandingSteps.reached_next}
 use Rattle.yaml_emitter.proofs.standing.{StandingSteps.reached_end}
@@ -76,8 +76,7 @@ none_became_ready given all event before h none same =
 -- Nothing follows a single event.
 pub closes_none : (event : Event) → closes_at_once event [] ≡ false
 closes_none (sequence_start _) = refl
-closes_none (mapping_start _) = refl
-closes_none event = refl
+closes_none _ = refl
 
 -- Processing an event while none waits takes the first of a queue that holds it alone.
 pub took_alone : (event : Event) (before after : MachineState) (answer : Result (Unit {0}) yaml_error_t)

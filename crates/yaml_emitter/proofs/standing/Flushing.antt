@@ -12,9 +12,8 @@ flushed_none given all output (suc n) within hands = absurd (omega (arith, withi
 -- Nor by the stream's start.
 pub flushed_first : (given : Settings) (encoding : Option Encoding) (rest : List Event) (output : List ℕ)
     → StaysFlushed given (stream_start encoding ∷ rest) 1 output
-flushed_first given encoding rest output zero within hands = cc
-flushed_first given encoding rest output (suc zero) within hands = cc
 flushed_first given encoding rest output (suc (suc n)) within hands = absurd (omega (arith, within))
+flushed_first given encoding rest output _ within hands = cc
 
 -- As the output grows.
 pub flushed_output : (given : Settings) (all : List Event) (count : ℕ) (before after : List ℕ) → StaysFlushed given all count before
@@ -38,9 +37,8 @@ flushed_grown given all more count output within settings h n less hands =
 
 -- As one event more is written.
 pub last_flushes-append : (prefix : List Event) (event : Event) → last_flushes (prefix ++ event ∷ []) ≡ flushes event
-last_flushes-append [] event = refl
-last_flushes-append (x ∷ []) event = refl
 last_flushes-append (x ∷ y ∷ more) event = last_flushes-append (y ∷ more) event
+last_flushes-append _ event = refl
 
 last_or_before : (n m : ℕ) → n ≤ suc m → (n ≤ m) ⊎ (n ≡ suc m)
 last_or_before zero m h = inl (omega arith)
@@ -54,8 +52,7 @@ pub flushed_more : (given : Settings) (all prefix : List Event) (event : Event) 
     → (flushes event ≡ true
     → bytes_written (settings_for given all) (pieces (settings_for given all) all (length (prefix ++ event ∷ []))) ≡ after)
     → StaysFlushed given all (length (prefix ++ event ∷ [])) after
-flushed_more given all prefix event rest before after parts h grows now n within hands =
-    by (last_or_before n (length prefix) (omega (arith, within, count)))
+flushed_more given all prefix event rest before after parts h grows now n within hands = by (last_or_before n (length prefix) (omega (arith, within, count)))
   where
     longer : List Event
     longer = prefix ++ event ∷ []

@@ -1,6 +1,6 @@
 -- Nothing that was written is lost by an event.
-use Rattle.yaml_emitter.proofs.Common.{IsSome, Option, None, Some, Result, Err, Ok, Bool, List, refl, ◌≡◌, ap, subst, sym, prefix_same, Event, stream_start}
-use Rattle.yaml_emitter.proofs.Common.{WritesPage, CutPage, unwritten, partly_written, Processed, ProcessedFirst, MachineState, Page, Grows, Flushed}
+use Rattle.yaml_emitter.proofs.Common.{IsSome, Option, None, Some, Result, Err, Ok, Bool, refl, ◌≡◌, ap, subst, sym, prefix_same, Event, stream_start}
+use Rattle.yaml_emitter.proofs.Common.{WritesPage, CutPage, unwritten, partly_written, Processed, MachineState, Page, Grows, Flushed}
 use Rattle.yaml_base.specs.declared.errors.{yaml_error_t.yaml_error_t, yaml_error_t.TheVariants.Memory, yaml_error_t.TheVariants.WriteError}
 use Rattle.yaml_pen.proofs.Composing.{wrote_grows}
 

@@ -1,14 +1,13 @@
 -- Calls that write keep all that the caller set.
 use Rattle.yaml_emitter.proofs.Common.{Result, Err, Ok, Bool, List, refl, ◌≡◌, ap, ◌∙◌, Event, stream_start, Keeps, WritesPage, CutPage, unwritten}
-use Rattle.yaml_emitter.proofs.Common.{partly_written, Processed, ProcessedFirst, State, MachineState, machine_of, KeepsGiven, KeepsSet, Page}
+use Rattle.yaml_emitter.proofs.Common.{partly_written, Processed, State, MachineState, machine_of, KeepsGiven, KeepsSet, Page}
 use Rattle.yaml_base.specs.declared.errors.{yaml_error_t.yaml_error_t, yaml_error_t.TheVariants.Memory, yaml_error_t.TheVariants.WriteError}
 
 pub keeps_given_same : (machine : MachineState) → KeepsGiven machine machine
 keeps_given_same machine = record { given = refl; taken = refl }
 
 pub keeps_given_then : (before middle after : MachineState) → KeepsGiven before middle → KeepsGiven middle after → KeepsGiven before after
-keeps_given_then before middle after first second =
-    record { given = second.given ∙ first.given; taken = second.taken ∙ first.taken }
+keeps_given_then before middle after first second = record { given = second.given ∙ first.given; taken = second.taken ∙ first.taken }
 
 -- writing keeps the number of taken bytes
 written_keeps_taken : (event : Event) (empty : Bool) (before after : MachineState) → WritesPage event empty before after

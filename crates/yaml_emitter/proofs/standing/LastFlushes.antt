@@ -5,8 +5,7 @@ use Rattle.yaml_base.specs.declared.errors.yaml_error_t.{yaml_error_t}
 use Rattle.yaml_pen.proofs.Composing.{flushed_wrote}
 
 nothing_more : (rendered : Rendered) → render_then rendered render_nothing ≡ rendered
-nothing_more rendered =
-    ap (λ (text : Text). let l : Rendered = record { text = text; cursor = rendered.cursor } in l) (append-nil rendered.text)
+nothing_more rendered = ap (λ (text : Text). let l : Rendered = record { text = text; cursor = rendered.cursor } in l) (append-nil rendered.text)
 
 -- an event that was written before a flush is written after it
 pub wrote_flushed : {render : Cursor → Rendered} {before between after : Page} {answer : Result (Unit {0}) yaml_error_t}

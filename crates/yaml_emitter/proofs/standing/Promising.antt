@@ -1,12 +1,12 @@
 -- All that an emitter promises.
 use Rattle.yaml_emitter.proofs.Common.{suc, zero, ℕ, ◌≤◌, IsSome, Option, None, Some, length, take, Bool, true, List, [], ◌++◌, ◌∷◌}
-use Rattle.yaml_emitter.proofs.Common.{refl, ◌≡◌, length-take-le, ap, subst, sym, ◌∙◌, list_all, written_within, Text, encode, Event, stream_start}
-use Rattle.yaml_emitter.proofs.Common.{stream_end, documents_events, Piece, has_scalar_texts, encoding_asked, settings_for, text_written, last_flushes}
-use Rattle.yaml_emitter.proofs.Common.{list_layout, pieces, written, IsAccepted, seen_event, Settings, Effective, progress, reads_alike, HoldsRaw}
+use Rattle.yaml_emitter.proofs.Common.{refl, ◌≡◌, length-take-le, ap, subst, sym, ◌∙◌, written_within, Text, encode, Event, stream_start}
+use Rattle.yaml_emitter.proofs.Common.{stream_end, documents_events, Piece, encoding_asked, settings_for, text_written, last_flushes}
+use Rattle.yaml_emitter.proofs.Common.{list_layout, pieces, written, IsAccepted, Settings, Effective, progress, reads_alike, HoldsRaw}
 use Rattle.yaml_emitter.proofs.Common.{canonical_content, agrees, stream_trees, ends_stream, EndsExactly, Promised, HoldsPieces, StandsWithoutError}
 use Rattle.yaml_emitter.proofs.Common.{MachineStands, StateStands, StandsAfter, State, machine_of, IsUncut, Page, encoded}
-use Rattle.yaml_base.specs.declared.{errors.yaml_error_t.yaml_error_t, events.yaml_event_t.yaml_event_t}
-use Rattle.yaml_emitter.proofs.{canonical.CanonicalOutput.output_reads, events_done.SeenTexts.seen_scalars, events_done.SeenTexts.texts_more}
+use Rattle.yaml_base.specs.declared.{errors.yaml_error_t.yaml_error_t}
+use Rattle.yaml_emitter.proofs.{canonical.CanonicalOutput.output_reads}
 use Rattle.yaml_emitter.proofs.{events_done.SeenTexts.values_of_texts, layouts.Meaning.meaning_is_kept, layouts.RawTexts.texts_hold_raw}
 use Rattle.yaml_emitter.proofs.{layouts.StreamOutput.output_reads_back, layouts.StreamOutput.output_reads_by_either, layouts.TidyStreams.bodies_are_tidy}
 use Rattle.yaml_emitter.proofs.{standing.PromisingRoom.promises_fits, standing.StandingEnds.all_written, standing.StandingEnds.promises_end}
@@ -19,10 +19,8 @@ page_bytes : (prefix : List Event) (n : ℕ) (s : Effective) (rendered : List Pi
     → HoldsPieces s prefix rendered page
     → page.text ≡ text → page.output ≡ encoded page → page.output ≡ bytes_of_some n (encode (Some s.encoding) text)
 page_bytes [] zero s rendered text page count h is all = ap (λ (p : Page). p.output) h
-page_bytes [] (suc n) s rendered text page count h is all = cc
-page_bytes (event ∷ prefix) zero s rendered text page count h is all = cc
-page_bytes (event ∷ prefix) (suc n) s rendered text page count h is all =
-    all ∙ ap (λ e. encode e page.text) h.0.encoding ∙ ap (encode (Some s.encoding)) is
+page_bytes (event ∷ prefix) (suc n) s rendered text page count h is all = all ∙ ap (λ e. encode e page.text) h.0.encoding ∙ ap (encode (Some s.encoding)) is
+page_bytes _ _ s rendered text page count h is all = cc
 
 pub promises_bytes : (given : Settings) (all : List Event) (state : State) → StateStands given all state → state.error ≡ None
     → state.page.output ≡ encoded state.page → HasAllBytes given all state
@@ -57,9 +55,8 @@ promises_ends given all state h ends =
 
 -- The end of an accepted list flushes.
 last_hands : (prefix : List Event) → last_flushes (prefix ++ stream_end ∷ []) ≡ true
-last_hands [] = refl
-last_hands (event ∷ []) = refl
 last_hands (event ∷ next ∷ rest) = last_hands (next ∷ rest)
+last_hands _ = refl
 
 accepted_hands : (canonical : Bool) (all : List Event) → IsAccepted canonical all → last_flushes all ≡ true
 accepted_hands canonical all accepted = ap last_flushes (sym accepted.is_stream)
@@ -131,10 +128,9 @@ page_encoded : (prefix : List Event) (n : ℕ) (s : Effective) (rendered : List 
     → HoldsPieces s prefix rendered page
     → page.text ≡ text → page.output ≡ bytes_of_some n (encode (Some s.encoding) text) → page.output ≡ encoded page
 page_encoded [] zero s rendered text page count h is all = all ∙ sym (ap (λ (p : Page). encoded p) h)
-page_encoded [] (suc n) s rendered text page count h is all = cc
-page_encoded (event ∷ prefix) zero s rendered text page count h is all = cc
 page_encoded (event ∷ prefix) (suc n) s rendered text page count h is all =
     all ∙ sym (ap (λ e. encode e page.text) h.0.encoding ∙ ap (encode (Some s.encoding)) is)
+page_encoded _ _ s rendered text page count h is all = cc
 
 page_unfailed : (prefix : List Event) (s : Effective) (rendered : List Piece) (page : Page) → HoldsPieces s prefix rendered page → page.error ≡ None
 page_unfailed [] s rendered page h = ap (λ (p : Page). p.error) h

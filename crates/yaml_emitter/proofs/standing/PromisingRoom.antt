@@ -38,5 +38,4 @@ promises_fits given all state h = by_error state.error given all state h refl
 pub memory_only : (error : Option yaml_error_t) (given : Settings) (all : List Event) → (FitsLimit given all → FailsOnlyByMemory error)
     → FitsLimit given all → (answer : Result (Unit {0}) yaml_error_t) → answer ≡ result_of_error error → IfErr answer (λ e. e ≡ Memory)
 memory_only None given all only fits answer is = subst (λ (r : Result (Unit {0}) yaml_error_t). IfErr r (λ e. e ≡ Memory)) (sym is) tt
-memory_only (Some error) given all only fits answer is =
-    subst (λ (r : Result (Unit {0}) yaml_error_t). IfErr r (λ e. e ≡ Memory)) (sym is) (only fits)
+memory_only (Some error) given all only fits answer is = subst (λ (r : Result (Unit {0}) yaml_error_t). IfErr r (λ e. e ≡ Memory)) (sym is) (only fits)

@@ -22,8 +22,7 @@ asked_more event rest more = refl
 
 settings_prefix : (given : Settings) (event : Event) (prefix rest all : List Event) → (event ∷ prefix) ++ rest ≡ all
     → settings_for given all ≡ settings_for given (event ∷ prefix)
-settings_prefix given event prefix rest all parts =
-    ap (settings_for given) (sym parts) ∙ ap (effective given) (asked_more event prefix rest)
+settings_prefix given event prefix rest all parts = ap (settings_for given) (sym parts) ∙ ap (effective given) (asked_more event prefix rest)
 
 pub settings_grown : (given : Settings) (event : Event) (prefix rest all more : List Event) → (event ∷ prefix) ++ rest ≡ all
     → settings_for given (all ++ more) ≡ settings_for given all

@@ -28,9 +28,7 @@ own_one (sequence_start c) sequence_end rest canonical (within_document e d s le
     let same : within_document e d s (at_item c no_nodes ∷ levels) ≡ q = cc in ap (λ r. refusal_at canonical r sequence_end) (sym same)
 own_one (mapping_start c) mapping_end rest canonical (within_document e d s levels) q h closes =
     let same : within_document e d s (at_key c no_pairs ∷ levels) ≡ q = cc in ap (λ r. refusal_at canonical r mapping_end) (sym same)
-own_one (sequence_start c) sequence_end rest canonical p q h closes = cc
-own_one (mapping_start c) mapping_end rest canonical p q h closes = cc
-own_one event next rest canonical p q h closes = cc
+own_one _ _ rest canonical p q h closes = cc
 
 own_later : (prefix : List Event) (next : Event) (rest : List Event) → OwnAccepted prefix next rest → (canonical : Bool) (made : Option Partial) (q : Partial)
     → option_and_then (λ r. pushed r prefix) made ≡ Some q → closes_last prefix (next ∷ rest) ≡ true → refusal_at canonical q next ≡ None

@@ -31,9 +31,8 @@ no_start_alone (mapping_start c) ready = cc
 no_start_alone event ready = refl
 
 last_begins_collection-append : (prefix : List Event) (event : Event) → last_begins_collection (prefix ++ event ∷ []) ≡ begins_collection event
-last_begins_collection-append [] event = refl
-last_begins_collection-append (x ∷ []) event = refl
 last_begins_collection-append (x ∷ y ∷ more) event = last_begins_collection-append (y ∷ more) event
+last_begins_collection-append _ event = refl
 
 follows_ready : (prefix rest more : List Event) (event : Event) (s : Effective) (last : Bool) → begins_collection event ≡ last → is_ready event rest ≡ true
     → (q : Partial) → partial_of (((prefix ++ event ∷ []) ++ rest) ++ more) ≡ Some q

@@ -1,5 +1,5 @@
 -- The promises of an emitter to its caller.
-use Rattle.yaml_emitter.proofs.Common.{◌≤◌, option_and_then, Option, None, Some, drop, length, take, Bool, false, true, ◌&&◌, List, [], ◌++◌, ◌∷◌, refl, ◌≡◌}
+use Rattle.yaml_emitter.proofs.Common.{◌≤◌, option_and_then, Option, None, Some, drop, length, take, Bool, false, true, List, [], ◌++◌, ◌∷◌, refl, ◌≡◌}
 use Rattle.yaml_emitter.proofs.Common.{take-append-drop, length-take-le, append_assoc, ap, subst, sym, ◌∙◌, arith, false≢true, stands_from_begins}
 use Rattle.yaml_emitter.proofs.Common.{refused_exactly, steps-append, prefix_same, prefix_then, written_within, cut, Event, document_start, sequence_start}
 use Rattle.yaml_emitter.proofs.Common.{sequence_end, mapping_start, mapping_end, before_stream, first_standing, Piece, settings_for, text_written}
@@ -8,7 +8,7 @@ use Rattle.yaml_emitter.proofs.Common.{refusal, IsAccepted, IsAcceptedPrefix, Se
 use Rattle.yaml_emitter.proofs.Common.{RefusedAt, BeginsOutput, OutputBegins, IsRefusal, is_head_ready, HoldsPiecesWith, StandsWithoutError, closes_last}
 use Rattle.yaml_emitter.proofs.Common.{StandsRefused, holds_before, holds_part, StandsCut, StandsUnflushed, StandsStopped, at_event, between_events}
 use Rattle.yaml_emitter.proofs.Common.{StandsFailed, MachineStands, StateStands, State, machine_of, StaysFlushed, Page}
-use Rattle.yaml_base.proofs.{PieceLaws.steps_count, Progress.progress_pieces, QueueLaws.held_waits, QueueLaws.held_is_short}
+use Rattle.yaml_base.proofs.{Common.and-false, PieceLaws.steps_count, Progress.progress_pieces, QueueLaws.held_waits, QueueLaws.held_is_short}
 use Rattle.yaml_base.specs.declared.errors.{yaml_error_t.yaml_error_t, yaml_error_t.TheVariants.Memory, yaml_error_t.TheVariants.WriteError}
 use Rattle.yaml_emitter.proofs.standing.{Standing.open_last, Standing.end_next, StandingFailed.own_accepted, StandingSteps.closes_last-append}
 use Rattle.yaml_emitter.proofs.{standing.StandingSteps.awaits_few, standing.StandingTexts.holds_output}
@@ -115,8 +115,7 @@ refused_at given all state error h =
       text =
           holds_text h.prefix s false None state.page h.progress.page
           ∙ ap (text_written s) (sym (pieces_prefix h.prefix (h.event ∷ h.later) all s stands.partial h.failed.parts stands.is_partial));
-      output =
-          output_from given all h.prefix (h.event ∷ h.later) None state h.failed.parts h.progress.stands h.progress.page h.progress.flushed;
+      output = output_from given all h.prefix (h.event ∷ h.later) None state h.failed.parts h.progress.stands h.progress.page h.progress.flushed;
     }
 
 refused_by : (error : yaml_error_t) (given : Settings) (all : List Event) (state : State) → IsRefusal error → StandsFailed given all error (machine_of state)
@@ -151,17 +150,13 @@ ends_if [] next later h = cc
 ends_if (event ∷ []) next later h = ends_one event next later h
 ends_if (event ∷ other ∷ more) next later h = ends_if (other ∷ more) next later h
 
-and_right_false : (b : Bool) → b && false ≡ false
-and_right_false true = refl
-and_right_false false = refl
-
 -- A prefix whose last event may be closed at once by the next: both ways a list goes on.
 closing_more : (canonical : Bool) (s : Effective) (prefix later : List Event) (closes : Bool) → closes_last prefix later ≡ closes
     → IsAcceptedPrefix canonical prefix
     → ContinuesScript canonical s prefix (steps s (closes_last prefix later) prefix at_stream first_standing).pieces
 closing_more canonical s prefix later false is begins =
     subst (λ follows. ContinuesScript canonical s prefix (steps s follows prefix at_stream first_standing).pieces) (sym is) (goes_on canonical s prefix begins)
-closing_more canonical s prefix [] true is begins = absurd (false≢true (sym (open_last prefix [] (and_right_false (last_begins_collection prefix))) ∙ is))
+closing_more canonical s prefix [] true is begins = absurd (false≢true (sym (open_last prefix [] (and-false (last_begins_collection prefix))) ∙ is))
 closing_more canonical s prefix (next ∷ later) true is begins =
     let stands = stands_from_begins canonical prefix begins in
     let none : refusal canonical prefix next ≡ None =

@@ -1,5 +1,5 @@
 -- The state of an emitter that was given no event, by its caller's settings.
-use Rattle.yaml_emitter.proofs.Common.{ℕ, Option, None, Some, take, true, List, [], ◌++◌, ◌∷◌, refl, ◌≡◌, ap, subst, sym, ◌∙◌, arith, Event, Standing}
+use Rattle.yaml_emitter.proofs.Common.{ℕ, Option, None, Some, take, List, [], ◌++◌, ◌∷◌, refl, ◌≡◌, ap, subst, sym, ◌∙◌, arith, Event, Standing}
 use Rattle.yaml_emitter.proofs.Common.{settings_for, written, Settings, Effective, progress, HoldsPiecesWith, StandsWithoutError, FailedAt, StandsUnflushed}
 use Rattle.yaml_emitter.proofs.Common.{StandsStopped, at_event, between_events, StandsFailed, MachineStands, StandsAfter, State, MachineState, machine_of}
 use Rattle.yaml_emitter.proofs.Common.{Page, encoded, IsFlushedOutput, new_page}
@@ -53,8 +53,7 @@ unset_page (Some error) held machine h = unset_failed error machine h.1
 
 page_set : (before after : Page) (limit most : ℕ) (error : Option yaml_error_t) → before ≡ record (new_page limit) { error = error }
     → after ≡ record before { limit = most } → after ≡ record (new_page most) { error = error }
-page_set before after limit most error h is =
-    is ∙ ap (λ (p : Page). let made : Page = record p { limit = most } in made) h
+page_set before after limit most error h is = is ∙ ap (λ (p : Page). let made : Page = record p { limit = most } in made) h
 
 well_set : (held : List Event) (before after : MachineState) → IsSet before after → StandsWithoutError before.given [] held before
     → StandsWithoutError after.given [] held after
@@ -153,12 +152,3 @@ stands_given before after given settings set same h =
     ap (λ limit. let page : Page = record before.page { limit = limit } in
     let made : MachineState = record (machine_of before) { given = given; settings = settings; page = page } in made) limit in
     subst (λ (s : State). StandsAfter s.given [] s) (sym set) (stands_set before now is refl h)
-
--- An output of a limit.
-pub stands_limited : (before after : State) (limit : ℕ)
-    → after ≡ record before { has_output = true; given = record before.given { limit = limit }; page = record before.page { limit = limit } }
-    → StandsAfter before.given [] before → StandsAfter after.given [] after
-stands_limited before after limit set h =
-    let now : State =
-    record before { has_output = true; given = record before.given { limit = limit }; page = record before.page { limit = limit } } in
-    subst (λ (s : State). StandsAfter s.given [] s) (sym set) (stands_set before now refl refl h)

@@ -1,7 +1,7 @@
 -- The state of an emitter as each event that is ready is written, and when no more is.
 use Rattle.yaml_emitter.proofs.Common.{suc, ◌+◌, ◌≤◌, if◌then◌else◌, option_and_then, Some, Ok, drop, length, take, Bool, false, true, ◌&&◌, List, [], ◌++◌}
 use Rattle.yaml_emitter.proofs.Common.{◌∷◌, refl, ◌≡◌, length-append, take_at, append_assoc, ap, subst, sym, ◌∙◌, arith, stands_from_begins, pushed-append}
-use Rattle.yaml_emitter.proofs.Common.{encode, Event, stream_end, document_start, document_end, sequence_start, mapping_start, Partial, before_stream, pushed}
+use Rattle.yaml_emitter.proofs.Common.{encode, Event, stream_end, document_start, document_end, Partial, before_stream, pushed}
 use Rattle.yaml_emitter.proofs.Common.{partial_of, first_standing, Piece, Standing, settings_for, bytes_written, flushes, last_begins_collection}
 use Rattle.yaml_emitter.proofs.Common.{first_ends_collection, awaited, is_ready, written, held_back, IsAcceptedPrefix, Settings, Effective, at_stream, step}
 use Rattle.yaml_emitter.proofs.Common.{Steps, steps, closes_at_once, event_stepped, render_event, WritesEvent, Processed, is_head_ready, HoldsPieces}
@@ -102,9 +102,8 @@ taken_next (x ∷ prefix) rest given all event q before after parts h pushes beg
     taken_later given all x prefix rest event q before after (pushes_later event stands.partial q begins one) parts h pushes begun done
 
 pub closes_last-append : (prefix rest : List Event) (event : Event) → closes_last (prefix ++ event ∷ []) rest ≡ closes_at_once event rest
-closes_last-append [] rest event = refl
-closes_last-append (x ∷ []) rest event = refl
 closes_last-append (x ∷ y ∷ more) rest event = closes_last-append (y ∷ more) rest event
+closes_last-append _ rest event = refl
 
 -- A ready event is written.
 pub reached_next : (given : Settings) (all prefix rest : List Event) (event : Event) (before after : MachineState)
@@ -138,9 +137,7 @@ none_ends (event ∷ rest) h = no_end_held event rest h
 
 pub awaits_few : (event : Event) → awaited event ≤ 3
 awaits_few (document_start start) = omega arith
-awaits_few (sequence_start start) = omega arith
-awaits_few (mapping_start start) = omega arith
-awaits_few event = omega arith
+awaits_few _ = omega arith
 
 and_left_false : (a b : Bool) → b ≡ false → a && b ≡ false
 and_left_false true b h = h

@@ -6,7 +6,7 @@ use Rattle.yaml_emitter.proofs.Common.{sequence_start, mapping_start, no_nodes, 
 use Rattle.yaml_emitter.proofs.Common.{after_stream, push, pushed, partial_of, first_standing, Piece, text_written, bytes_written, completion, list_layout}
 use Rattle.yaml_emitter.proofs.Common.{pieces, last_begins_collection, first_ends_collection, IsPrefix, refusal_at, refusal, IsAccepted, IsAcceptedPrefix}
 use Rattle.yaml_emitter.proofs.Common.{Effective, at_stream, steps, IsPage, HoldsPiecesWith, encode-append, Page, encoded}
-use Rattle.yaml_base.{proofs.PieceLaws.begun_pieces, specs.Pieces.empty_scalar, specs.Pieces.last_closes_at_once}
+use Rattle.yaml_base.{proofs.Common.and-false, proofs.PieceLaws.begun_pieces, specs.Pieces.empty_scalar, specs.Pieces.last_closes_at_once}
 use Rattle.yaml_base.{specs.declared.errors.yaml_error_t.yaml_error_t, specs.declared.errors.yaml_error_t.TheVariants.WriteError}
 use Rattle.yaml_emitter.proofs.standing.Standing.{text_written-append}
 
@@ -74,9 +74,7 @@ scalar_one (mapping_start c) true (within_document e d s levels) q h begins =
     let same : within_document e d s (at_key c no_pairs ∷ levels) ≡ q = cc in ap (λ r. refusal_at true r empty_scalar) (sym same)
 scalar_one (mapping_start c) false (within_document e d s levels) q h begins =
     let same : within_document e d s (at_key c no_pairs ∷ levels) ≡ q = cc in ap (λ r. refusal_at false r empty_scalar) (sym same)
-scalar_one (sequence_start c) canonical p q h begins = cc
-scalar_one (mapping_start c) canonical p q h begins = cc
-scalar_one event canonical p q h begins = cc
+scalar_one _ canonical p q h begins = cc
 
 scalar_later : (prefix : List Event) → ScalarFollows prefix → (canonical : Bool) (made : Option Partial) (q : Partial)
     → option_and_then (λ r. pushed r prefix) made ≡ Some q → last_begins_collection prefix ≡ true → refusal_at canonical q empty_scalar ≡ None
@@ -87,10 +85,6 @@ scalar_follows : (prefix : List Event) → ScalarFollows prefix
 scalar_follows [] canonical p q h begins = cc
 scalar_follows (event ∷ []) canonical p q h begins = scalar_one event canonical p q h begins
 scalar_follows (event ∷ other ∷ more) canonical p q h begins = scalar_later (other ∷ more) (scalar_follows (other ∷ more)) canonical (push p event) q h begins
-
-and_false : (b : Bool) → b && false ≡ false
-and_false true = refl
-and_false false = refl
 
 pub goes_on : (canonical : Bool) (s : Effective) (prefix : List Event) → IsAcceptedPrefix canonical prefix
     → ContinuesScript canonical s prefix (steps s false prefix at_stream first_standing).pieces
@@ -106,7 +100,7 @@ goes_on canonical s prefix begins = going (last_begins_collection prefix) refl
         let next = (refused_exactly canonical prefix empty_scalar begins).0 none in
         goes_on_with canonical s prefix (empty_scalar ∷ next.rest)
         (subst (IsAccepted canonical) (append_assoc prefix (empty_scalar ∷ []) next.rest) next.accepted)
-        (and_false (last_begins_collection prefix))
+        (and-false (last_begins_collection prefix))
 
 -- Bytes that others begin with.
 take_longer : (n : ℕ) (a b : List ℕ) → n ≤ length a → take n (a ++ b) ≡ take n a

@@ -1,11 +1,11 @@
 -- Taking output doesn't change which events an emitter's state comes after.
 use Rattle.yaml_emitter.proofs.Common.{Option, None, Some, take, false, List, [], ◌++◌, ◌∷◌, refl, ap, Event, first_standing, Piece, settings_for, written}
-use Rattle.yaml_emitter.proofs.Common.{Settings, Effective, Stage, at_stream, at_document, at_node, at_document_end, at_nothing, Steps, steps, progress}
-use Rattle.yaml_emitter.proofs.Common.{IsMachine, closes_at_once, seen_stage, IsPage, HoldsPiecesWith, HasProgress, closes_last, StandsRefused, HoldsCut}
+use Rattle.yaml_emitter.proofs.Common.{Settings, Effective, at_stream, Steps, steps, progress}
+use Rattle.yaml_emitter.proofs.Common.{closes_at_once, IsPage, HoldsPiecesWith, HasProgress, closes_last, StandsRefused, HoldsCut}
 use Rattle.yaml_emitter.proofs.Common.{holds_before, holds_part, StandsStopped, at_event, between_events, StandsFailed, MachineStands, StandsAfter, State}
-use Rattle.yaml_emitter.proofs.Common.{MachineState, machine_of, FitsPage, with_all_taken, Page, all_taken, IsUntouched, IsReady}
+use Rattle.yaml_emitter.proofs.Common.{MachineState, machine_of, with_all_taken, Page, all_taken}
 use Rattle.yaml_base.specs.declared.errors.{yaml_error_t.yaml_error_t, yaml_error_t.TheVariants.Memory, yaml_error_t.TheVariants.WriteError}
-use Rattle.yaml_emitter.{proofs.standing.Standing.settled_same, specs.declared.machine.Machine.TheInside.Inside}
+use Rattle.yaml_emitter.{proofs.standing.Standing.settled_same}
 
 page_taken : (s : Effective) (page : Page) → IsPage s page → IsPage s (all_taken page)
 page_taken s page h = record { encoding = h.encoding; bom_written = h.bom_written; line_break = h.line_break; limit = h.limit; sound_output = h.sound_output }
@@ -37,8 +37,7 @@ cut_taken : (given : Settings) (s : Effective) (prefix : List Event) (event : Ev
     → HoldsCut given s prefix event before with_event error page → HoldsCut given s prefix event before with_event error (all_taken page)
 cut_taken given s prefix event before with_event error page (holds_before memory holds) =
     holds_before memory (holds_taken None s prefix before.pieces page holds)
-cut_taken given s prefix event before with_event error page (holds_part begins is full grown part) =
-    holds_part begins (page_taken s page is) full grown part
+cut_taken given s prefix event before with_event error page (holds_part begins is full grown part) = holds_part begins (page_taken s page is) full grown part
 
 stopped_taken : (given : Settings) (all : List Event) (error : yaml_error_t) (machine : MachineState) → StandsStopped given all error machine
     → StandsStopped given all error (taken_from machine)
@@ -98,21 +97,3 @@ stands_by (Some error) given all held machine h = (h.0, failed_taken error given
 
 pub stands_taken : (given : Settings) (all : List Event) (state : State) → StandsAfter given all state → StandsAfter given all (with_all_taken state)
 stands_taken given all state stands = record { texts = stands.texts; so = stands_by state.error given all state.held (machine_of state) stands.so }
-
--- the invariants of an emitter stay
-pub untouched_taken : (page : Page) → IsUntouched page → IsUntouched (all_taken page)
-untouched_taken page is = record { no_bytes = is.no_bytes; no_error = is.no_error }
-
-ready_taken : (page : Page) → IsReady page → IsReady (all_taken page)
-ready_taken page is = record { begun = is.begun; bom_written = is.bom_written }
-
-fits_taken : (stage : Stage) (page : Page) → FitsPage stage page → FitsPage stage (all_taken page)
-fits_taken at_stream page fits = (untouched_taken page fits.0, fits.1, fits.2)
-fits_taken (at_document first) page fits = ready_taken page fits
-fits_taken (at_node directives frames) page fits = ready_taken page fits
-fits_taken at_document_end page fits = ready_taken page fits
-fits_taken at_nothing page fits = ready_taken page fits
-
-pub kept_taken : {A : Type 0} (e : Inside A) → IsMachine e → IsMachine (record e { pen = all_taken e.pen })
-kept_taken e is =
-    record { handles = is.handles; canonical = is.canonical; page = fits_taken (seen_stage e.stage e.directives e.frames) e.pen is.page }

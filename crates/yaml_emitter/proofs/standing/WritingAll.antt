@@ -26,8 +26,7 @@ head_becomes_ready (event ∷ rest) next h =
 ready_behind : (n : ℕ) (waiting : List Event) → are_ready_by_one_more waiting ≡ true → are_ready_by_one_more (drop n waiting) ≡ true
 ready_behind zero waiting h = h
 ready_behind (suc n) [] h = refl
-ready_behind (suc n) (event ∷ rest) h =
-    ready_behind n rest (and_parts (nat_lt (awaited event) (length (event ∷ rest) + 1)) (are_ready_by_one_more rest) h).1
+ready_behind (suc n) (event ∷ rest) h = ready_behind n rest (and_parts (nat_lt (awaited event) (length (event ∷ rest) + 1)) (are_ready_by_one_more rest) h).1
 
 -- If a scalar after them makes all ready, none waits on.
 pub none_waits_on : (n : ℕ) (waiting : List Event) (next : Scalar) → are_ready_by_one_more waiting ≡ true → StillWait (drop n waiting) (scalar next)

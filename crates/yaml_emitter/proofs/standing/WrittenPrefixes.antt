@@ -61,8 +61,7 @@ closes_after-nonempty_prefixes starts ends (event ∷ rest) =
 
 -- counting from nothing tells whether some prefix is balanced
 closes_after-none : (events : List Event) → list_any is_balanced (nonempty_prefixes events) ≡ closes_after 0 0 events
-closes_after-none events =
-    list_any_same is_balanced (balanced_after 0 0) from_none (nonempty_prefixes events) ∙ closes_after-nonempty_prefixes 0 0 events
+closes_after-none events = list_any_same is_balanced (balanced_after 0 0) from_none (nonempty_prefixes events) ∙ closes_after-nonempty_prefixes 0 0 events
   where
     from_none : (prefix : List Event) → is_balanced prefix ≡ balanced_after 0 0 prefix
     from_none prefix =
@@ -106,8 +105,7 @@ closed_step rest depth starts ends e later false false h =
 
 closed_is : (events : List Event) (depth starts ends : ℕ) → starts ≡ suc (depth + ends) → closes_after starts ends events ≡ closed_by depth events
 closed_is [] depth starts ends e = refl
-closed_is (event ∷ rest) depth starts ends e =
-    closed_step rest depth starts ends e (closed_is rest) (is_start event) (is_end event) (apart event)
+closed_is (event ∷ rest) depth starts ends e = closed_step rest depth starts ends e (closed_is rest) (is_start event) (is_end event) (apart event)
 
 -- the part that a start begins is ended if the events after it end it
 pub closed_start : (first : Event) (events : List Event) → is_start first ≡ true

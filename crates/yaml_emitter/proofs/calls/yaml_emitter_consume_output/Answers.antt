@@ -1,11 +1,8 @@
 use Rattle.yaml_emitter.proofs.Common.{ap, ◌∙◌}
 use Rattle.yaml_emitter.proofs.{Keeping.keeps_taken}
-use Rattle.yaml_emitter.proofs.standing.{TakenFrom.emitter_kept, TakenFrom.state_taken}
+use Rattle.yaml_emitter.proofs.standing.{TakenFrom.state_taken}
 use Rattle.yaml_emitter.specs.EmitterInside.{engine_of}
 use Rattle.yaml_emitter.proofs.calls.yaml_emitter_consume_output.Goals as goal
-
-pub invariant_of-emitter-inside : goal.invariant_of-emitter-inside
-invariant_of-emitter-inside g c = emitter_kept c.emitter-inside.inside.0.0 c.consume_output.new.self c.consume_output.ensures c.emitter-inside.invariant
 
 pub invariant_of-emitter : goal.invariant_of-emitter
 invariant_of-emitter g c =

@@ -1,19 +1,11 @@
-use Rattle.yaml_emitter.proofs.Common.{ap, ◌∙◌}
+use Rattle.yaml_emitter.proofs.Common.{ap}
 use Rattle.yaml_emitter.proofs.{Keeping.keeps_taken}
-use Rattle.yaml_emitter.proofs.standing.{TakenFrom.emitter_kept, TakenFrom.state_taken}
+use Rattle.yaml_emitter.proofs.standing.{TakenFrom.state_taken}
 use Rattle.yaml_emitter.specs.EmitterInside.{engine_of}
 use Rattle.yaml_emitter.proofs.calls.yaml_emitter_take_output.Goals as goal
-
-pub invariant_of-emitter-inside : goal.invariant_of-emitter-inside
-invariant_of-emitter-inside g c = emitter_kept c.emitter-inside.inside.0.0 c.take_output.new.self c.take_output.ensures.taken c.emitter-inside.invariant
 
 pub invariant_of-emitter : goal.invariant_of-emitter
 invariant_of-emitter g c =
     keeps_taken
     (state_taken c.emitter-inside.inside.0.0 c.emitter.inside.engine c.take_output.new.self (ap engine_of c.emitter-inside.view_is) c.take_output.ensures.taken)
     c.emitter.invariant
-
-pub returns-clause-taken : goal.returns-clause-taken
-returns-clause-taken g c =
-    state_taken c.emitter-inside.inside.0.0 c.args.emitter.now c.take_output.new.self (ap engine_of c.emitter-inside.view_is ∙ c.emitter.view_is)
-    c.take_output.ensures.taken

@@ -9,9 +9,6 @@ returns-in_err-write_document_atoms-clause-written g c = λ open_ended.
     (wrote_as (render_document_end c.args.implicit)
     (c.document_end_atoms.ensures.rendered (seen_effective c.args.settings.now) c.args.pen.now.cursor) c.in_err-write_document_atoms.ensures))
 
-pub flush-requires : goal.flush-requires
-flush-requires g c = c.in_ok-write_document_atoms.ensures.ready.bom_written
-
 pub returns-clause-written : goal.returns-clause-written
 returns-clause-written g c = λ open_ended.
     wrote_flushed

@@ -1,5 +1,5 @@
-use Rattle.yaml_emitter.proofs.Common.{◌+◌, drop, length, nat_lt, ◌&&◌, Bool, true, refl, ◌≡◌, ap, sym, ◌∙◌, arith, awaited, le-ltb, seen_event, seen_events}
-use Rattle.std.proofs.lemmas.{Bool.lt-ltb, List.drop_all, List.length-drop}
+use Rattle.yaml_emitter.proofs.Common.{◌+◌, drop, length, nat_lt, ◌&&◌, Bool, true, ◌≡◌, ap, sym, ◌∙◌, arith, awaited, le-ltb, seen_event, seen_events}
+use Rattle.std.proofs.lemmas.{Bool.lt-ltb, List.length-drop}
 use Rattle.yaml_emitter.proofs.standing.WritingAll.{ready_from}
 use Rattle.yaml_emitter.specs.Queue.{are_ready_by_one_more}
 use Rattle.yaml_emitter.proofs.queue.are_ready_by_one_more.Goals as goal
@@ -31,15 +31,3 @@ loop-event-preserved g c =
           ∙ ap (λ (b : Bool). b && behind) enough)
           ∙ c.loop-event.invariant.what_is_left;
     }
-
-pub returns : goal.returns
-returns g c =
-    ap (λ q. are_ready_by_one_more (seen_events q)) (sym (drop_all c.loop-event.event-index c.args.waiting.now (omega (arith, c.loop-event-test.false))))
-    ∙ c.loop-event.invariant.what_is_left
-
-pub loop-event-init : goal.loop-event-init
-loop-event-init g c = record { left = refl; what_is_left = refl }
-
-pub overflow_sub-left : goal.overflow_sub-left
-overflow_sub-left g c =
-    omega (arith, c.loop-event.invariant.left, length-drop c.loop-event.event-index c.args.waiting.now, c.loop-event-test.true)

@@ -1,4 +1,4 @@
-use Rattle.yaml_emitter.proofs.Common.{ℕ, ◌+◌, drop, true, Option, List, [], map, ◌++◌, ◌∷◌, refl, ◌≡◌, ap, sym, ◌∙◌, arith, option_map, Event, list_any}
+use Rattle.yaml_emitter.proofs.Common.{ℕ, ◌+◌, drop, true, Option, List, [], map, ◌++◌, ◌∷◌, ◌≡◌, ap, sym, ◌∙◌, arith, option_map, Event, list_any}
 use Rattle.yaml_emitter.proofs.Common.{seen_event, seen_events, is_balanced, nonempty_prefixes}
 use Rattle.std.proofs.{lemmas.List.drop_all}
 use Rattle.std.specs.Prelude.{◌≤◌, ◌==◌, ◌&&◌, length, unwrap_or}
@@ -6,17 +6,13 @@ use Rattle.yaml_base.specs.Ready.{is_end, is_start}
 use Rattle.yaml_emitter.proofs.standing.WrittenPrefixes.{behind_few, closed_by, closed_from, closed_last, closed_start}
 use Rattle.yaml_emitter.proofs.queue.closes.Goals as goal
 
-pub loop-event-init : goal.loop-event-init
-loop-event-init g c = record { in_range = omega arith; what_is_left = λ tail. refl }
-
 pub loop-event-preserved : goal.loop-event-preserved
 loop-event-preserved g c =
     let rest = c.args.rest.now in
     let i = c.loop-event.event-index in
     let behind = c.open_behind.ensures in
     record {
-      in_range =
-          omega (arith, c.loop-event.invariant.in_range, behind_few c.loop-event.depth (seen_event c.event-item.result) _ (sym behind ∙ c.in-Some.is));
+      in_range = omega (arith, c.loop-event.invariant.in_range, behind_few c.loop-event.depth (seen_event c.event-item.result) _ (sym behind ∙ c.in-Some.is));
       what_is_left = λ tail.
           sym
           (closed_from seen_event rest i c.event-item.result c.loop-event-test.true c.event-item.is c.loop-event.depth tail

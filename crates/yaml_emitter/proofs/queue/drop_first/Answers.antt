@@ -15,8 +15,3 @@ events-preserved g c =
           ∙ c.events.invariant.rest;
       room = c.remove.ensures.capacity ∙ c.events.invariant.room;
     }
-
-pub returns-clause-rest : goal.returns-clause-rest
-returns-clause-rest g c =
-    let none : c.events.left ≡ 0 = omega arith in
-    sym (ap (λ (n : ℕ). drop n (seen_events c.events.queue.items)) none) ∙ c.events.invariant.rest

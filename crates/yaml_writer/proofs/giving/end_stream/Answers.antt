@@ -1,5 +1,5 @@
-use Rattle.yaml_writer.proofs.Common.{IfErr, Err, Bool, [], ◌++◌, ◌∷◌, ap, subst, sym, ◌∙◌, Event, List, Settings, stream_end, document_end}
-use Rattle.yaml_writer.proofs.Common.{some_from_result, none_from_result, output_left, IsUnfinishedBy, Promised, StandsAfter, is_implicit, closing_by}
+use Rattle.yaml_writer.proofs.Common.{IfErr, Err, Bool, [], ◌++◌, ◌∷◌, ap, subst, sym, ◌∙◌, Event, List, Settings, stream_end}
+use Rattle.yaml_writer.proofs.Common.{some_from_result, none_from_result, output_left, IsUnfinishedBy, Promised, StandsAfter, is_implicit}
 use Rattle.yaml_writer.proofs.Common.{FinishesBy}
 use Rattle.std.proofs.lemmas.Result.{err_from_is_err_and}
 use Rattle.yaml_emitter.proofs.Giving.{emits_then}

@@ -120,16 +120,5 @@ returns g c =
     ∙ waits_behind settled.held event (subst (λ (l : List Event). StillWait l event) (sym h.held) h.wrote.waits)
     (awaits_more seen_event c.self-2.inside.queue.items _ apart)))
 
-pub invariant_of-self : goal.invariant_of-self
-invariant_of-self g c =
-    kept_emitting c.self.inside _ (has_output_inside c.self.inside c.self.view_is c.requires) refl c.self.invariant.room c.self.invariant.waits
-
-pub invariant_of-self-2 : goal.invariant_of-self-2
-invariant_of-self-2 g c =
-    kept_emitting c.self.inside _ (has_output_inside c.self.inside c.self.view_is c.requires) refl c.self.invariant.room c.self.invariant.waits
-
-pub write_waiting-requires-clause-no_error : goal.write_waiting-requires-clause-no_error
-write_waiting-requires-clause-no_error g c = sym c.error.ensures ∙ c.in_default.is
-
 pub with-self-inside-requires : goal.with-self-inside-requires
 with-self-inside-requires g c κs within = event_within _ _ within

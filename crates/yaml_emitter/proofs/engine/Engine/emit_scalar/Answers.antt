@@ -83,22 +83,3 @@ returns-then-are_ready_by_one_more-clause-output g c =
     let output : c.self-then-are_ready_by_one_more.inside.has_output ≡ true =
     h.set.has_output ∙ has_output_inside c.self.inside c.self.view_is c.requires in
     output
-
-pub invariant_of-self : goal.invariant_of-self
-invariant_of-self g c =
-    kept_emitting c.self.inside _ (has_output_inside c.self.inside c.self.view_is c.requires) refl c.self.invariant.room c.self.invariant.waits
-
-pub invariant_of-self-then-are_ready_by_one_more : goal.invariant_of-self-then-are_ready_by_one_more
-invariant_of-self-then-are_ready_by_one_more g c =
-    kept_emitting c.self.inside _ (has_output_inside c.self.inside c.self.view_is c.requires) refl c.self.invariant.room c.self.invariant.waits
-
-pub write_waiting-requires-clause-no_error : goal.write_waiting-requires-clause-no_error
-write_waiting-requires-clause-no_error g c = sym c.error.ensures ∙ c.in_default.is
-
-pub wait_behind-requires-clause-waits : goal.wait_behind-requires-clause-waits
-wait_behind-requires-clause-waits g c =
-    ap (λ (s : State). are_ready_by_one_more s.held) (sym c.self.view_is)
-    ∙ ap (λ q. are_ready_by_one_more (seen_events q)) (sym c.as_slice.ensures.value) ∙ sym c.are_ready_by_one_more.ensures ∙ c.if-are_ready_by_one_more.false
-
-pub wait_behind-requires-clause-no_error : goal.wait_behind-requires-clause-no_error
-wait_behind-requires-clause-no_error g c = ap (λ (s : State). s.error) (sym c.self.view_is) ∙ sym c.error.ensures ∙ c.in_default.is

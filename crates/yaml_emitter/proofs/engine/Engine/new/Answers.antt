@@ -16,5 +16,4 @@ invariant_of-result g c =
     }
 
 pub returns-clause-stands : goal.returns-clause-stands
-returns-clause-stands g c =
-    record { texts = refl; so = new_emitter_stands c.in_ok-machine.ensures.made (ap seen_events c.in_ok-queue.ensures.empty) }
+returns-clause-stands g c = record { texts = refl; so = new_emitter_stands c.in_ok-machine.ensures.made (ap seen_events c.in_ok-queue.ensures.empty) }

@@ -1,12 +1,8 @@
 use Rattle.yaml_emitter.proofs.Common.{machine_state, sym, ◌∙◌}
 use Rattle.std.specs.Prelude.{chars}
 use Rattle.yaml_emitter.proofs.{pieces.WritingNames.sound_alias}
-use Rattle.yaml_emitter.proofs.events_done.NodesDone.{at_node_inside, seen_at_node, ready_inside, kept_advancing, alias_done}
+use Rattle.yaml_emitter.proofs.events_done.NodesDone.{at_node_inside, seen_at_node, kept_advancing, alias_done}
 use Rattle.yaml_emitter.proofs.machine.Machine.alias.Goals as goal
-
-pub write_alias-requires-clause-ready : goal.write_alias-requires-clause-ready
-write_alias-requires-clause-ready g c =
-    ready_inside c.self.inside c.self.invariant (at_node_inside c.self.inside c.self.view_is (sym c.is_at_node.ensures ∙ c.if-not-is_at_node.false))
 
 pub write_alias-requires-clause-name : goal.write_alias-requires-clause-name
 write_alias-requires-clause-name g c = sound_alias (chars c.args.name.now) (sym c.in_ok-analyze_anchor.ensures)

@@ -2,13 +2,8 @@ use Rattle.yaml_emitter.proofs.Common.{ap, sym, ◌∙◌, MachineState, Place, 
 use Rattle.yaml_emitter.proofs.events_done.CollectionsDone.{may_end_here, end_done, ending_at_node}
 use Rattle.yaml_base.specs.Steps.{stage_allows}
 use Rattle.yaml_emitter.specs.NodeEvents.{end_of_kind}
-use Rattle.yaml_emitter.proofs.events_done.NodesDone.{at_node_inside, seen_at_node, ready_inside, kept_advancing}
+use Rattle.yaml_emitter.proofs.events_done.NodesDone.{at_node_inside, seen_at_node, kept_advancing}
 use Rattle.yaml_emitter.proofs.machine.Machine.end_collection.Goals as goal
-
-pub write_collection_end-requires : goal.write_collection_end-requires
-write_collection_end-requires g c =
-    ready_inside c.self.inside c.self.invariant (at_node_inside c.self.inside c.self.view_is
-    (ending_at_node c.args.self.now.stage (is_mapping c.args.kind) (sym c.may_end.ensures ∙ c.if-not-may_end.false)))
 
 pub invariant_of-self-in-Some : goal.invariant_of-self-in-Some
 invariant_of-self-in-Some g c =

@@ -1,10 +1,6 @@
 use Rattle.yaml_emitter.proofs.Common.{◌≡◌, None, Err, Ok, Result, ap, subst, sym, ◌∙◌, encoded, result_of_error, MachineState, Page}
 use Rattle.yaml_base.specs.declared.errors.{yaml_error_t.yaml_error_t}
-use Rattle.yaml_emitter.proofs.events_done.KeptInside.{kept_flushing}
 use Rattle.yaml_emitter.proofs.machine.Machine.flush.Goals as goal
-
-pub invariant_of-self : goal.invariant_of-self
-invariant_of-self g c = kept_flushing c.self.inside c.flush.new.self c.flush.result c.self.invariant c.flush.ensures.flushed c.flush.ensures.empty
 
 pub returns-in-Err-clause-empty : goal.returns-in-Err-clause-empty
 returns-in-Err-clause-empty g c = λ none whole.

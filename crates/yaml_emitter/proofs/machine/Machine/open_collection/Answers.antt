@@ -1,9 +1,9 @@
 use Rattle.yaml_emitter.proofs.Common.{common_steps, rules, option_map, nat_lt, length, ap, ◌∙◌, arith, any_layout, most_open, spelling, seen_collection}
 use Rattle.yaml_emitter.proofs.Common.{machine_state, start_of_kind, is_mapping, seen_place, seen_frame, seen_stage, collection_tag, seen_tag}
-use Rattle.std.proofs.lemmas.{Bool.ltb-true, Result.on_ok_weaker}
+use Rattle.std.proofs.lemmas.{Result.on_ok_weaker}
 use Rattle.yaml_emitter.proofs.{events_done.ProcessedBy.processed_exit, pieces.WritingTags.spelled_handle}
 use Rattle.yaml_emitter.proofs.events_done.CollectionsDone.{room_here, full_here, of_any_style, start_refused, start_cut, start_left}
-use Rattle.yaml_emitter.proofs.events_done.NodesDone.{at_node_inside, seen_at_node, ready_inside, names_inside, pushed_at_node, kept_at_node, collection_anchor}
+use Rattle.yaml_emitter.proofs.events_done.NodesDone.{at_node_inside, seen_at_node, names_inside, pushed_at_node, collection_anchor}
 use Rattle.yaml_emitter.proofs.machine.Machine.open_collection.Goals as goal
 
 pub returns-then-is_full : goal.returns-then-is_full
@@ -12,10 +12,6 @@ returns-then-is_full g c =
       search (rules, at_node_inside, full_here, names_inside, of_any_style, seen_at_node, start_refused),
       grind (arith, common_steps, at_node_inside, full_here, names_inside, of_any_style, seen_at_node, start_refused),
     )
-
-pub write_collection_start-requires-clause-ready : goal.write_collection_start-requires-clause-ready
-write_collection_start-requires-clause-ready g c =
-    ready_inside c.self.inside c.self.invariant (at_node_inside c.self.inside c.self.view_is c.requires.stage)
 
 pub write_collection_start-requires-clause-handle : goal.write_collection_start-requires-clause-handle
 write_collection_start-requires-clause-handle g c =
@@ -27,11 +23,6 @@ write_collection_start-requires-clause-handle g c =
 pub write_collection_start-requires-clause-anchor : goal.write_collection_start-requires-clause-anchor
 write_collection_start-requires-clause-anchor g c = collection_anchor c.args.self.now.given.canonical (is_mapping c.args.kind)
     (seen_collection c.args.content.now any_layout) c.requires.names
-
-pub invariant_of-self : goal.invariant_of-self
-invariant_of-self g c =
-    kept_at_node c.self.inside c.write_collection_start.new.pen c.self.inside.frames c.self.inside.open_ended c.self.invariant
-    (at_node_inside c.self.inside c.self.view_is c.requires.stage) c.write_collection_start.ensures.ready
 
 pub returns-in_err-write_collection_start : goal.returns-in_err-write_collection_start
 returns-in_err-write_collection_start g c = λ style asked.
@@ -50,11 +41,6 @@ returns-in_err-write_collection_start g c = λ style asked.
     (c.spell-tag.ensures ∙ ap (option_map (spelling c.self.inside.directives)) (c.written_collection_tag-written.ensures style)))
     (c.in_err-write_collection_start.ensures.written c.self.inside.directives style (machine_state c.self.inside).open_ended
     (c.spell-tag.ensures ∙ ap (option_map (spelling c.self.inside.directives)) (c.written_collection_tag-written.ensures style)))))
-
-pub invariant_of-self-2 : goal.invariant_of-self-2
-invariant_of-self-2 g c =
-    kept_at_node c.self.inside c.write_collection_start.new.pen c.push.new.self c.self.inside.open_ended c.self.invariant
-    (at_node_inside c.self.inside c.self.view_is c.requires.stage) c.write_collection_start.ensures.ready
 
 pub returns : goal.returns
 returns g c = λ style asked.
@@ -78,14 +64,3 @@ returns g c = λ style asked.
     c.push.ensures.memory
     (c.in_ok-write_collection_start.ensures.written c.self.inside.directives style (machine_state c.self.inside).open_ended
     (c.spell-tag.ensures ∙ ap (option_map (spelling c.self.inside.directives)) (c.written_collection_tag-written.ensures style))))
-
-pub opened_frame-frame-requires : goal.opened_frame-frame-requires
-opened_frame-frame-requires g c = first_of (search (rules, ltb-true, room_here), grind (arith, common_steps, ltb-true, room_here))
-
-pub push-requires-clause-column : goal.push-requires-clause-column
-push-requires-clause-column g c = omega (arith, c.next_place-place.ensures.nested, c.opened_frame-frame.ensures.nested)
-
-pub push-requires-clause-room : goal.push-requires-clause-room
-push-requires-clause-room g c =
-    ltb-true (length c.self.inside.frames) most_open
-    (room_here (nat_lt (length c.self.inside.frames) most_open) c.is_full.result c.is_full.ensures c.if-is_full.false)

@@ -1,7 +1,7 @@
 use Rattle.yaml_emitter.proofs.Common.{machine_state, scalar, seen_place, MachineState, true, option_map, false, ap, sym, ◌∙◌, scalar_tag, spelling, seen_tag}
 use Rattle.yaml_emitter.proofs.Common.{seen_scalar}
 use Rattle.yaml_emitter.proofs.{pieces.AtomsWritten.written_is_some, pieces.WritingTags.spelled_handle}
-use Rattle.yaml_emitter.proofs.events_done.NodesDone.{at_node_inside, seen_at_node, ready_inside, names_inside, kept_advancing, lacks_given}
+use Rattle.yaml_emitter.proofs.events_done.NodesDone.{at_node_inside, seen_at_node, names_inside, lacks_given}
 use Rattle.yaml_emitter.proofs.events_done.NodesDone.{scalar_refused, scalar_done, scalar_anchor}
 use Rattle.yaml_emitter.proofs.machine.Machine.put_chosen.Goals as goal
 
@@ -14,10 +14,6 @@ returns-then-lacks_flag g c = λ empty.
     (lacks_given content c.lacks_flag.result c.self.inside.settings.canonical c.args.self.now.given.canonical true
     (c.self.invariant.canonical ∙ ap (λ (s : MachineState). s.given.canonical) c.self.view_is) c.if-lacks_flag.true c.lacks_flag.ensures)
 
-pub write_scalar-requires-clause-ready : goal.write_scalar-requires-clause-ready
-write_scalar-requires-clause-ready g c =
-    ready_inside c.self.inside c.self.invariant (at_node_inside c.self.inside c.self.view_is c.requires.stage)
-
 pub write_scalar-requires-clause-checked : goal.write_scalar-requires-clause-checked
 write_scalar-requires-clause-checked g c =
     let tag = scalar_tag c.self.inside.settings.canonical (seen_scalar c.args.content.now) in
@@ -28,12 +24,6 @@ write_scalar-requires-clause-checked g c =
       tag_written = written_is_some c.self.inside.directives tag c.spell-tag.result spelled;
       flags = sym c.lacks_flag.ensures ∙ c.if-lacks_flag.false;
     }
-
-pub invariant_of-self : goal.invariant_of-self
-invariant_of-self g c =
-    kept_advancing c.self.inside c.write_scalar.new.pen c.advance-self-inside.result c.advance-self-inside.new.self c.self.inside.frames
-    c.is_simple_scalar_key-simple.result c.write_scalar.new.open_ended c.self.invariant
-    (c.advance-self-inside.ensures.stage c.self.inside.directives) c.write_scalar.ensures.ready
 
 pub returns : goal.returns
 returns g c = λ empty.

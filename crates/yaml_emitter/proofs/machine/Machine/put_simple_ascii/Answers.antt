@@ -5,17 +5,9 @@ use Rattle.yaml_base.proofs.Common.{open_ended_after}
 use Rattle.yaml_base.specs.declared.styles.yaml_scalar_style_t.TheVariants.{YAML_PLAIN_SCALAR_STYLE}
 use Rattle.yaml_emitter.proofs.{events_done.ProcessedBy.processed_exit, pieces.SimpleAsciiChoices.simple_ascii_choice, pieces.SimpleAsciiChoices.not_lacking}
 use Rattle.yaml_emitter.proofs.{pieces.SimpleAsciiChoices.wrote_simple_ascii, pieces.WritingScalars.wrote_plain}
-use Rattle.yaml_emitter.proofs.events_done.NodesDone.{at_node_inside, seen_at_node, ready_inside, names_inside, kept_at_node, kept_advancing, scalar_cut}
+use Rattle.yaml_emitter.proofs.events_done.NodesDone.{at_node_inside, seen_at_node, names_inside, kept_at_node, kept_advancing, scalar_cut}
 use Rattle.yaml_emitter.proofs.events_done.NodesDone.{scalar_written}
 use Rattle.yaml_emitter.proofs.machine.Machine.put_simple_ascii.Goals as goal
-
-pub write_lead-requires-clause-ready : goal.write_lead-requires-clause-ready
-write_lead-requires-clause-ready g c = ready_inside c.self.inside c.self.invariant (at_node_inside c.self.inside c.self.view_is c.requires.stage)
-
-pub invariant_of-self : goal.invariant_of-self
-invariant_of-self g c =
-    kept_at_node c.self.inside c.write_lead.new.pen c.self.inside.frames c.self.inside.open_ended c.self.invariant
-    (at_node_inside c.self.inside c.self.view_is c.requires.stage) c.in_err-write_lead.ensures.ready
 
 pub returns-in_err-write_lead : goal.returns-in_err-write_lead
 returns-in_err-write_lead g c = λ content stands same names empty.

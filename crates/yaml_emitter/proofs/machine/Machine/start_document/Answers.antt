@@ -2,14 +2,9 @@ use Rattle.yaml_emitter.proofs.Common.{Ok, at_node, option_map, option_and_then,
 use Rattle.yaml_emitter.proofs.Common.{seen_directive, version_fault, directives_fault, some_handle_breaks, machine_state, Processed, MachineState}
 use Rattle.yaml_emitter.proofs.{events_done.ProcessedBy.processed_exit, pieces.WritingNames.sound_handles, pieces.WritingNames.sound_in_force}
 use Rattle.yaml_emitter.proofs.events_done.DocumentsDone.{document_refused, document_start_cut, document_begun, none_behind}
-use Rattle.yaml_emitter.proofs.events_done.KeptInside.{kept_cut, kept_prefix, seen_without, kept_without, seen_at}
+use Rattle.yaml_emitter.proofs.events_done.KeptInside.{kept_prefix, seen_without, seen_at}
 use Rattle.yaml_emitter.specs.declared.stage.Stage.TheVariants.{Document}
 use Rattle.yaml_emitter.proofs.machine.Machine.start_document.Goals as goal
-
-pub invariant_of-self : goal.invariant_of-self
-invariant_of-self g c =
-    kept_without c.self.inside c.replace-before.new.dest c.in-Document.first (c.replace-before.ensures.after ∙ c.new.ensures)
-    (seen_at c.self.inside (Document c.in-Document.first) c.in-Document.is) c.self.invariant
 
 pub returns-in_err-directives : goal.returns-in_err-directives
 returns-in_err-directives g c = λ empty.
@@ -33,11 +28,6 @@ write_document_start-requires-clause-handles g c =
     sound_handles own
     (none_behind (option_and_then version_fault (option_map seen_version c.args.version)) (directives_fault own)
     (sym (c.in_ok-directives.ensures.refusal (λ h. cc))))
-
-pub invariant_of-self-in_err-write_document_start : goal.invariant_of-self-in_err-write_document_start
-invariant_of-self-in_err-write_document_start g c =
-    kept_cut c.self.inside c.replace-before.new.dest c.write_document_start.new.pen c.in-Document.first (c.replace-before.ensures.after ∙ c.new.ensures)
-    (seen_at c.self.inside (Document c.in-Document.first) c.in-Document.is) c.self.invariant c.write_document_start.ensures.ready
 
 pub returns-in_err-write_document_start : goal.returns-in_err-write_document_start
 returns-in_err-write_document_start g c = λ empty.

@@ -93,26 +93,5 @@ returns-clause-written g c = λ last stands.
       waits = subst (λ (l : List Event). StillWait l last) (sym none) tt;
     }
 
-pub returns-then-not-is_ready-clause-error : goal.returns-then-not-is_ready-clause-error
-returns-then-not-is_ready-clause-error g c = c.events.invariant.error
-
-pub returns-then-not-is_ready-clause-grows : goal.returns-then-not-is_ready-clause-grows
-returns-then-not-is_ready-clause-grows g c = c.events.invariant.grows
-
-pub returns-then-not-is_ready-clause-set : goal.returns-then-not-is_ready-clause-set
-returns-then-not-is_ready-clause-set g c = c.events.invariant.set
-
-pub returns-then-not-is_ready-clause-waits : goal.returns-then-not-is_ready-clause-waits
-returns-then-not-is_ready-clause-waits g c last stands h = ap (λ n. Ok n) (c.events.invariant.unready last stands h)
-
-pub returns-clause-error : goal.returns-clause-error
-returns-clause-error g c = c.events.invariant.error
-
-pub returns-clause-grows : goal.returns-clause-grows
-returns-clause-grows g c = c.events.invariant.grows
-
-pub returns-clause-set : goal.returns-clause-set
-returns-clause-set g c = c.events.invariant.set
-
 pub returns-clause-waits : goal.returns-clause-waits
 returns-clause-waits g c last stands h = ap (λ n. Ok n) (c.events.invariant.unready last stands h)

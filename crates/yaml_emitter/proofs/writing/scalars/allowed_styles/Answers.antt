@@ -1,11 +1,8 @@
 use Rattle.yaml_emitter.proofs.Common.{◌||◌, ◌&&◌, ap, ◌∙◌, sym, Bool, subst, Charset, allowances, seen_effective, seen_scalar}
 use Rattle.yaml_base.specs.scalars.Style.{is_literal}
-use Rattle.yaml_emitter.proofs.pieces.QuotesAllowed.{alike_under, alike_same}
+use Rattle.yaml_emitter.proofs.pieces.QuotesAllowed.{alike_under}
 use Rattle.yaml_scalar.specs.ScalarData.{ChooseAlike}
 use Rattle.yaml_emitter.proofs.writing.scalars.allowed_styles.Goals as goal
-
-pub returns-then-settings : goal.returns-then-settings
-returns-then-settings c = alike_same _ _ c.exactly_allowed.ensures
 
 pub returns : goal.returns
 returns c =

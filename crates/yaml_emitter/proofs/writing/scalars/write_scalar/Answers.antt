@@ -1,15 +1,9 @@
 use Rattle.yaml_emitter.proofs.Common.{ap, ◌∙◌, deeper, seen_scalar_style, ChosenStyle, seen_scalar, seen_effective, seen_place, render_scalar_text}
-use Rattle.yaml_emitter.proofs.Common.{◌≡◌, chars, OnOk, false≢true, subst, seen_open_ended, style_fits, wrote_exit, wrote_then, wrote_failed}
+use Rattle.yaml_emitter.proofs.Common.{◌≡◌, chars, OnOk, subst, seen_open_ended, style_fits, wrote_exit, wrote_then, wrote_failed}
 use Rattle.std.proofs.lemmas.Result.{IfOk-from_err}
 use Rattle.yaml_base.specs.Layout.{open_ended_after}
 use Rattle.yaml_emitter.proofs.pieces.WritingScalars.{chosen_fits, wrote_scalar}
 use Rattle.yaml_emitter.proofs.writing.scalars.write_scalar.Goals as goal
-
-pub returns-in_err-style : goal.returns-in_err-style
-returns-in_err-style g c = absurd (false≢true c.in_err-style.ensures.ok)
-
-pub write_text-requires-clause-ready : goal.write_text-requires-clause-ready
-write_text-requires-clause-ready g c = c.in_ok-write_lead.ensures.ready
 
 pub returns-in_err-write_lead : goal.returns-in_err-write_lead
 returns-in_err-write_lead g c =

@@ -1,12 +1,6 @@
 use Rattle.yaml_emitter.proofs.Common.{arith, common_steps, rules}
-use Rattle.yaml_emitter.proofs.pieces.WritingScalars.{wrote_plain, wrote_single, wrote_double}
+use Rattle.yaml_emitter.proofs.pieces.WritingScalars.{wrote_plain}
 use Rattle.yaml_emitter.proofs.writing.styles.write_flow_text.Goals as goal
 
 pub returns-in-YAML_PLAIN_SCALAR_STYLE : goal.returns-in-YAML_PLAIN_SCALAR_STYLE
 returns-in-YAML_PLAIN_SCALAR_STYLE g c = first_of (search (rules, wrote_plain), grind (arith, common_steps, wrote_plain))
-
-pub returns-in-YAML_SINGLE_QUOTED_SCALAR_STYLE : goal.returns-in-YAML_SINGLE_QUOTED_SCALAR_STYLE
-returns-in-YAML_SINGLE_QUOTED_SCALAR_STYLE g c = first_of (search (rules, wrote_single), grind (arith, common_steps, wrote_single))
-
-pub returns-in_default : goal.returns-in_default
-returns-in_default g c = first_of (search (rules, wrote_double), grind (arith, common_steps, wrote_double))

@@ -1,6 +1,6 @@
 use Rattle.yaml_emitter.proofs.Common.{pos, ◌≡◌, FitsSigned as SFits, refl, rules, ◌∙◌, w32, to_z, arith, ints, to_z-of_z, chars, Ok, Err}
-use Rattle.yaml_base.specs.{declared.styles.yaml_scalar_style_t.TheVariants.YAML_FOLDED_SCALAR_STYLE, scalars.BlockHeader.ending}
-use Rattle.yaml_emitter.proofs.pieces.WritingScalars.{wrote_folded, block_some}
+use Rattle.yaml_base.specs.{declared.styles.yaml_scalar_style_t.TheVariants.YAML_FOLDED_SCALAR_STYLE}
+use Rattle.yaml_emitter.proofs.pieces.WritingScalars.{wrote_folded}
 use Rattle.yaml_emitter.proofs.writing.styles.write_folded_text.Goals as goal
 
 pub returns-in-Err-clause-written : goal.returns-in-Err-clause-written
@@ -22,11 +22,3 @@ returns-in-Ok-clause-written g c =
     wrote_folded settings c.args.site.now.place.in_flow c.args.site.now.simple (chars c.args.value.now)
     (to_z-of_z w32 c.line_indent-indent.result indent_fits ∙ c.line_indent-indent.ensures.value) (to_z-of_z w32 settings.width fits) settings.counts
     {style = YAML_FOLDED_SCALAR_STYLE} best refl c.requires.fits {answer = Ok tt} c.in-Ok.ensures.written
-
-pub returns-in-Ok-clause-open_ended : goal.returns-in-Ok-clause-open_ended
-returns-in-Ok-clause-open_ended g c =
-    let header_fits : SFits w32 c.in-Ok.header = search rules in
-    c.after_header.ensures (ending (chars c.args.value.now)) (to_z-of_z w32 c.in-Ok.header header_fits ∙ c.in-Ok.ensures.open_ended)
-
-pub write_folded_scalar-requires-clause-some : goal.write_folded_scalar-requires-clause-some
-write_folded_scalar-requires-clause-some g c = block_some (chars c.args.value.now) c.args.site.now.simple c.requires.fits

@@ -1,5 +1,5 @@
 use Rattle.yaml_emitter.proofs.Common.{pos, ◌≡◌, FitsSigned as SFits, refl, rules, ◌∙◌, w32, to_z, arith, ints, to_z-of_z, chars, Err, Ok}
-use Rattle.yaml_base.specs.{declared.styles.yaml_scalar_style_t.TheVariants.YAML_LITERAL_SCALAR_STYLE, scalars.BlockHeader.ending}
+use Rattle.yaml_base.specs.{declared.styles.yaml_scalar_style_t.TheVariants.YAML_LITERAL_SCALAR_STYLE}
 use Rattle.yaml_emitter.proofs.pieces.WritingScalars.{wrote_literal}
 use Rattle.yaml_emitter.proofs.writing.styles.write_literal_text.Goals as goal
 
@@ -20,8 +20,3 @@ returns-in-Ok-clause-written g c =
     wrote_literal settings c.args.site.now.place.in_flow c.args.site.now.simple (chars c.args.value.now)
     (to_z-of_z w32 c.line_indent-indent.result indent_fits ∙ c.line_indent-indent.ensures.value) refl settings.counts
     {style = YAML_LITERAL_SCALAR_STYLE} best refl {answer = Ok tt} c.in-Ok.ensures.written
-
-pub returns-in-Ok-clause-open_ended : goal.returns-in-Ok-clause-open_ended
-returns-in-Ok-clause-open_ended g c =
-    let header_fits : SFits w32 c.in-Ok.header = search rules in
-    c.after_header.ensures (ending (chars c.args.value.now)) (to_z-of_z w32 c.in-Ok.header header_fits ∙ c.in-Ok.ensures.open_ended)

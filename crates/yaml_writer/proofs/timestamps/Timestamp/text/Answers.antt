@@ -22,8 +22,7 @@ timestamp_is timestamp =
     (time_is timestamp.time)
 
 pub returns-clause-text : goal.returns-clause-text
-returns-clause-text g c =
-    ap chars c.in_ok-text.ensures ∙ timestamp_chars (seen_timestamp c.args.self.now) (timestamp_is c.args.self.now)
+returns-clause-text g c = ap chars c.in_ok-text.ensures ∙ timestamp_chars (seen_timestamp c.args.self.now) (timestamp_is c.args.self.now)
 
 pub returns-clause-reads : goal.returns-clause-reads
 returns-clause-reads g c =
