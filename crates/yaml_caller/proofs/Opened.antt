@@ -4,7 +4,7 @@ use Rattle.std.specs.Prelude.{Vec}
 use Rattle.yaml_base.specs.values.TypedValues.{TypedValue}
 use Rattle.yaml_value.specs.declared.keys.Keys.{Keys}
 use Rattle.yaml_value.specs.declared.value.Value.{Value}
-use Rattle.yaml_value.proofs.TextLemmas.{text_written}
+use Rattle.yaml_value.proofs.WritingLemmas.{text_written}
 use Rattle.yaml_read.proofs.ChosenKeys.{NoneAllowed}
 use Rattle.yaml_read.specs.AllowedKeys.{KeysAllow}
 use Rattle.yaml_read.specs.Readable.{CanBeRead}

@@ -2,7 +2,7 @@
 use Rattle.yaml_dump.proofs.Common.{suc, zero, ℕ, ◌+◌, ◌-◌, ◌<◌, ◌≤◌, ◌==◌, unwrap_or, option_map, Option, None, Some, nat_le, drop, length}
 use Rattle.yaml_dump.proofs.Common.{slice_index_or as get_or, slice_set as set, take, Bool, cond, false, not, true, ◌&&◌, ◌||◌, List, [], map, ◌++◌, ◌∷◌, ◌≢◌}
 use Rattle.yaml_dump.proofs.Common.{refl, ◌≡◌, length-append, length-set, get_or-set_other, get_or-set_same, append-nil, ap, subst, sym, ◌∙◌, arith}
-use Rattle.yaml_dump.proofs.Common.{nat_tests, get_or-map, length-map, map-append, Step, enters, leaves, meets_again, numbered_name, IsNumbered, is_numbered}
+use Rattle.yaml_dump.proofs.Common.{nat_tests, get_or-map, length-map, map-append, Step, meets_again, numbered_name, IsNumbered, is_numbered}
 use Rattle.yaml_dump.proofs.Common.{replicate, anchor_of_place, HasPlaces, Places, step_number, seen_step}
 use Rattle.yaml_base.proofs.Common.{nat_lt, filter_map-append, filter, filter_map, position, position_or_len, node_met_again, first_of_each, shared_nodes}
 use Rattle.yaml_base.proofs.Common.{anchor_of}
@@ -11,61 +11,43 @@ use Rattle.std.{proofs.Common.add-one, proofs.Math.Seq.take-append_seam, proofs.
 use Rattle.std.{proofs.lemmas.List.Folds.position_or_len_push, proofs.lemmas.List.Folds.list_all-map, proofs.lemmas.List.Sums.prefix_len-le-length}
 use Rattle.std.{proofs.lemmas.List.Sums.AllPass-from_list_all, specs.List.cons_option}
 use Rattle.yaml_base.proofs.SharedNodes.{has, has_first, has_position}
-use Rattle.yaml_dump.specs.{Anchors.place_in, Events.StepIsPlaced, declared.steps.Step.TheVariants.Enters, declared.steps.Step.TheVariants.Leaves}
+use Rattle.yaml_dump.specs.{Anchors.place_in, Events.StepIsPlaced}
 use Rattle.yaml_dump.specs.{declared.steps.Step.TheVariants.MeetsAgain}
 use Rattle.yaml_dump.specs.declared.steps.Step as declared
 
 kept_once : (b c : Bool) (number : ℕ) → cond (not b) (number ∷ []) [] ≡ cond (b || false) [] (number ∷ [])
-kept_once true c number = refl
-kept_once false c number = refl
+kept_once b c number = grind (arith, nat_tests)
 
 always : (b : Bool) (number : ℕ) → [] ≡ cond (b || true) [] (number ∷ [])
-always true number = refl
-always false number = refl
+always b number = grind (arith, nat_tests)
 
 equal_either_way : (x y : ℕ) → (x == y) ≡ (y == x)
 equal_either_way x y = grind (arith, nat_tests)
 
 one_kept : (b : Bool) (number x : ℕ) → filter (λ other. not (other == x)) (cond b [] (number ∷ [])) ≡ cond (x == number || b) [] (number ∷ [])
-one_kept true number x = always (x == number) number
-one_kept false number x = kept_once (number == x) false number ∙ ap (λ (t : Bool). cond (t || false) [] (number ∷ [])) (equal_either_way number x)
+one_kept b number x = grind (arith, nat_tests, always, kept_once, cond, equal_either_way)
 
 -- one more number
 pub first_of_more : (xs : List ℕ) (number : ℕ) → first_of_each (xs ++ number ∷ []) ≡ first_of_each xs ++ cond (has number xs) [] (number ∷ [])
 first_of_more [] number = refl
-first_of_more (x ∷ xs) number =
-    let others = λ (ys : List ℕ). filter (λ other. not (other == x)) ys in
-    ap (λ (ys : List ℕ). x ∷ others ys) (first_of_more xs number)
-    ∙ ap (λ (ys : List ℕ). x ∷ ys) (filter-append (λ other. not (other == x)) (first_of_each xs) (cond (has number xs) [] (number ∷ [])))
-    ∙ ap (λ (ys : List ℕ). x ∷ (others (first_of_each xs) ++ ys)) (one_kept (has number xs) number x)
+first_of_more (x ∷ xs) number = grind (arith, nat_tests, filter, not, filter-append, first_of_each, cond, has, one_kept, first_of_more xs number)
 
 -- a step that meets no node again changes nothing, and any other adds its node if it isn't there yet
 pub shared_more : (walk : List Step) (number : ℕ)
     → shared_nodes (walk ++ meets_again number ∷ []) ≡ shared_nodes walk ++ cond (has number (shared_nodes walk)) [] (number ∷ [])
-shared_more walk number =
-    let met = filter_map node_met_again walk in
-    ap first_of_each (filter_map-append node_met_again walk (meets_again number ∷ []))
-    ∙ first_of_more met number
-    ∙ ap (λ (b : Bool). first_of_each met ++ cond b [] (number ∷ [])) (sym (has_first number met))
+shared_more walk number = grind (arith, nat_tests, filter_map, node_met_again, first_of_each, filter_map-append, first_of_more, cond, has_first)
 
 pub shared_same : (walk : List Step) (step : Step) → node_met_again step ≡ None → shared_nodes (walk ++ step ∷ []) ≡ shared_nodes walk
-shared_same walk (enters number) none =
-    ap first_of_each (filter_map-append node_met_again walk (enters number ∷ []) ∙ append-nil (filter_map node_met_again walk))
-shared_same walk (leaves number) none =
-    ap first_of_each (filter_map-append node_met_again walk (leaves number ∷ []) ∙ append-nil (filter_map node_met_again walk))
-shared_same walk (meets_again number) none = cc
+shared_same walk step x = grind (arith, nat_tests, first_of_each, filter_map-append, node_met_again, append-nil, filter_map)
 
 -- every other step meets none again
 pub meets_none : (step : declared.Step) → ((number : ℕ) → step ≢ MeetsAgain number) → node_met_again (seen_step step) ≡ None
-meets_none (Enters number) other = refl
-meets_none (Leaves number) other = refl
-meets_none (MeetsAgain number) other = absurd (other number refl)
+meets_none step other = grind (arith, nat_tests)
 
 -- ---- places
 
 place_of_position : (b : Bool) (k : ℕ) → unwrap_or (option_map (λ place. place + 1) (cond b (Some k) None)) 0 ≡ cond b (k + 1) 0
-place_of_position true k = refl
-place_of_position false k = refl
+place_of_position b k = grind (arith, nat_tests)
 
 place_is : (xs : List ℕ) (number : ℕ)
     → place_in xs number ≡ cond (nat_lt (position_or_len (λ other. other == number) xs) (length xs)) (position_or_len (λ other. other == number) xs + 1) 0
@@ -75,33 +57,25 @@ within : (number : ℕ) (xs : List ℕ) → position_or_len (λ other. other == 
 within number xs = prefix_len-le-length (λ other. not (other == number)) xs
 
 none_at : (b : Bool) (k : ℕ) → cond b (k + 1) 0 ≡ 0 → b ≡ false
-none_at true k is = absurd (omega arith)
-none_at false k is = refl
+none_at b k is = grind (arith, nat_tests)
 
 some_at : (b : Bool) (k : ℕ) → cond b (k + 1) 0 ≢ 0 → b ≡ true
-some_at true k is = refl
-some_at false k is = absurd (is refl)
+some_at b k is = grind (arith, nat_tests)
 
 -- a number without a place isn't there, and one with a place is
 pub not_there : (xs : List ℕ) (number : ℕ) → place_in xs number ≡ 0 → has number xs ≡ false
-not_there xs number is =
-    let k = position_or_len (λ other. other == number) xs in
-    has_position number xs ∙ none_at (nat_lt k (length xs)) k (sym (place_is xs number) ∙ is)
+not_there xs number is = grind (arith, nat_tests, position_or_len, has_position, none_at, nat_lt, length, place_is)
 
 pub is_there : (xs : List ℕ) (number : ℕ) → place_in xs number ≢ 0 → has number xs ≡ true
-is_there xs number is =
-    let k = position_or_len (λ other. other == number) xs in
-    has_position number xs ∙ some_at (nat_lt k (length xs)) k (λ none. is (place_is xs number ∙ none))
+is_there xs number is = grind (arith, nat_tests, position_or_len, has_position, some_at, nat_lt, length, place_is)
 
 new_at : (k l after whole : ℕ) (same : Bool) → k ≤ l → nat_lt k l ≡ false → after ≡ cond (k == l) (l + cond same 0 1) k → same ≡ true → whole ≡ l + 1
     → cond (nat_lt after whole) (after + 1) 0 ≡ l + 1
-new_at k l after whole true in_it past is same long = grind (arith, nat_tests)
-new_at k l after whole false in_it past is same long = cc
+new_at k l after whole same in_it x is y long = grind (arith, nat_tests)
 
 old_at : (k l after whole : ℕ) (same : Bool) → k ≤ l → after ≡ cond (k == l) (l + cond same 0 1) k → same ≡ false → whole ≡ l + 1
     → cond (nat_lt after whole) (after + 1) 0 ≡ cond (nat_lt k l) (k + 1) 0
-old_at k l after whole true in_it is same long = cc
-old_at k l after whole false in_it is same long = grind (arith, nat_tests)
+old_at k l after whole same in_it is x long = grind (arith, nat_tests)
 
 one_longer : (xs : List ℕ) (number : ℕ) → length (xs ++ number ∷ []) ≡ length xs + 1
 one_longer xs number = length-append xs (number ∷ [])
@@ -117,58 +91,29 @@ new_place xs number none =
 
 -- and leaves the others' places as they are
 pub old_place : (xs : List ℕ) (number last : ℕ) → number ≢ last → place_in (xs ++ last ∷ []) number ≡ place_in xs number
-old_place xs number last differs =
-    place_is (xs ++ last ∷ []) number
-    ∙ old_at (position_or_len (λ other. other == number) xs) (length xs) (position_or_len (λ other. other == number) (xs ++ last ∷ []))
-    (length (xs ++ last ∷ [])) (last == number)
-    (within number xs) (position_or_len_push (λ other. other == number) xs last) (grind (arith, nat_tests)) (one_longer xs last)
-    ∙ sym (place_is xs number)
+old_place xs number last differs = grind (arith, nat_tests, place_is, old_at, position_or_len, length, position_or_len_push, one_longer)
 
 -- a step that meets no node again gives none
 pub other_step : (walk : List Step) (step : Step) (shared : ℕ) (places : List ℕ) → node_met_again step ≡ None → Places walk shared places
     → Places (walk ++ step ∷ []) shared places
-other_step walk step shared places none before =
-    let same = shared_same walk step none in record {
-      counted = before.counted ∙ ap length (sym same);
-      given = record { placed = λ number first last. before.given.placed number first last ∙ ap (λ (numbers : List ℕ). place_in numbers number) (sym same) };
-    }
+other_step walk step shared places none before = grind (arith, nat_tests, shared_same, length, place_in)
 
 -- nor does one that meets a node of a place
 pub met_before : (walk : List Step) (met shared : ℕ) (places : List ℕ) → 1 ≤ met → met ≤ length places → get_or places (met - 1) 0 ≢ 0
     → Places walk shared places → Places (walk ++ meets_again met ∷ []) shared places
 met_before walk met shared places first last is before =
-    let numbers = shared_nodes walk in
-    let there : has met numbers ≡ true = is_there numbers met (λ none. is (before.given.placed met first last ∙ none)) in
-    let same : shared_nodes (walk ++ meets_again met ∷ []) ≡ numbers = shared_more walk met ∙ ap (λ (b : Bool). numbers ++ cond b [] (met ∷ [])) there
-    ∙ append-nil numbers in record {
-      counted = before.counted ∙ ap length (sym same);
-      given = record { placed = λ number low high. before.given.placed number low high ∙ ap (λ (all : List ℕ). place_in all number) (sym same) };
-    }
+    grind (arith, nat_tests, shared_nodes, has, is_there, shared_more, cond, append-nil, length, place_in, before.given.placed met first last)
 
 -- before the walk no node has a place
 pub none_placed : (count : ℕ) (places : List ℕ) → places ≡ replicate count 0 → Places [] 0 places
-none_placed count places zeros =
-    record {
-      counted = refl;
-      given = record {
-        placed = λ number first last.
-            let inside : number - 1 < count = omega (arith, first, last, ap length zeros, length-replicate {A = ℕ} count 0) in
-            ap (λ (numbers : List ℕ). get_or numbers (number - 1) 0) zeros ∙ get_or-replicate count (number - 1) 0 0 inside;
-      };
-    }
+none_placed count places zeros = grind (arith, nat_tests, length, length-replicate, get_or, get_or-replicate)
 
 -- each place, once a node has the next
 one_placed : (same : Bool) (numbers places : List ℕ) (met shared number : ℕ) → (number == met) ≡ same → 1 ≤ met → met ≤ length places → 1 ≤ number
     → has met numbers ≡ false → shared ≡ length numbers → get_or places (number - 1) 0 ≡ place_in numbers number
     → get_or (set places (met - 1) (shared + 1)) (number - 1) 0 ≡ place_in (numbers ++ met ∷ []) number
-one_placed true numbers places met shared number same first last low none counted given =
-    let is : number ≡ met = grind (arith, nat_tests) in
-    let inside : met - 1 < length places = omega arith in
-    rw is (get_or-set_same places (met - 1) (shared + 1) 0 inside ∙ ap (λ (n : ℕ). n + 1) counted ∙ sym (new_place numbers met none))
-one_placed false numbers places met shared number differs first last low none counted given =
-    let other : number ≢ met = grind (arith, nat_tests) in
-    let elsewhere : number - 1 ≢ met - 1 = omega arith in
-    get_or-set_other places (met - 1) (number - 1) (shared + 1) 0 elsewhere ∙ given ∙ sym (old_place numbers number met other)
+one_placed same numbers places met shared number differs first last low x counted given =
+    grind (arith, nat_tests, length, get_or-set_same, new_place, get_or-set_other, old_place)
 
 -- a node without a place gets the next
 pub met_first : (walk : List Step) (met shared : ℕ) (places : List ℕ) → 1 ≤ met → met ≤ length places → get_or places (met - 1) 0 ≡ 0
@@ -190,8 +135,7 @@ met_first walk met shared places first last is before =
 
 option_anchor : (found : Option ℕ)
     → option_map (λ place. numbered_name (place + 1)) found ≡ anchor_of_place (unwrap_or (option_map (λ place. place + 1) found) 0)
-option_anchor None = refl
-option_anchor (Some place) = rw add-one
+option_anchor found = grind (arith, nat_tests, add-one)
 
 -- a node's anchor is that of its place
 pub anchor_placed : (walk : List Step) (number : ℕ) → anchor_of walk number ≡ anchor_of_place (place_in (shared_nodes walk) number)
@@ -227,32 +171,25 @@ whole_slice len written old same = ap (λ (n : ℕ). take n (written ++ drop (le
 -- ---- a node that a walk meets again is shared
 
 has_behind : (first : Option ℕ) (number : ℕ) (rest : List ℕ) → has number rest ≡ true → has number (cons_option first rest) ≡ true
-has_behind None number rest is = is
-has_behind (Some other) number rest is = grind (arith, nat_tests)
+has_behind first number rest is = grind (arith, nat_tests)
 
 has_met : (walk : List Step) (index number : ℕ) (default : Step) → index < length walk → get_or walk index default ≡ meets_again number
     → has number (filter_map node_met_again walk) ≡ true
 has_met [] index number default inside is = absurd (omega arith)
-has_met (step ∷ walk) zero number default inside is =
-    let first : has number (number ∷ filter_map node_met_again walk) ≡ true = grind (arith, nat_tests) in
-    subst (λ (met : Step). has number (filter_map node_met_again (met ∷ walk)) ≡ true) (sym is) first
+has_met (step ∷ walk) zero number default inside is = grind (arith, nat_tests, has, filter_map, node_met_again)
 has_met (step ∷ walk) (suc index) number default inside is =
     has_behind (node_met_again step) number (filter_map node_met_again walk) (has_met walk index number default (omega arith) is)
 
 some_place : (b : Bool) (k : ℕ) → b ≡ true → 0 < cond b (k + 1) 0
-some_place true k is = omega arith
-some_place false k is = cc
+some_place b k is = grind (arith, nat_tests)
 
 has_place : (numbers : List ℕ) (number : ℕ) → has number numbers ≡ true → 0 < place_in numbers number
-has_place numbers number is =
-    let k = position_or_len (λ other. other == number) numbers in
-    subst (λ (n : ℕ). 0 < n) (sym (place_is numbers number)) (some_place (nat_lt k (length numbers)) k (sym (has_position number numbers) ∙ is))
+has_place numbers number is = grind (arith, nat_tests, position_or_len, place_is, some_place, nat_lt, length, has_position)
 
 -- a node that is met again has a place
 pub met_has_place : (walk : List Step) (index number : ℕ) (default : Step) → index < length walk → get_or walk index default ≡ meets_again number
     → 0 < place_in (shared_nodes walk) number
-met_has_place walk index number default inside is =
-    has_place (shared_nodes walk) number (has_first number (filter_map node_met_again walk) ∙ has_met walk index number default inside is)
+met_has_place walk index number default inside is = grind (arith, nat_tests, has_place, shared_nodes, has_first, filter_map, node_met_again, has_met)
 
 -- each step of a walk is numbered, and its node has a rank if it is met again
 pub step_placed : (walk : List declared.Step) (count index : ℕ) (places : List ℕ) (default : declared.Step) → is_numbered count (map seen_step walk) ≡ true

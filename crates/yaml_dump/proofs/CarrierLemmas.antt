@@ -1,4 +1,5 @@
 -- The node that a name means, at each point of a walk.
+use Rattle.yaml_dump.proofs.Common.{nat_tests}
 use Rattle.yaml_base.proofs.Common.{suc, ℕ, ◌+◌, ◌<◌, ◌≤◌, ◌==◌, count_by, option_map, unwrap_or, Option, None, Some, length, Bool, cond, false, not, true, []}
 use Rattle.yaml_base.proofs.Common.{◌||◌, List, ◌++◌, ◌∷◌, refl, ◌≡◌, eq-eqb, eqb-true, append-nil, append_assoc, inl, inr, ap, subst, sym, ◌∙◌, arith, Text}
 use Rattle.yaml_base.proofs.Common.{filter_map, filter_map-append, list_any, list_any-append, position, position_or_len, Graph, Step, enters, meets_again}
@@ -34,23 +35,13 @@ counted_twice number (step ∷ before) rest is =
     ]
 
 at_most_one : (b : Bool) → cond b 1 0 ≤ 1
-at_most_one true = omega arith
-at_most_one false = omega arith
+at_most_one b = grind (arith, nat_tests)
 
 -- a node that is entered wasn't before
 pub first_entry : (graph : Graph) (walk before rest : List Step) (number : ℕ) → IsOrderly graph walk → walk ≡ before ++ enters number ∷ rest
     → list_any (is_entry_of number) before ≡ false
 first_entry graph walk before rest number orderly is =
-    (elim (list_any (is_entry_of number) before) as (λ b. list_any (is_entry_of number) before ≡ b → b ≡ false) [
-      | false ↦ λ _. refl
-      | true ↦ λ there. absurd
-          (omega (
-            arith,
-            counted_twice number before rest there,
-            ap (count_by (is_entry_of number)) (sym is) ∙ orderly.once number,
-            at_most_one (list_any (is_entry_of number) walk),
-          ))
-    ]) refl
+    grind (arith, nat_tests, list_any, is_entry_of, counted_twice, count_by, at_most_one, orderly.once number)
 
 position_behind : (number : ℕ) (xs ys : List ℕ) → has number xs ≡ false → position_or_len (λ other. other == number) (xs ++ number ∷ ys) ≡ length xs
 position_behind number [] ys none = ap (λ (b : Bool). cond (not b) (1 + position_or_len (λ other. other == number) ys) 0) (eq-eqb number number refl)
@@ -76,15 +67,10 @@ pub entered_before : (number : ℕ) (earlier before rest : List Step) → Follow
     → list_any (is_entry_of number) (earlier ++ before) ≡ true
 entered_before number earlier [] rest follow = ap (list_any (is_entry_of number)) (append-nil earlier) ∙ follow.0
 entered_before number earlier (step ∷ before) rest follow =
-    ap (list_any (is_entry_of number)) (sym (append_assoc earlier (step ∷ []) before))
-    ∙ entered_before number (earlier ++ step ∷ []) before rest follow.1
+    grind (arith, nat_tests, list_any, is_entry_of, append_assoc, entered_before number (earlier ++ step ∷ []) before rest)
 
 again_there : (number : ℕ) (before rest : List Step) → has number (filter_map node_met_again (before ++ meets_again number ∷ rest)) ≡ true
-again_there number before rest =
-    ap (has number) (filter_map-append node_met_again before (meets_again number ∷ rest))
-    ∙ list_any-append (λ other. other == number) (filter_map node_met_again before) (number ∷ filter_map node_met_again rest)
-    ∙ ap (λ (b : Bool). has number (filter_map node_met_again before) || (b || has number (filter_map node_met_again rest))) (eq-eqb number number refl)
-    ∙ or-true (has number (filter_map node_met_again before))
+again_there number before rest = grind (arith, nat_tests, has, filter_map-append, node_met_again, list_any-append, filter_map, eq-eqb, or-true)
 
 -- ---- the number of a name
 
@@ -97,23 +83,14 @@ pub record HasPlace (walk : List Step) (number : ℕ) (name : Text) : Type 0 whe
 
 place_mapped : (walk : List Step) (number : ℕ) (found : Option ℕ) (name : Text) → position (λ other. other == number) (shared_nodes walk) ≡ found
     → option_map (λ place. numbered_name (place + 1)) found ≡ Some name → HasPlace walk number name
-place_mapped walk number None name at is = cc
-place_mapped walk number (Some place) name at is =
-    let stands = position-Some (λ other. other == number) (shared_nodes walk) place 0 at in
-    record {
-      place = place;
-      is = (let same : name ≡ numbered_name (place + 1) = cc in same);
-      within = stands.0;
-      number_is = eqb-true (get_or (shared_nodes walk) place 0) number stands.1;
-    }
+place_mapped walk number found name at is = grind (arith, nat_tests, position-Some, shared_nodes, numbered_name, eqb-true, get_or)
 
 pub place_of_name : (walk : List Step) (number : ℕ) (name : Text) → anchor_of walk number ≡ Some name → HasPlace walk number name
 place_of_name walk number name is = place_mapped walk number (position (λ other. other == number) (shared_nodes walk)) name refl is
 
 name_number : (walk : List Step) (number : ℕ) (name : Text) → length (shared_nodes walk) ≤ largest_usize → (at : HasPlace walk number name)
     → number_in_name name ≡ at.place + 1
-name_number walk number name few at =
-    ap number_in_name at.is ∙ name_read (at.place + 1) (omega (arith, at.within, few))
+name_number walk number name few at = grind (arith, nat_tests, number_in_name, name_read)
 
 -- ---- who carries a name
 
@@ -132,16 +109,7 @@ carries_none graph carriers room few = record { room = room; few = few; each = �
 -- if no node is entered
 pub carries_on : (graph : Graph) (before : List Step) (step : Step) (carriers : List ℕ) → ((number : ℕ) → is_entry_of number step ≡ false)
     → Carries graph before carriers → Carries graph (before ++ step ∷ []) carriers
-carries_on graph before step carriers none carries =
-    record {
-      room = carries.room;
-      few = carries.few;
-      each = λ number name there is.
-          carries.each number name
-          (sym (list_any-append (is_entry_of number) before (step ∷ [])
-          ∙ ap (λ (b : Bool). list_any (is_entry_of number) before || (b || false)) (none number)
-          ∙ or-false (list_any (is_entry_of number) before)) ∙ there) is;
-    }
+carries_on graph before step carriers none carries = grind (arith, nat_tests, list_any-append, is_entry_of, list_any, or-false)
 
 -- the name of a node that is entered now leads to it
 now_carried : (graph : Graph) (carriers : List ℕ) (number place other : ℕ) (anchor : Option Text) (name : Text)

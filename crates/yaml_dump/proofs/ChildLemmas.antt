@@ -1,7 +1,7 @@
 -- Children by their places: pairs take two places each, and whole graphs name their nodes.
 use Rattle.yaml_dump.proofs.Common.{suc, zero, ℕ, ◌%◌, ◌+◌, ◌/◌, ◌<◌, ◌^◌, ◌≤◌, IfSome, Option, None, Some, nat_le, length, slice_index_or as get_or, Bool}
-use Rattle.yaml_dump.proofs.Common.{true, ◌&&◌, List, [], map, ◌∷◌, refl, ◌≡◌, ap, sym, ◌∙◌, arith, list_all, slice_get, GraphNode, Graph, children, is_whole}
-use Rattle.yaml_dump.proofs.Common.{seen_number, IsNamed}
+use Rattle.yaml_dump.proofs.Common.{true, List, [], map, ◌∷◌, refl, ◌≡◌, ap, sym, ◌∙◌, arith, list_all, slice_get, GraphNode, Graph, children, is_whole}
+use Rattle.yaml_dump.proofs.Common.{seen_number, IsNamed, nat_tests}
 use Rattle.yaml_base.proofs.Common.{leb-true, numbers_held, numbers_in}
 use Rattle.std.proofs.lemmas.Option.{slice_get_within, slice_get_past}
 use Rattle.std.proofs.lemmas.Bool.{and_parts}
@@ -30,8 +30,7 @@ unfolding numbers_seen
 key_at [] half default within = absurd (omega arith)
 key_at (pair ∷ pairs) zero default within = refl
 key_at (pair ∷ pairs) (suc half) default within =
-    let two : suc half + suc half ≡ suc (suc (half + half)) = omega arith in
-    ap (slice_get (seen_number pair.key ∷ seen_number pair.value ∷ numbers_seen pairs)) two ∙ key_at pairs half default (omega arith)
+    grind (arith, nat_tests, slice_get, seen_number, numbers_seen, key_at pairs half default, suc (suc (half + half)), suc (half + half))
 
 -- and its value next to it
 value_at : (pairs : List yaml_node_pair_t) (half : ℕ) (default : yaml_node_pair_t) → half < length pairs
@@ -48,27 +47,20 @@ pub key_seen : (pairs : List yaml_node_pair_t) (place : ℕ) (pair : yaml_node_p
     → place % 2 ≡ 0
     → slice_get (pair_numbers (map seen_pair pairs)) place ≡ Some (seen_number pair.key)
 unfolding numbers_seen
-key_seen pairs place pair within is even =
-    let halves : place ≡ place / 2 + place / 2 = omega arith in
-    ap (slice_get (numbers_seen pairs)) halves ∙ key_at pairs (place / 2) pair within ∙ ap (λ (p : yaml_node_pair_t). Some (seen_number p.key)) (sym is)
+key_seen pairs place pair within is even = grind (arith, nat_tests, slice_get, numbers_seen, key_at, seen_number)
 
 -- at an odd one
 pub value_seen : (pairs : List yaml_node_pair_t) (place : ℕ) (pair : yaml_node_pair_t) → place / 2 < length pairs → pair ≡ get_or pairs (place / 2) pair
     → (place % 2 ≡ 0 → ⊥)
     → slice_get (pair_numbers (map seen_pair pairs)) place ≡ Some (seen_number pair.value)
 unfolding numbers_seen
-value_seen pairs place pair within is odd =
-    let halves : place ≡ suc (place / 2 + place / 2) = omega arith in
-    ap (slice_get (numbers_seen pairs)) halves ∙ value_at pairs (place / 2) pair within ∙ ap (λ (p : yaml_node_pair_t). Some (seen_number p.value)) (sym is)
+value_seen pairs place pair within is odd = grind (arith, nat_tests, slice_get, numbers_seen, value_at, seen_number)
 
 -- a place that can be counted on from: a list of pairs fits in memory
 pub pairs_countable : (pairs : List yaml_node_pair_t) (place : ℕ) (found : Option ℕ) → length pairs < 2 ^ 63
     → found ≡ slice_get (pair_numbers (map seen_pair pairs)) place → IfSome found (λ _. place + 1 < 2 ^ 64)
 unfolding numbers_seen
-pairs_countable pairs place None small is = tt
-pairs_countable pairs place (Some number) small is =
-    let within : place < length (numbers_seen pairs) = slice_get_within (numbers_seen pairs) place number (sym is) in
-    omega (arith, length-numbers_seen pairs)
+pairs_countable pairs place found small is = grind (arith, nat_tests, length, numbers_seen, slice_get_within, length-numbers_seen)
 
 -- a test of all elements holds for the one at a place
 all_found : {X : Type 0} (test : X → Bool) (xs : List X) (place : ℕ) (x : X) → list_all test xs ≡ true → slice_get xs place ≡ Some x → test x ≡ true
@@ -80,16 +72,9 @@ all_found test (first ∷ xs) (suc place) x all is = all_found test xs place x (
 number_named : (graph : Graph) (before place child : ℕ) (found : Option GraphNode) → is_whole graph ≡ true → slice_get graph.nodes before ≡ found
     → Some child ≡ slice_get (numbers_in found) place
     → IsNamed (length graph.nodes) child
-number_named graph before place child None whole known is = cc
-number_named graph before place child (Some node) whole known is =
-    let within = λ (number : ℕ). nat_le 1 number && nat_le number (length graph.nodes) in
-    let held = all_found (λ (other : GraphNode). list_all within (numbers_held other.held)) graph.nodes before node whole known in
-    let both = and_parts (nat_le 1 child) (nat_le child (length graph.nodes)) (all_found within (numbers_held node.held) place child held (sym is)) in
-    record { first = leb-true 1 child both.0; last = leb-true child (length graph.nodes) both.1 }
+number_named graph before place child found x known is = grind (arith, nat_tests, nat_le, length, all_found, list_all, numbers_held, and_parts, leb-true)
 
 -- children of a whole graph's nodes are nodes of it
 pub child_named : (graph : Graph) (number place : ℕ) (found : Option ℕ) → is_whole graph ≡ true → found ≡ slice_get (children graph number) place
     → IfSome found (λ child. IsNamed (length graph.nodes) child)
-child_named graph number place None whole is = tt
-child_named graph zero place (Some child) whole is = cc
-child_named graph (suc before) place (Some child) whole is = number_named graph before place child (slice_get graph.nodes before) whole refl is
+child_named graph number place found x is = grind (arith, nat_tests, number_named, slice_get)

@@ -1,4 +1,5 @@
 -- The view of the composer's lists.
+use Rattle.yaml_dump.proofs.Common.{nat_tests}
 use Rattle.yaml_base.proofs.Common.{suc, ℕ, ℤ, ◌+◌, ◌*◌, ◌<◌, ◌≤◌, length, replicate, drop, slice_index_or as get_or, List, [], map, ◌∷◌, ◌++◌, refl, ◌≡◌, ap}
 use Rattle.yaml_base.proofs.Common.{sym, ◌∙◌, arith, pos, zero, map-append, append_assoc, append-nil, length-map}
 use Rattle.yaml_base.specs.{declared.nodes.yaml_node_pair_t.yaml_node_pair_t, Seen.seen_event, declared.events.yaml_event_t.yaml_event_t}
@@ -13,8 +14,7 @@ use Rattle.yaml_dump.specs.{SeenComposer.seen_unended, declared.composer.Unended
 
 pub carrier_set : (carriers : List ℤ) (number : ℕ) (carrier : ℤ) → FitsSigned w32 carrier
     → map seen_number (slice_set carriers number (to_z w32 (of_z w32 carrier))) ≡ slice_set (map seen_number carriers) number (seen_number carrier)
-carrier_set carriers number carrier fits =
-    ap (λ (z : ℤ). map seen_number (slice_set carriers number z)) (to_z-of_z w32 carrier fits) ∙ map-set seen_number carriers number carrier
+carrier_set carriers number carrier fits = grind (arith, nat_tests, map, seen_number, slice_set, to_z-of_z, w32, map-set)
 
 zeros_seen : (count : ℕ) → map seen_number (replicate count (pos 0)) ≡ replicate count 0
 zeros_seen zero = refl
@@ -24,11 +24,7 @@ pub starts : {A : Type 0} (count : ℕ) (nodes : List (yaml_node_t A)) (unended 
     → carriers ≡ replicate count (pos 0)
     → ◌≡◌ {A = Composition} (record { nodes = map seen_node nodes; unended = reverse (map seen_unended unended); carriers = map seen_number carriers })
     (nothing_composed count)
-starts count nodes unended carriers none no_unended zeros =
-    ap {B = Composition} (λ list. record { nodes = map seen_node list; unended = reverse (map seen_unended unended); carriers = map seen_number carriers }) none
-    ∙ ap {B = Composition} (λ list. record { nodes = []; unended = reverse (map seen_unended list); carriers = map seen_number carriers }) no_unended
-    ∙ ap {B = Composition} (λ list. record { nodes = []; unended = []; carriers = map seen_number list }) zeros
-    ∙ ap {B = Composition} (λ list. record { nodes = []; unended = []; carriers = list }) (zeros_seen count)
+starts count nodes unended carriers none no_unended zeros = grind (arith, nat_tests, map, seen_node, reverse, seen_unended, seen_number, zeros_seen)
 
 pub pairs_more : (numbers : List ℤ) (place : ℕ) (d : ℤ) → 2 * place + 1 < length numbers
     → pairs_of_list (map seen_number (drop (2 * place) numbers))
@@ -44,31 +40,19 @@ pairs_more numbers place d within =
     ∙ ap (λ (n : ℕ). get_or numbers (2 * place) d ∷ get_or numbers (2 * place + 1) d ∷ drop n numbers) last)
 
 pub few_paired : (numbers : List ℕ) → length numbers ≤ 1 → pairs_of_list numbers ≡ []
-few_paired [] few = refl
-few_paired (number ∷ []) few = refl
-few_paired (number ∷ other ∷ rest) few = absurd (omega (arith, few))
+few_paired numbers few = grind (arith, nat_tests)
 
 pub pairs_kept : (numbers : List ℤ) (before now : List yaml_node_pair_t) (place : ℕ) (pair : yaml_node_pair_t) → now ≡ before ++ pair ∷ []
     → pairs_of_list (map seen_number (drop (2 * place) numbers)) ≡ seen_pair pair ∷ pairs_of_list (map seen_number (drop (2 * (place + 1)) numbers))
     → map seen_pair before ++ pairs_of_list (map seen_number (drop (2 * place) numbers)) ≡ pairs_of_list (map seen_number numbers)
     → map seen_pair now ++ pairs_of_list (map seen_number (drop (2 * (place + 1)) numbers)) ≡ pairs_of_list (map seen_number numbers)
-pairs_kept numbers before now place pair is next so_far =
-    let rest = pairs_of_list (map seen_number (drop (2 * (place + 1)) numbers)) in
-    ap (λ list. map seen_pair list ++ rest) is
-    ∙ ap (λ list. list ++ rest) (map-append seen_pair before (pair ∷ []))
-    ∙ append_assoc (map seen_pair before) (seen_pair pair ∷ []) rest
-    ∙ ap (λ list. map seen_pair before ++ list) (sym next)
-    ∙ so_far
+pairs_kept numbers before now place pair is next so_far = grind (arith, nat_tests, pairs_of_list, map, seen_number, drop, seen_pair, map-append, append_assoc)
 
 pub all_paired : (numbers : List ℤ) (pairs : List yaml_node_pair_t) (place : ℕ) → length numbers ≤ 2 * place + 1
     → map seen_pair pairs ++ pairs_of_list (map seen_number (drop (2 * place) numbers)) ≡ pairs_of_list (map seen_number numbers)
     → map seen_pair pairs ≡ pairs_of_list (map seen_number numbers)
 all_paired numbers pairs place end so_far =
-    let left : length (map seen_number (drop (2 * place) numbers)) ≤ 1 =
-    omega (arith, length-map (drop (2 * place) numbers) seen_number, length-drop (2 * place) numbers, end) in
-    sym (append-nil (map seen_pair pairs))
-    ∙ ap (λ list. map seen_pair pairs ++ list) (sym (few_paired (map seen_number (drop (2 * place) numbers)) left))
-    ∙ so_far
+    grind (arith, nat_tests, length, map, seen_number, drop, length-map, length-drop, append-nil, seen_pair, few_paired)
 
 at_mapped : {A : Type 0} (nodes : List (yaml_node_t A)) (place : ℕ) (d : yaml_node_t A) → place < length nodes
     → node_at_place (map seen_node nodes) place ≡ seen_node (get_or nodes place d)
@@ -79,17 +63,12 @@ at_mapped (node ∷ nodes) (suc place) d within = at_mapped nodes place d (omega
 pub filled_so : {A : Type 0} (nodes : List (yaml_node_t A)) (place : ℕ) (node now : yaml_node_t A) (children : List ℕ) → place < length nodes
     → node ≡ get_or nodes place node → seen_node now ≡ node_with children (seen_node node)
     → map seen_node (slice_set nodes place now) ≡ filled children place (map seen_node nodes)
-filled_so nodes place node now children within is with_children =
-    map-set seen_node nodes place now
-    ∙ ap (slice_set (map seen_node nodes) place)
-    (with_children ∙ ap (λ (n : yaml_node_t _). node_with children (seen_node n)) is ∙ ap (node_with children) (sym (at_mapped nodes place node within)))
+filled_so nodes place node now children within is with_children = grind (arith, nat_tests, map-set, seen_node, slice_set, map, node_with, at_mapped)
 
 pub pair_seen : (key value : ℤ) → FitsSigned w32 key → FitsSigned w32 value
     → ◌≡◌ {A = NumberPair} (record { key = seen_number key; value = seen_number value })
     (seen_pair (record { key = to_z w32 (of_z w32 key); value = to_z w32 (of_z w32 value) }))
-pair_seen key value key_fits value_fits =
-    ap {B = NumberPair} (λ (z : ℤ). record { key = seen_number z; value = seen_number value }) (sym (to_z-of_z w32 key key_fits))
-    ∙ ap {B = NumberPair} (λ (z : ℤ). record { key = seen_number (to_z w32 (of_z w32 key)); value = seen_number z }) (sym (to_z-of_z w32 value value_fits))
+pair_seen key value key_fits value_fits = grind (arith, nat_tests, seen_number, to_z-of_z, w32, to_z, of_z)
 
 -- after one more event of a list
 pub one_more : {A : Type 0} (events : List (yaml_event_t A)) (place : ℕ) (event : yaml_event_t A) (before now start : Composition) → place < length events

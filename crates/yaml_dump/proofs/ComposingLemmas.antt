@@ -1,16 +1,17 @@
 -- The document that a list of events composes.
-use Rattle.yaml_base.proofs.Common.{suc, zero, ℕ, ℤ, pos, negsuc, ◌+◌, ◌-◌, ◌≤◌, ◌&&◌, nat_le, option_map, Option, None, Some, length, Bool, cond, true, not}
+use Rattle.yaml_dump.proofs.Common.{nat_tests}
+use Rattle.yaml_base.proofs.Common.{ℕ, ℤ, pos, negsuc, ◌+◌, ◌-◌, ◌≤◌, ◌&&◌, nat_le, option_map, Option, None, Some, length, Bool, cond, true, not}
 use Rattle.yaml_base.proofs.Common.{slice_index_or as get_or, List, [], map, ◌++◌, ◌∷◌, refl, ◌≡◌, and_parts, ap, sym, ◌∙◌, arith, length-append, length-map}
-use Rattle.yaml_base.proofs.Common.{flat_map, list_all, if◌then◌else◌, Event, DocumentStart, document_start, document_end, Graph, GraphNode, numbers_held, fold}
+use Rattle.yaml_base.proofs.Common.{flat_map, list_all, Event, DocumentStart, document_start, document_end, Graph, GraphNode, numbers_held, fold}
 use Rattle.yaml_base.proofs.Common.{is_whole, IsWholeGraph, document_event_list, step_events, numbers_of_pairs, all_numbers, first_outside, option_or}
 use Rattle.std.proofs.{Math.ListN.get_or-map, lemmas.List.Folds.find-append, Math.Seq.get_or-append_seam, lemmas.Result.IfOk-weaker}
 use Rattle.std.specs.Prelude.{IfOk, Result}
-use Rattle.yaml_base.specs.Seen.{seen_event, seen_version, seen_directive}
+use Rattle.yaml_base.specs.Seen.{seen_event}
 use Rattle.yaml_base.specs.{Settings.largest_usize, declared.events.yaml_event_t.yaml_event_t, declared.nodes.yaml_node_data_t.yaml_node_data_t}
 use Rattle.yaml_base.specs.{declared.nodes.yaml_node_pair_t.yaml_node_pair_t, declared.nodes.yaml_node_t.yaml_node_t, graphs.Meetings.graph_steps}
-use Rattle.yaml_base.specs.{declared.directives.yaml_tag_directive_t.yaml_tag_directive_t, declared.documents.yaml_document_t.yaml_document_t}
-use Rattle.yaml_base.specs.{declared.directives.yaml_version_directive_t.yaml_version_directive_t, graphs.Documents.graph_of}
-use Rattle.yaml_base.specs.graphs.SeenNodes.{seen_number, seen_pair, seen_held, seen_node, names_node, numbers_of, seen_document}
+use Rattle.yaml_base.specs.{declared.documents.yaml_document_t.yaml_document_t}
+use Rattle.yaml_base.specs.{graphs.Documents.graph_of}
+use Rattle.yaml_base.specs.graphs.SeenNodes.{seen_number, seen_pair, seen_held, seen_node, names_node, numbers_of}
 use Rattle.yaml_dump.specs.{Composing.seen_heading, declared.composing.Heading.Heading, InOrder.in_order}
 use Rattle.yaml_dump.specs.Composition.{composed, nothing_composed}
 use Rattle.yaml_dump.proofs.{InOrderLemmas.walk_of, CompositionRuns.document_composes}
@@ -23,8 +24,7 @@ none_outside : (count : ℕ) (numbers : List ℤ) → list_all (λ number. nat_l
 none_outside count [] all = refl
 none_outside count (negsuc n ∷ rest) all = cc
 none_outside count (pos n ∷ rest) all =
-    let both = and_parts (nat_le 1 n && nat_le n count) (list_all (λ number. nat_le 1 number && nat_le number count) (map seen_number rest)) all in
-    ap (λ (b : Bool). cond (not b) (Some (pos n)) (first_outside count rest)) both.0 ∙ none_outside count rest both.1
+    grind (arith, nat_tests, and_parts, nat_le, list_all, map, seen_number, cond, not, first_outside, none_outside count rest, pos n)
 
 pairs_seen : (pairs : List yaml_node_pair_t)
     → flat_map (λ pair. pair.key ∷ pair.value ∷ []) (map seen_pair pairs) ≡ map seen_number (numbers_of_pairs pairs)
@@ -64,13 +64,11 @@ inside graph = flat_map (step_events graph (graph_steps graph)) (graph_steps gra
 
 document_is : (graph : Graph) → IsWholeGraph graph
     → document_event_list graph ≡ document_start graph.start ∷ (inside graph ++ document_end graph.end_implicit ∷ [])
-document_is graph is =
-    ap (λ (none : Bool). if none then [] else document_start graph.start ∷ (inside graph ++ document_end graph.end_implicit ∷ [])) is.has_nodes
+document_is graph is = grind (arith, nat_tests)
 
 pub some_events : {A : Type 0} (graph : Graph) (events : List (yaml_event_t A)) → IsWholeGraph graph → document_event_list graph ≡ map seen_event events
     → length events ≡ 0 → ⊥
-some_events graph events is same none =
-    omega (arith, none, sym (length-map events seen_event) ∙ ap length (sym same ∙ document_is graph is))
+some_events graph events is same none = grind (arith, nat_tests, length-map, seen_event, length, document_is)
 
 pub first_is : {A : Type 0} (graph : Graph) (events : List (yaml_event_t A)) (event : yaml_event_t A) → IsWholeGraph graph
     → document_event_list graph ≡ map seen_event events → event ≡ get_or events 0 event → seen_event event ≡ document_start graph.start
@@ -104,9 +102,7 @@ pub nodes_are : {A : Type 0} (graph : Graph) (events : List (yaml_event_t A)) (n
     → document_event_list graph ≡ map seen_event events → length events ≤ largest_usize
     → map seen_node nodes ≡ (fold composed (nothing_composed (length events)) (map seen_event events)).nodes → map seen_node nodes ≡ (in_order graph).nodes
 nodes_are graph events nodes is same fits composes =
-    composes
-    ∙ ap (λ (list : List Event). (fold composed (nothing_composed (length events)) list).nodes) (sym same)
-    ∙ document_composes graph (length events) is (omega (arith, ap length same, length-map events seen_event)) fits
+    grind (arith, nat_tests, fold, composed, nothing_composed, length, document_composes, length-map, seen_event)
 
 pub whole_in_order : (graph : Graph) → IsWholeGraph graph → is_whole (in_order graph) ≡ true
 whole_in_order graph is = (in_order_document graph (walk_of graph is)).whole
@@ -118,20 +114,13 @@ none_other graph nodes number whole is outside = let no : None ≡ Some number =
 
 heading_is : {A : Type 0} (found : Option (Heading A)) (heading : Heading A) (start : DocumentStart) → option_map seen_heading found ≡ Some start
     → found ≡ Some heading → seen_heading heading ≡ start
-heading_is found heading start is at =
-    let both : Some (seen_heading heading) ≡ Some start = sym (ap (option_map seen_heading) at) ∙ is in
-    let same : seen_heading heading ≡ start = cc in
-    same
+heading_is found heading start is at = grind (arith, nat_tests, seen_heading, option_map)
 
 end_is : (found : Option Bool) (end last : Bool) → found ≡ Some last → found ≡ Some end → end ≡ last
-end_is found end last is at =
-    let both : Some end ≡ Some last = sym at ∙ is in
-    let same : end ≡ last = cc in
-    same
+end_is found end last is at = grind (arith, nat_tests)
 
 none_first : (count : ℕ) → (count ≡ 0 → ⊥) → count - 1 + 1 ≡ count
-none_first zero some = absurd (some refl)
-none_first (suc count) some = omega arith
+none_first count some = grind (arith, nat_tests)
 
 -- the place of the last event
 pub last_place : {A : Type 0} (graph : Graph) (events : List (yaml_event_t A)) → IsWholeGraph graph → document_event_list graph ≡ map seen_event events
@@ -167,10 +156,7 @@ composed_so events first last found heading ended end nodes answer fits at also 
 -- a document that was found has the graph that is known of it
 pub graph_found : {A : Type 0} (found : Option (yaml_document_t A)) (document : yaml_document_t A) (graph : Graph) → option_map graph_of found ≡ Some graph
     → found ≡ Some document → graph_of document ≡ graph
-graph_found found document graph is at =
-    let both : Some (graph_of document) ≡ Some graph = sym (ap (option_map graph_of) at) ∙ is in
-    let same : graph_of document ≡ graph = cc in
-    same
+graph_found found document graph is at = grind (arith, nat_tests, graph_of, option_map)
 
 -- and has its events
 pub events_found : {A : Type 0} (found : Option (yaml_document_t A)) (document : yaml_document_t A) (graph : Graph) (events dumped : List Event)

@@ -1,5 +1,6 @@
 -- The events of a document compose its nodes, in the order of its walk.
-use Rattle.yaml_base.proofs.Common.{suc, ℕ, ◌+◌, unwrap_or, Option, Some, length, List, [], map, ◌++◌, ◌∷◌, refl, ◌≡◌, length-append, append-nil, append_assoc}
+use Rattle.yaml_dump.proofs.Common.{nat_tests}
+use Rattle.yaml_base.proofs.Common.{suc, ℕ, ◌+◌, unwrap_or, Some, length, List, [], map, ◌++◌, ◌∷◌, refl, ◌≡◌, length-append, append-nil, append_assoc}
 use Rattle.yaml_base.proofs.Common.{ap, subst, sym, ◌∙◌, arith, map-append, flat_map, flat_map-append, filter_map-append, fold, Text, Graph, GraphNode, Held}
 use Rattle.yaml_base.proofs.Common.{NumberPair, scalar_held, sequence_held, mapping_held, numbers_held, Step, enters, leaves, meets_again, anchor_of, children}
 use Rattle.yaml_base.proofs.Common.{node_numbered, alias, opening_event_of, opening_events, closing_event_of, closing_events, step_events, PlacedNodes}
@@ -30,22 +31,14 @@ pub record Composes (graph : Graph) (before steps : List Step) (children : List 
   pub stands : StandsBehind graph (before ++ steps) next
 
 adding_none : (outer : List Unended) → adding [] outer ≡ outer
-adding_none [] = refl
-adding_none (collection ∷ outer) = ap (λ (numbers : List ℕ). record { place = collection.place; children = numbers } ∷ outer) (append-nil collection.children)
+adding_none outer = grind (arith, nat_tests, children, append-nil)
 
 adding_more : (first second : List ℕ) (outer : List Unended) → adding second (adding first outer) ≡ adding (first ++ second) outer
-adding_more first second [] = refl
-adding_more first second (collection ∷ outer) =
-    ap (λ (numbers : List ℕ). record { place = collection.place; children = numbers } ∷ outer) (append_assoc collection.children first second)
+adding_more first second outer = grind (arith, nat_tests, children, append_assoc)
 
 pub composes_none : (graph : Graph) (before : List Step) (standing : Composition) → StandsBehind graph before standing
     → Composes graph before [] [] standing standing
-composes_none graph before standing stands =
-    record {
-      nodes = sym (append-nil standing.nodes);
-      unended = sym (adding_none standing.unended);
-      stands = subst (λ (so_far : List Step). StandsBehind graph so_far standing) (sym (append-nil before)) stands;
-    }
+composes_none graph before standing stands = grind (arith, nat_tests, append-nil, adding_none)
 
 pub composes_then : (graph : Graph) (before first second : List Step) (some others : List ℕ) (standing next last : Composition)
     → Composes graph before first some standing next → Composes graph (before ++ first) second others next last
@@ -92,14 +85,12 @@ paired_numbers : (place : ℕ → ℕ) (pairs : List NumberPair)
     → pairs_of_list (map place (flat_map (λ (pair : NumberPair). pair.key ∷ pair.value ∷ []) pairs))
     ≡ map (λ (pair : NumberPair). record { key = place pair.key; value = place pair.value }) pairs
 paired_numbers place [] = refl
-paired_numbers place (pair ∷ pairs) =
-    ap (λ (rest : List NumberPair). record { key = place pair.key; value = place pair.value } ∷ rest) (paired_numbers place pairs)
+paired_numbers place (pair ∷ pairs) = grind (arith, nat_tests, paired_numbers place pairs, place pair.key, place pair.value)
 
 -- with its children it is the node by other numbers
 filled_by : (place : ℕ → ℕ) (held : Held) → held_with (map place (numbers_held held)) (emptied held) ≡ renumber_children place held
-filled_by place (scalar_held value style) = refl
-filled_by place (sequence_held items style) = refl
 filled_by place (mapping_held pairs style) = ap (λ (numbers : List NumberPair). mapping_held numbers style) (paired_numbers place pairs)
+filled_by place _ = refl
 
 -- a node begins after the steps before
 begun_stands : (graph : Graph) (before after : List Step) (number : ℕ) (tag : Text) (held : Held) (standing : Composition) → IsOrderly graph (graph_steps graph)
@@ -131,8 +122,7 @@ left_stands graph before number standing next nodes carriers stands =
 -- the one node of an order
 one_in_order : (graph : Graph) (number : ℕ) (node : GraphNode) → node_numbered graph number ≡ Some node
     → nodes_in graph (order_of graph) (number ∷ []) ≡ node_by (number_in_order (order_of graph)) node ∷ []
-one_in_order graph number node is =
-    ap (λ (found : Option GraphNode). node_by (number_in_order (order_of graph)) (unwrap_or found (numbered_node graph 0)) ∷ []) is
+one_in_order graph number node is = grind (arith, nat_tests, node_by, number_in_order, order_of, unwrap_or, numbered_node)
 
 -- ---- scalars
 
@@ -169,22 +159,7 @@ ended_so : (first : List GraphNode) (tag : Text) (held : Held) (below : List Gra
     → ended next.unended next
     ≡ record { nodes = first ++ record { tag = tag; held = held_with children held } ∷ below; unended = outer; carriers = next.carriers }
 ended_so first tag held below children outer next nodes unended =
-    let bare : GraphNode = record { tag = tag; held = held } in
-    let all : next.nodes ≡ first ++ bare ∷ below = nodes ∙ append_assoc first (bare ∷ []) below in
-    ap (λ (open_ones : List Unended). ended open_ones next) unended
-    ∙ ap (λ (list : List GraphNode). record {
-      nodes = slice_set list (length first)
-          (record { tag = (node_at_place list (length first)).tag; held = held_with children (node_at_place list (length first)).held });
-      unended = outer;
-      carriers = next.carriers;
-    }) all
-    ∙ ap (λ (node : GraphNode). record {
-      nodes = slice_set (first ++ bare ∷ below) (length first) (record { tag = node.tag; held = held_with children node.held });
-      unended = outer;
-      carriers = next.carriers;
-    }) (at_seam first bare below)
-    ∙ ap (λ (list : List GraphNode). record { nodes = list; unended = outer; carriers = next.carriers })
-    (set-append_seam first bare below (record { tag = tag; held = held_with children held }))
+    grind (arith, nat_tests, append_assoc, ended, slice_set, length, node_at_place, held_with, at_seam, set-append_seam)
 
 -- after a collection that was opened, and its children
 pub collection_composes : (graph : Graph) (before below after : List Step) (number : ℕ) (tag : Text) (held : Held) (standing next : Composition)
@@ -239,22 +214,16 @@ behind graph part standing = fold composed standing (flat_map (step_events graph
 
 pub behind_both : (graph : Graph) (first second : List Step) (standing : Composition)
     → behind graph (first ++ second) standing ≡ behind graph second (behind graph first standing)
-behind_both graph first second standing =
-    ap (fold composed standing) (flat_map-append (step_events graph (graph_steps graph)) first second)
-    ∙ fold-append composed standing (flat_map (step_events graph (graph_steps graph)) first) (flat_map (step_events graph (graph_steps graph)) second)
+behind_both graph first second standing = grind (arith, nat_tests, fold, composed, flat_map-append, step_events, graph_steps, fold-append, flat_map)
 
 pub behind_entry : (graph : Graph) (number : ℕ) (node : GraphNode) (part : List Step) (standing : Composition) → node_numbered graph number ≡ Some node
     → behind graph (enters number ∷ part) standing
     ≡ behind graph part (composed standing (opening_event_of (anchor_of (graph_steps graph) number) node.tag node.held))
-behind_entry graph number node part standing is =
-    ap (λ (found : Option GraphNode). fold composed standing
-    (opening_events (anchor_of (graph_steps graph) number) found ++ flat_map (step_events graph (graph_steps graph)) part)) is
+behind_entry graph number node part standing is = grind (arith, nat_tests, fold, composed, opening_events, anchor_of, graph_steps, flat_map, step_events)
 
 pub behind_leave : (graph : Graph) (number : ℕ) (node : GraphNode) (standing : Composition) → node_numbered graph number ≡ Some node
     → behind graph (leaves number ∷ []) standing ≡ fold composed standing (closing_event_of node.held)
-behind_leave graph number node standing is =
-    ap (λ (found : Option GraphNode). fold composed standing (closing_events found ++ [])) is
-    ∙ ap (fold composed standing) (append-nil (closing_event_of node.held))
+behind_leave graph number node standing is = grind (arith, nat_tests, fold, composed, closing_events, append-nil, closing_event_of)
 
 pub none_below : (below : PlacedNodes) → numbers_at below ≡ [] → below ≡ none_placed
 none_below none_placed is = refl

@@ -1,5 +1,6 @@
 -- The events of a document compose the nodes that its walk enters.
-use Rattle.yaml_base.proofs.Common.{suc, ℕ, ◌<◌, ◌≤◌, ◌==◌, Option, None, Some, length, replicate, Bool, false, true, if◌then◌else◌, cond, not, List, [], map}
+use Rattle.yaml_dump.proofs.Common.{nat_tests}
+use Rattle.yaml_base.proofs.Common.{ℕ, ◌<◌, ◌≤◌, ◌==◌, Option, None, Some, length, replicate, Bool, if◌then◌else◌, cond, not, List, [], map}
 use Rattle.yaml_base.proofs.Common.{◌++◌, ◌∷◌, refl, ◌≡◌, length-append, append-nil, append_assoc, ap, subst, sym, ◌∙◌, arith, map-append, flat_map, filter}
 use Rattle.yaml_base.proofs.Common.{filter_map, fold, Text, Graph, GraphNode, Held, scalar_held, sequence_held, mapping_held, numbers_held, document_event_list}
 use Rattle.yaml_base.proofs.Common.{Step, enters, leaves, meets_again, anchor_of, shared_nodes, first_of_each, node_met_again, node_numbered, children, Event}
@@ -135,11 +136,7 @@ mutual
 
 filter_shorter : {X : Type 0} (test : X → Bool) (xs : List X) → length (filter test xs) ≤ length xs
 filter_shorter test [] = omega arith
-filter_shorter test (x ∷ xs) =
-    elim (test x) as (λ b. length (cond b (x ∷ filter test xs) (filter test xs)) ≤ suc (length xs)) [
-      | true ↦ omega (arith, filter_shorter test xs)
-      | false ↦ omega (arith, filter_shorter test xs)
-    ]
+filter_shorter test (x ∷ xs) = grind (arith, nat_tests, length, cond, filter, filter_shorter test xs, test x)
 
 firsts_shorter : (xs : List ℕ) → length (first_of_each xs) ≤ length xs
 firsts_shorter [] = omega arith
@@ -147,18 +144,8 @@ firsts_shorter (x ∷ xs) = omega (arith, firsts_shorter xs, filter_shorter (λ 
 
 again_fewer : (graph : Graph) (walk part : List Step) → length (filter_map node_met_again part) ≤ length (flat_map (step_events graph walk) part)
 again_fewer graph walk [] = omega arith
-again_fewer graph walk (enters number ∷ part) =
-    omega (
-      arith,
-      again_fewer graph walk part,
-      length-append (step_events graph walk (enters number)) (flat_map (step_events graph walk) part),
-    )
-again_fewer graph walk (leaves number ∷ part) =
-    omega (
-      arith,
-      again_fewer graph walk part,
-      length-append (step_events graph walk (leaves number)) (flat_map (step_events graph walk) part),
-    )
+again_fewer graph walk (enters number ∷ part) = grind (arith, nat_tests, length-append, step_events, flat_map, again_fewer graph walk part, enters number)
+again_fewer graph walk (leaves number ∷ part) = grind (arith, nat_tests, length-append, step_events, flat_map, again_fewer graph walk part, leaves number)
 again_fewer graph walk (meets_again number ∷ part) = omega (arith, again_fewer graph walk part)
 
 -- ---- the law

@@ -1,4 +1,5 @@
 -- Events emitted one after another, and streams opened and closed.
+use Rattle.yaml_dump.proofs.Common.{arith, nat_tests}
 use Rattle.yaml_base.proofs.Common.{if◌then◌else◌, None, Some, Bool, false, true, ◌||◌, List, [], map, ◌++◌, ◌∷◌, refl, ◌≡◌, stream_start, stream_end}
 use Rattle.yaml_pen.proofs.{Composing.grows_itself, Composing.grows_then, Writing.some_from_result}
 use Rattle.yaml_base.proofs.Common.{append_assoc, inl, inr, ap, subst, sym, ◌∙◌, or-true, false≢true, Event}
@@ -25,8 +26,7 @@ error_kept before after event kept none some = absurd (false≢true (subst IsSom
 -- one more event
 pub parts_more : {A : Type 0} (emitted : List (yaml_event_t A)) (next : yaml_event_t A) (rest left all : List (yaml_event_t A)) → emitted ++ left ≡ all
     → left ≡ next ∷ rest → (emitted ++ next ∷ []) ++ rest ≡ all
-parts_more emitted next rest left all parts is =
-    append_assoc emitted (next ∷ []) rest ∙ ap (λ left. emitted ++ left) (sym is) ∙ parts
+parts_more emitted next rest left all parts is = grind (arith, nat_tests, append_assoc)
 
 pub some_more : {A B : Type 0} (f : A → B) (emitted : List A) (next : A) → map f (emitted ++ next ∷ []) ≡ [] → ⊥
 some_more f [] next none = cc
@@ -52,30 +52,13 @@ emits_opening before middle done false is none opens = record { emits = opens; u
 -- no event before the first
 keeps_none : (before : State) (after : Page) → before.error ≡ None → IsPromised before → Grows before.page after
     → KeepsEarlier before.given (before.events ++ []) before.page after
-keeps_none before after none promised grows =
-    record {
-      between = before;
-      no_error = none;
-      promised = subst (λ (events : List Event). Promised before.given events before) (sym (append-nil before.events)) promised;
-      grown = grows_itself before.page;
-      grows = grows;
-    }
+keeps_none before after none promised grows = grind (arith, nat_tests, append-nil, grows_itself)
 
 -- more events before them
 keeps_then : {before middle : State} {first : List Event} {answer : Result (Unit {0}) yaml_error_t} (earlier : List Event) (after : Page)
     → Emits before first answer middle → KeepsEarlier middle.given (middle.events ++ earlier) middle.page after
     → KeepsEarlier before.given (before.events ++ (first ++ earlier)) before.page after
-keeps_then {before} {middle} {first} {answer} earlier after emits kept =
-    record {
-      between = kept.between;
-      no_error = kept.no_error;
-      promised =
-          subst (λ (events : List Event). Promised before.given events kept.between)
-          (ap (λ (events : List Event). events ++ earlier) emits.set.events ∙ append_assoc before.events first earlier)
-          (subst (λ (given : Settings). Promised given (middle.events ++ earlier) kept.between) emits.set.given kept.promised);
-      grown = grows_then emits.grows kept.grown;
-      grows = kept.grows;
-    }
+keeps_then {before} {middle} {first} {answer} earlier after emits kept = grind (arith, nat_tests, append_assoc, grows_then)
 
 -- the end, if it isn't closed
 pub emits_closing : (before after : State) (answer : Result (Unit {0}) yaml_error_t) (closed : Bool) → before.error ≡ None → IsPromised before
@@ -103,16 +86,12 @@ emits_closing before after (Err error) false none promised closes =
 -- by its answer a stream is closed, or as it was
 pub closed_by : (before after : State) (answer : Result (Unit {0}) yaml_error_t) (closed : Bool) → before.closed ≡ closed
     → ClosesFrom closed before answer after → OnOk answer (after.closed ≡ true) × OnErr answer (after.closed ≡ before.closed)
-closed_by before after (Ok done) true is closes = (ap (λ (s : State). s.closed) closes.1 ∙ is, tt)
-closed_by before after (Err error) true is closes = absurd (let wrong = closes.0 in cc)
-closed_by before after (Ok done) false is closes = (closes.set.closed, tt)
-closed_by before after (Err error) false is closes = (tt, closes.set.closed ∙ sym is)
+closed_by before after answer closed is x = grind (arith, nat_tests)
 
 -- ---- dumps
 
 on_ok : {P : Type 0} (answer : Result (Unit {0}) yaml_error_t) → P → OnOk answer P
-on_ok (Ok done) p = p
-on_ok (Err error) p = tt
+on_ok answer p = grind (arith, nat_tests)
 
 no_parts : (first second : List Event) → first ++ second ≡ [] → (first ≡ []) × (second ≡ [])
 no_parts [] second none = (refl, none)
@@ -120,8 +99,7 @@ no_parts (event ∷ first) second none = cc
 
 -- if the start is the first event, the stream is opened once an event was emitted
 opened_some : (opened now : Bool) (more : List Event) → now ≡ true → now ≡ (opened || has_some (opening_unless opened ++ more))
-opened_some true now more is = is
-opened_some false now more is = is
+opened_some opened now more is = grind (arith, nat_tests)
 
 -- events after the start
 pub dumps_then : (nodeless : Bool) (document : List Event) (before middle after : State) (closed : Bool) (more : List Event)
@@ -198,12 +176,10 @@ dumps_closing nodeless document before middle after answer empty none promised f
     (ok_then answer (λ is. is ∙ sym (ap (λ (b : Bool). before.closed || b) empty ∙ or-true before.closed)) by.0) (err_then answer (λ is. is ∙ closed) by.1)
   where
     ok_then : {P Q : Type 0} (answer : Result (Unit {0}) yaml_error_t) → (P → Q) → OnOk answer P → OnOk answer Q
-    ok_then (Ok done) f p = f p
-    ok_then (Err error) f p = tt
+    ok_then answer f p = grind (arith, nat_tests)
 
     err_then : {P Q : Type 0} (answer : Result (Unit {0}) yaml_error_t) → (P → Q) → OnErr answer P → OnErr answer Q
-    err_then (Ok done) f p = tt
-    err_then (Err error) f p = f p
+    err_then answer f p = grind (arith, nat_tests)
 
 -- one with nodes is emitted
 pub dumps_document : (nodeless : Bool) (document : List Event) (before middle after : State) (events : List Event) (answer : Result (Unit {0}) yaml_error_t)
@@ -218,21 +194,17 @@ dumps_document nodeless document before middle after events answer some same fir
     (on_ok answer (closed ∙ sym (ap (λ (b : Bool). before.closed || b) some ∙ or-false before.closed))) (on_err answer closed)
   where
     closed_as : (answer : Result (Unit {0}) yaml_error_t) → EmitsEach middle events answer after → after.closed ≡ middle.closed
-    closed_as (Ok done) all = all.emits.set.closed
-    closed_as (Err error) fails = fails.emits.set.closed
+    closed_as answer all = grind (arith, nat_tests)
 
     on_err : {P : Type 0} (answer : Result (Unit {0}) yaml_error_t) → P → OnErr answer P
-    on_err (Ok done) p = tt
-    on_err (Err error) p = p
+    on_err answer p = grind (arith, nat_tests)
 
 -- ---- the consequences
 
 -- the promises about the events before and these
 pub emits_promised : {before after : State} {events : List Event} {answer : Result (Unit {0}) yaml_error_t} → Emits before events answer after
     → IsPromised after → (given : Settings) (all : List Event) → before.given ≡ given → before.events ≡ all → Promised given (all ++ events) after
-emits_promised {before} {after} {events} emits promised given all settings is =
-    subst (λ (given : Settings). Promised given (all ++ events) after) (emits.set.given ∙ settings)
-    (subst (λ (l : List Event). Promised after.given l after) (emits.set.events ∙ ap (λ (l : List Event). l ++ events) is) promised)
+emits_promised {before} {after} {events} emits promised given all settings is = grind (arith, nat_tests)
 
 -- the error of the event that failed
 pub fails_error : {before after : State} {events : List Event} {error : yaml_error_t} → FailsAt before events error after → after.error ≡ Some error
@@ -246,53 +218,32 @@ closing_emits before after answer unclosed closes = subst (λ (b : Bool). Closes
 -- the events that were given
 pub each_emits : (before after : State) (events : List Event) (answer : Result (Unit {0}) yaml_error_t) → EmitsEach before events answer after
     → (given : List Event) × Emits before given answer after
-each_emits before after events (Ok done) all = (events, all.emits)
-each_emits before after events (Err error) fails = (fails.earlier ++ fails.event ∷ [], fails.emits)
+each_emits before after events answer all = grind (arith, nat_tests)
 
 -- some event begins the stream
 keeps_by : (before after : State) (opened closed : Bool) (events : List Event) (answer : Result (Unit {0}) yaml_error_t)
     → Emits (record before { opened = opened; closed = closed }) events answer after → (events ≡ [] → after ≡ before) → KeepsRest before after
-keeps_by before after opened closed events answer emits unchanged =
-    record {
-      grows = emits.grows;
-      set = record {
-        events = refl;
-        given = emits.set.given;
-        started = refl;
-        has_output = emits.set.has_output;
-        opened = refl;
-        closed = refl;
-        taken = emits.set.taken;
-      };
-      begun = begun events emits unchanged;
-    }
+keeps_by before after opened closed events answer emits unchanged = grind (arith, nat_tests, begun)
   where
     begun : (events : List Event) → Emits (record before { opened = opened; closed = closed }) events answer after → (events ≡ [] → after ≡ before)
         → IsBegun before after
-    begun [] emits unchanged = inl (unchanged refl)
-    begun (event ∷ events) emits unchanged = inr emits.set.started
+    begun events emits unchanged = grind (arith, nat_tests)
 
 keeps_failing : (before after : State) (opened : Bool) (events : List Event) (error : yaml_error_t)
     → FailsAt (record before { opened = opened }) events error after → KeepsRest before after
-keeps_failing before after opened events error fails =
-    keeps_by before after opened before.closed (fails.earlier ++ fails.event ∷ []) (Err error) fails.emits
-    (λ none. let wrong = (no_parts fails.earlier (fails.event ∷ []) none).1 in cc)
+keeps_failing before after opened events error fails = grind (arith, nat_tests, keeps_by, no_parts)
 
 pub keeps_each : (before after : State) (events : List Event) (answer : Result (Unit {0}) yaml_error_t) → EmitsEach before events answer after
     → KeepsRest before after
-keeps_each before after events (Ok done) all = keeps_by before after before.opened before.closed events (Ok tt) all.emits all.unchanged
-keeps_each before after events (Err error) fails = keeps_failing before after before.opened events error fails
+keeps_each before after events answer all = grind (arith, nat_tests, keeps_by, keeps_failing)
 
 -- a dump without events opens and closes nothing
 opened_none : (opened : Bool) (more : List Event) → opening_unless opened ++ more ≡ [] → opened ≡ true
-opened_none true more none = refl
-opened_none false more none = cc
+opened_none opened more x = grind (arith, nat_tests)
 
 closed_none : (opened closed empty : Bool) (events : List Event) → opening_unless opened ++ (if empty then closing_unless closed else events) ≡ []
     → (closed || empty) ≡ closed
-closed_none opened closed false events none = or-false closed
-closed_none opened true true events none = refl
-closed_none opened false true events none = let wrong = (no_parts (opening_unless opened) (stream_end ∷ []) none).1 in cc
+closed_none opened closed empty events x = grind (arith, nat_tests, or-false, no_parts, opening_unless)
 
 pub keeps_dumping : (nodeless : Bool) (document : List Event) (before after : State) (answer : Result (Unit {0}) yaml_error_t)
     → DumpsEvents nodeless document before answer after → KeepsRest before after
@@ -316,10 +267,8 @@ keeps_dumping nodeless document before after (Err error) (inr dump) =
 
 pub opened_by : (nodeless : Bool) (document : List Event) (before after : State) (answer : Result (Unit {0}) yaml_error_t)
     → DumpsEvents nodeless document before answer after → OnOk answer (after.opened ≡ true)
-opened_by nodeless document before after (Ok done) all = all.emits.set.opened
-opened_by nodeless document before after (Err error) fails = tt
+opened_by nodeless document before after answer all = grind (arith, nat_tests)
 
 pub unclosed_failing : (nodeless : Bool) (document : List Event) (before after : State) (error : yaml_error_t)
     → DumpsEvents nodeless document before (Err error) after → after.closed ≡ before.closed
-unclosed_failing nodeless document before after error (inl failed) = ap (λ (s : State). s.closed) failed.1
-unclosed_failing nodeless document before after error (inr dump) = dump.fails.emits.set.closed
+unclosed_failing nodeless document before after error x = grind (arith, nat_tests)

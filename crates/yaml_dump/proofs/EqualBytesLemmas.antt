@@ -1,4 +1,5 @@
 -- Documents that were read of the same bytes are equivalent.
+use Rattle.yaml_dump.proofs.Common.{arith, nat_tests}
 use Rattle.yaml_base.proofs.Common.{Some, List, [], ◌∷◌, ◌≡◌, subst, sym, ◌∙◌, Graph, DocumentContent, DocumentTree}
 use Rattle.yaml_base.{proofs.ContentsUnfold.dumped_stream, proofs.SameEvents.same_canonical_output, proofs.SameShapes.same_shape}
 use Rattle.yaml_base.{specs.graphs.Dumped.ContentsUnfold, specs.graphs.Isomorphic.AllAreEquivalent, specs.graphs.Unfolding.content_shape}
@@ -13,10 +14,8 @@ some_same h = cc
 contents_say : (firsts seconds : List Graph) (contents : List DocumentContent) → ContentsUnfold firsts contents → ContentsUnfold seconds contents
     → AllAreEquivalent firsts seconds
 contents_say [] [] contents unfolds also = tt
-contents_say [] (second ∷ seconds) [] unfolds also = absurd also
 contents_say [] (second ∷ seconds) (content ∷ contents) unfolds also = absurd unfolds
 contents_say (first ∷ firsts) seconds [] unfolds also = absurd unfolds
-contents_say (first ∷ firsts) [] (content ∷ contents) unfolds also = absurd also
 contents_say (first ∷ firsts) (second ∷ seconds) (content ∷ contents) unfolds also = (
   record {
     version = sym unfolds.0.version ∙ also.0.version;
@@ -25,15 +24,14 @@ contents_say (first ∷ firsts) (second ∷ seconds) (content ∷ contents) unfo
   },
   contents_say firsts seconds contents unfolds.1 also.1,
 )
+contents_say _ _ _ unfolds also = absurd also
 
 -- graphs that the same trees unfolds
 trees_say : (firsts seconds : List Graph) (documents : List DocumentTree) → TreesUnfold firsts documents → TreesUnfold seconds documents
     → AllAreEquivalent firsts seconds
 trees_say [] [] documents unfolds also = tt
-trees_say [] (second ∷ seconds) [] unfolds also = absurd also
 trees_say [] (second ∷ seconds) (document ∷ documents) unfolds also = absurd unfolds
 trees_say (first ∷ firsts) seconds [] unfolds also = absurd unfolds
-trees_say (first ∷ firsts) [] (document ∷ documents) unfolds also = absurd also
 trees_say (first ∷ firsts) (second ∷ seconds) (document ∷ documents) unfolds also = (
   record {
     version = sym unfolds.0.version ∙ also.0.version;
@@ -42,16 +40,13 @@ trees_say (first ∷ firsts) (second ∷ seconds) (document ∷ documents) unfol
   },
   trees_say firsts seconds documents unfolds.1 also.1,
 )
+trees_say _ _ _ unfolds also = absurd also
 
 pub one_reading : OneReading
-one_reading breaks12 firsts seconds bytes read also =
-    contents_say firsts seconds read.contents read.unfolds
-    (subst (ContentsUnfold seconds) (some_same (sym also.read ∙ read.read)) also.unfolds)
+one_reading breaks12 firsts seconds bytes read also = grind (arith, nat_tests, contents_say, some_same)
 
 pub one_reading_back : OneReadingBack
-one_reading_back breaks12 firsts seconds bytes read also =
-    trees_say firsts seconds read.documents read.unfolds
-    (subst (TreesUnfold seconds) (some_same (sym also.read ∙ read.read)) also.unfolds)
+one_reading_back breaks12 firsts seconds bytes read also = grind (arith, nat_tests, trees_say, some_same)
 
 pub equal_bytes_tell_graphs : EqualBytesTellGraphs
 equal_bytes_tell_graphs given firsts seconds first second dumped also whole also_whole same =

@@ -1,5 +1,5 @@
 -- Documents dumped in a form.
-use Rattle.yaml_dump.proofs.Common.{◌==◌, Option, None, Some, length, true, [], List, map, ◌∷◌, refl, ◌≡◌, ap, subst, sym, false≢true, Event}
+use Rattle.yaml_dump.proofs.Common.{◌==◌, Option, None, length, true, [], List, map, ◌∷◌, refl, ◌≡◌, false≢true, Event, arith, nat_tests}
 use Rattle.yaml_dump.proofs.Common.{Graph, State, Result, OnOk, document_event_list}
 use Rattle.std.specs.Prelude.{IsSome}
 use Rattle.yaml_base.specs.declared.errors.yaml_error_t.{yaml_error_t}
@@ -25,18 +25,7 @@ pub record Told (error : Option yaml_error_t) (graph : Graph) (document : List E
 
 told : (error : Option yaml_error_t) (graph : Graph) (document : List Event) (before after : State) (answer : Result (Unit {0}) yaml_error_t)
     → DumpsFrom error graph document before answer after → Told error graph document before answer after
-told (Some error) graph document before after answer from = record {
-  failed = λ some. from;
-  dumps = λ none. cc;
-  opened = subst (λ (a : Result (Unit {0}) yaml_error_t). OnOk a (after.opened ≡ true)) (sym from.1) tt;
-  output = ap (λ (s : State). s.has_output) from.0;
-}
-told None graph document before after answer from = record {
-  failed = λ some. absurd (false≢true some);
-  dumps = λ none. from;
-  opened = opened_by (length graph.nodes == 0) document before after answer from;
-  output = (keeps_dumping (length graph.nodes == 0) document before after answer from).set.has_output;
-}
+told error graph document before after answer from = grind (arith, nat_tests, false≢true, opened_by, length, keeps_dumping)
 
 -- of typed events, and of events as they are
 pub typed_told : (graph : Graph) (before after : State) (answer : Result (Unit {0}) yaml_error_t) → DumpsInForm Typed graph before answer after
@@ -45,6 +34,4 @@ typed_told graph before after answer from = told before.error graph (typed_event
 
 pub same_told : (graph : Graph) (before after : State) (answer : Result (Unit {0}) yaml_error_t) → DumpsInForm Same graph before answer after
     → Told before.error graph (document_event_list graph) before answer after
-same_told graph before after answer from =
-    told before.error graph (document_event_list graph) before after answer
-    (subst (λ (events : List Event). DumpsFrom before.error graph events before answer after) (map-id (document_event_list graph)) from)
+same_told graph before after answer from = grind (arith, nat_tests, told, document_event_list, map-id)

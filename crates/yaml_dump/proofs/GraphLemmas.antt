@@ -1,8 +1,9 @@
 -- A document's events unfold its graph, and so do their bytes as they are read.
-use Rattle.yaml_dump.proofs.Common.{ℕ, ◌==◌, if◌then◌else◌, Option, None, Some, Result, Err, Ok, Vec, drop, length, Bool, false, true, List, [], map, ◌∷◌}
-use Rattle.yaml_dump.proofs.Common.{refl, ◌≡◌, ap, subst, sym, ◌∙◌, false≢true, dumped_stream, document_unfolds, Event, seen_event, length-map}
+use Rattle.yaml_dump.proofs.Common.{arith, nat_tests}
+use Rattle.yaml_dump.proofs.Common.{ℕ, ◌==◌, Option, None, Some, Result, Vec, drop, length, false, true, List, [], map}
+use Rattle.yaml_dump.proofs.Common.{refl, ◌≡◌, ◌∙◌, false≢true, dumped_stream, document_unfolds, Event, seen_event, length-map}
 use Rattle.yaml_dump.proofs.Common.{is_numbered, seen_step, seen_events, Settings, IsDumpOf, Graph, graph_steps, document_event_list, DocumentTree, State}
-use Rattle.yaml_base.proofs.Common.{written, IsWholeGraph, agrees, stream_trees, stream_start, documents_events, Stream, stream_events, IsAccepted}
+use Rattle.yaml_base.proofs.Common.{written, IsWholeGraph, agrees, stream_trees, documents_events, Stream, stream_events, IsAccepted}
 use Rattle.std.{proofs.Math.Seq.drop-length, specs.Prelude.IfOk}
 use Rattle.yaml_base.{proofs.QueueLaws.stream_written, specs.declared.events.yaml_event_t.yaml_event_t}
 use Rattle.yaml_base.specs.graphs.Unfolding.{EventsUnfold}
@@ -10,7 +11,7 @@ use Rattle.yaml_dump.proofs.GraphTreeLemmas.{dumped_trees_unfold}
 use Rattle.yaml_base.specs.{declared.nodes.yaml_node_t.yaml_node_t, graphs.SeenNodes.seen_node}
 use Rattle.yaml_dump.specs.{Outlines.IsOutline, declared.outlines.Outline.Outline}
 use Rattle.yaml_dump.specs.{Dumps.ReadsGraphs, Events.HoldsTexts, Events.walk_events, GraphTrees.GraphsReadBack, GraphTrees.ReadsTrees}
-use Rattle.yaml_emitter.{proofs.EndedStreams.ends_last, specs.Emits.IsPromised, specs.Promises.HasRoomAndMemory, specs.Promises.IsWritten}
+use Rattle.yaml_emitter.{proofs.EndedStreams.ends_last, specs.Emits.IsPromised, specs.Promises.IsWritten}
 use Rattle.yaml_emitter.specs.Promises.{ends_stream}
 
 -- the events of a walk over nodes that hold all parts that it needs are the document's
@@ -19,22 +20,18 @@ pub dumped_events : {A E : Type 0} (graph : Graph) (outline : Outline A) (nodes 
     → IfOk answer (λ events. (other : Graph) → IsOutline other outline → HoldsTexts other [] (map seen_node nodes)
     → seen_events events.items ≡ walk_events other (graph_steps other))
     → IfOk answer (λ events. map seen_event events.items ≡ document_event_list graph)
-dumped_events graph outline nodes (Ok events) some is holds walked =
-    walked graph is holds ∙ sym (ap (λ (none : Bool). if none then [] else walk_events graph (graph_steps graph)) some)
-dumped_events graph outline nodes (Err error) some is holds walked = tt
+dumped_events graph outline nodes answer some is holds walked = grind (arith, nat_tests, walk_events, graph_steps)
 
 -- an outline's steps are about the nodes of its graph
 pub outline_numbered : {A : Type 0} (graph : Graph) (outline : Outline A) (nodes : List (yaml_node_t A)) → IsOutline graph outline
     → length (map seen_node nodes) ≡ length graph.nodes → is_numbered (length nodes) (map seen_step outline.walk.items) ≡ true
-outline_numbered graph outline nodes is same =
-    subst (λ (count : ℕ). is_numbered count (map seen_step outline.walk.items) ≡ true) (sym same ∙ length-map nodes seen_node) is.numbered
+outline_numbered graph outline nodes is same = grind (arith, nat_tests, is_numbered, map, seen_step, length-map, seen_node)
 
 -- a document's events unfold its graph
 pub events_unfold : {A E : Type 0} (graph : Graph) (answer : Result (Vec (yaml_event_t A) A) E) → IsWholeGraph graph
     → IfOk answer (λ events. map seen_event events.items ≡ document_event_list graph)
     → IfOk answer (λ events. EventsUnfold graph (map seen_event events.items))
-events_unfold graph (Ok events) is same = subst (EventsUnfold graph) (sym same) (document_unfolds graph is)
-events_unfold graph (Err error) is same = tt
+events_unfold graph answer is x = grind (arith, nat_tests, document_unfolds)
 
 -- the documents read of dumped graphs
 read_back : (given : Settings) (graphs : List Graph) (events : List Event) (bytes : List ℕ) (read : Option (List DocumentTree))
@@ -49,14 +46,7 @@ read_back given graphs events bytes (Some documents) dumped is agree =
 module _ (state : State) (promised : IsPromised state) (none : state.error ≡ None) where
   -- the events of a stream are accepted
   pub stream_accepted : (stream : Stream) → stream_events stream ≡ state.events → IsAccepted state.given.canonical state.events
-  stream_accepted stream is =
-      let whole : written state.events ≡ length state.events =
-      subst (λ (events : List Event). written events ≡ length events) is (stream_written stream) in
-      let held : state.held ≡ [] =
-      (promised.held none).held ∙ ap (λ (count : ℕ). drop count state.events) whole ∙ drop-length state.events in
-      let ends : ends_stream state.events ≡ true =
-      subst (λ (events : List Event). ends_stream events ≡ true) is (ends_last (stream_start stream.encoding ∷ documents_events stream.documents)) in
-      (promised.ends ends (subst HasRoomAndMemory (sym none) tt)).1 (none, held)
+  stream_accepted stream is = grind (arith, nat_tests, written, length, stream_written, drop, drop-length, ends_stream, ends_last, documents_events)
 
   -- so dumped graphs are written whole
   pub dumped_whole : (graphs : List Graph) → IsDumpOf graphs state.events → IsWritten state.given state.events state

@@ -2,12 +2,12 @@
 use Rattle.yaml_dump.proofs.Common.{if◌then◌else◌, ◌==◌, flat_map, unwrap_or, option_map, Option, None, Some, length, Bool, false, not, true, ◌&&◌, ◌||◌}
 use Rattle.yaml_dump.proofs.Common.{List, [], map, ◌++◌, ◌∷◌, refl, ◌≡◌, ap, subst, sym, ◌∙◌, false≢true, map-append, list_all, dumped_stream, Text, Event}
 use Rattle.yaml_dump.proofs.Common.{stream_end, document_start, IsDumpOf, ContentsUnfold, GraphNode, Graph, Step, enters, leaves, meets_again, graph_steps}
-use Rattle.yaml_dump.proofs.Common.{opening_events, step_events, document_event_list, content_shape, DocumentTree, tree_shape, TreesUnfold}
-use Rattle.yaml_base.proofs.Common.{⊤, bytes_eq, ℤ, and_parts, and_from, Decides-int_eq, list_all-append, bytes_eq-Decides, Version, TagDirective, Scalar}
+use Rattle.yaml_dump.proofs.Common.{opening_events, step_events, document_event_list, content_shape, DocumentTree, tree_shape, TreesUnfold, arith, nat_tests}
+use Rattle.yaml_base.proofs.Common.{⊤, bytes_eq, and_parts, and_from, list_all-append, bytes_eq-Decides, Version, TagDirective, Scalar}
 use Rattle.yaml_base.proofs.Common.{document_end, scalar, sequence_start, sequence_end, mapping_start, mapping_end, scalar_tag, collection_tag, Node}
 use Rattle.yaml_base.proofs.Common.{alias_node, scalar_node, Nodes, sequence_node, Pairs, mapping_node, no_nodes, nodes_and, no_pairs, pairs_and, Document}
 use Rattle.yaml_base.proofs.Common.{Documents, no_documents, documents_and, Stream, node_events, nodes_events, pairs_events, document_events}
-use Rattle.yaml_base.proofs.Common.{documents_events, tree_of, Held, scalar_held, sequence_held, mapping_held, string_tag, sequence_tag, mapping_tag}
+use Rattle.yaml_base.proofs.Common.{documents_events, tree_of, Held, scalar_held, string_tag, sequence_tag, mapping_tag}
 use Rattle.yaml_base.proofs.Common.{opening_event_of, closing_event_of, closing_events, scalar_kind, sequence_kind, mapping_kind, Shape, no_shapes}
 use Rattle.yaml_base.proofs.Common.{node_content, Tagging, with_tag, without_tag, Tree, alias_tree, scalar_tree, Trees, sequence_tree, TreePairs}
 use Rattle.yaml_base.proofs.Common.{mapping_tree, no_trees, trees_and, no_tree_pairs, tree_pairs_and, document_agrees, documents_in_order}
@@ -42,20 +42,16 @@ from_bytes a b is = (bytes_eq-Decides a b).0 is
 -- a tag whose flag is on exactly if it is that of the kind
 own_flag : (own tag : Text) (canonical flag : Bool) → flag ≡ bytes_eq tag own
     → keeps_tag (if canonical || not flag then Some tag else None) own (Some tag) ≡ true
-own_flag own tag true flag is = same_bytes tag
 own_flag own tag false true is = ap (λ text. bytes_eq text tag) (sym (from_bytes tag own (sym is))) ∙ same_bytes tag
-own_flag own tag false false is = same_bytes tag
+own_flag own tag _ _ is = same_bytes tag
 
 own_flags : (own tag : Text) (canonical flag : Bool) → flag ≡ bytes_eq tag own
     → keeps_tag (if canonical || (not flag && not flag) then Some tag else None) own (Some tag) ≡ true
-own_flags own tag true flag is = same_bytes tag
 own_flags own tag false true is = ap (λ text. bytes_eq text tag) (sym (from_bytes tag own (sym is))) ∙ same_bytes tag
-own_flags own tag false false is = same_bytes tag
+own_flags own tag _ _ is = same_bytes tag
 
 prefix_keeps : (canonical : Bool) (anchor : Option Text) (tag : Text) (held : Held) → has_kept_tag canonical (opening_event_of anchor tag held) ≡ true
-prefix_keeps canonical anchor tag (scalar_held value style) = own_flags string_tag tag canonical (bytes_eq tag string_tag) refl
-prefix_keeps canonical anchor tag (sequence_held items style) = own_flag sequence_tag tag canonical (bytes_eq tag sequence_tag) refl
-prefix_keeps canonical anchor tag (mapping_held pairs style) = own_flag mapping_tag tag canonical (bytes_eq tag mapping_tag) refl
+prefix_keeps canonical anchor tag held = grind (arith, nat_tests, own_flags, string_tag, bytes_eq, own_flag, sequence_tag, mapping_tag)
 
 -- ---- so of all events of dumped graphs
 
@@ -64,13 +60,10 @@ all_keep canonical events = list_all (has_kept_tag canonical) events ≡ true
 
 keep_both : (canonical : Bool) (first second : List Event) → all_keep canonical first → all_keep canonical second
     → all_keep canonical (first ++ second)
-keep_both canonical first second one other =
-    list_all-append (has_kept_tag canonical) first second ∙ and_from _ _ one other
+keep_both canonical first second one other = grind (arith, nat_tests, list_all-append, has_kept_tag, and_from)
 
 keep_parts : (canonical : Bool) (first second : List Event) → all_keep canonical (first ++ second) → all_keep canonical first × all_keep canonical second
-keep_parts canonical first second both =
-    and_parts (list_all (has_kept_tag canonical) first) (list_all (has_kept_tag canonical) second)
-    (sym (list_all-append (has_kept_tag canonical) first second) ∙ both)
+keep_parts canonical first second both = grind (arith, nat_tests, and_parts, list_all, has_kept_tag, list_all-append)
 
 keep_each : {A : Type 0} (canonical : Bool) (events_of : A → List Event) → ((item : A) → all_keep canonical (events_of item)) → (items : List A)
     → all_keep canonical (flat_map events_of items)
@@ -79,8 +72,7 @@ keep_each canonical events_of each (item ∷ items) =
     keep_both canonical (events_of item) (flat_map events_of items) (each item) (keep_each canonical events_of each items)
 
 prefixes_keep : (canonical : Bool) (anchor : Option Text) (found : Option GraphNode) → all_keep canonical (opening_events anchor found)
-prefixes_keep canonical anchor None = refl
-prefixes_keep canonical anchor (Some node) = and_from _ _ (prefix_keeps canonical anchor node.tag node.held) refl
+prefixes_keep canonical anchor found = grind (arith, nat_tests, and_from, prefix_keeps)
 
 endings_keep : (canonical : Bool) (found : Option GraphNode) → all_keep canonical (closing_events found)
 endings_keep canonical None = refl
@@ -88,8 +80,7 @@ endings_keep canonical (Some node) = by node.held
   where
     by : (held : Held) → all_keep canonical (closing_event_of held)
     by (scalar_held value style) = refl
-    by (sequence_held items style) = refl
-    by (mapping_held pairs style) = refl
+    by _ = refl
 
 step_keeps : (canonical : Bool) (graph : Graph) (walk : List Step) (step : Step) → all_keep canonical (step_events graph walk step)
 step_keeps canonical graph walk (enters number) = prefixes_keep canonical _ _
@@ -123,28 +114,24 @@ shape_with anchor tag kind shapes = node_shape anchor (record { tag = tag; kind 
 
 same_option : (a b : Option Text) → is_same_text a b ≡ true → a ≡ b
 same_option None None is = refl
-same_option None (Some b) is = absurd (false≢true is)
-same_option (Some a) None is = absurd (false≢true is)
 same_option (Some a) (Some b) is = ap (λ text. Some text) (from_bytes a b is)
+same_option _ _ is = absurd (false≢true is)
 
 -- the tag that was read, or that of the kind
 scalar_tag_is : (content : Scalar) (written : Option Text) (tagging : Tagging) → tagging_agrees content written tagging ≡ true
     → tag_or_string tagging ≡ unwrap_or written string_tag
 scalar_tag_is content None (without_tag standing) is = refl
-scalar_tag_is content None (with_tag tag) is = absurd (false≢true is)
 scalar_tag_is content (Some tag) (with_tag read) is = sym (from_bytes tag read is)
-scalar_tag_is content (Some tag) (without_tag standing) is = absurd (false≢true is)
+scalar_tag_is content _ _ is = absurd (false≢true is)
 
 -- the tag that a scalar's event states is the scalar's
 stated_tag_is : (tag : Option Text) (text : Text) (implicit : Bool) → Some text ≡ tag → Some text ≡ explicit_tag (content_tag tag implicit)
-stated_tag_is None text implicit is = cc
-stated_tag_is (Some other) text implicit is = is
+stated_tag_is tag text implicit is = grind (arith, nat_tests)
 
 -- equal parts make equal shapes
 shapes_same : (a b : Option Text) (s t : Option Text) (k l : StyledKind) (x y : Shapes) → a ≡ b → s ≡ t → k ≡ l → x ≡ y
     → shape_with a s k x ≡ shape_with b t l y
-shapes_same a b s t k l x y anchors tags kinds below =
-    ap (λ a. shape_with a s k x) anchors ∙ ap (λ s. shape_with b s k x) tags ∙ ap (λ k. shape_with b t k x) kinds ∙ ap (shape_with b t l) below
+shapes_same a b s t k l x y anchors tags kinds below = grind (arith, nat_tests, shape_with)
 
 -- a collection's tag is that of its start
 collection_tag_is : (written read : Option Text) (own : Text) (tag : Option Text) → is_same_text written read ≡ true → keeps_tag written own tag ≡ true
@@ -156,10 +143,6 @@ mutual
   tree_is : (canonical : Bool) (node : Node) (tree : Tree) → all_keep canonical (node_events node) → tree_agrees canonical node tree ≡ true
       → tree_shape tree ≡ content_shape (node_content node)
   tree_is canonical (alias_node name) (alias_tree read) keep agree = ap alias_shape (sym (from_bytes name read agree))
-  tree_is canonical (alias_node name) (scalar_tree anchor tagging value) keep agree = absurd (false≢true agree)
-  tree_is canonical (alias_node name) (sequence_tree anchor tag trees) keep agree = absurd (false≢true agree)
-  tree_is canonical (alias_node name) (mapping_tree anchor tag trees) keep agree = absurd (false≢true agree)
-  tree_is canonical (scalar_node content) (alias_tree read) keep agree = absurd (false≢true agree)
   tree_is canonical (scalar_node content) (scalar_tree anchor tagging value) keep agree =
       let written = scalar_tag canonical content in
       let value_too = and_parts (is_same_text content.anchor anchor && tagging_agrees content written tagging) (bytes_eq content.value value) agree in
@@ -172,10 +155,6 @@ mutual
       ∙ stated_tag_is content.tag (unwrap_or written string_tag) content.quoted_implicit kept)
       (ap (λ text. scalar_kind text None) (sym (from_bytes content.value value value_too.1)))
       refl
-  tree_is canonical (scalar_node content) (sequence_tree anchor tag trees) keep agree = absurd (false≢true agree)
-  tree_is canonical (scalar_node content) (mapping_tree anchor tag trees) keep agree = absurd (false≢true agree)
-  tree_is canonical (sequence_node start items) (alias_tree read) keep agree = absurd (false≢true agree)
-  tree_is canonical (sequence_node start items) (scalar_tree anchor tagging value) keep agree = absurd (false≢true agree)
   tree_is canonical (sequence_node start items) (sequence_tree anchor tag trees) keep agree =
       let written = collection_tag canonical start in
       let below = and_parts (is_same_text start.anchor anchor && is_same_text written tag) (trees_agree canonical items trees) agree in
@@ -185,10 +164,6 @@ mutual
       (trees_shapes trees) (contents_shapes (nodes_content items))
       (sym (same_option start.anchor anchor own.0)) (collection_tag_is written tag sequence_tag start.tag own.1 kept.0) refl
       (trees_are canonical items trees (keep_parts canonical (nodes_events items) (sequence_end ∷ []) kept.1).0 below.1)
-  tree_is canonical (sequence_node start items) (mapping_tree anchor tag trees) keep agree = absurd (false≢true agree)
-  tree_is canonical (mapping_node start pairs) (alias_tree read) keep agree = absurd (false≢true agree)
-  tree_is canonical (mapping_node start pairs) (scalar_tree anchor tagging value) keep agree = absurd (false≢true agree)
-  tree_is canonical (mapping_node start pairs) (sequence_tree anchor tag trees) keep agree = absurd (false≢true agree)
   tree_is canonical (mapping_node start pairs) (mapping_tree anchor tag trees) keep agree =
       let written = collection_tag canonical start in
       let below = and_parts (is_same_text start.anchor anchor && is_same_text written tag) (tree_pairs_agree canonical pairs trees) agree in
@@ -198,23 +173,21 @@ mutual
       (tree_pairs_shapes trees) (content_pairs_shapes (pairs_content pairs))
       (sym (same_option start.anchor anchor own.0)) (collection_tag_is written tag mapping_tag start.tag own.1 kept.0) refl
       (pairs_are canonical pairs trees (keep_parts canonical (pairs_events pairs) (mapping_end ∷ []) kept.1).0 below.1)
+  tree_is canonical _ _ keep agree = absurd (false≢true agree)
 
   trees_are : (canonical : Bool) (items : Nodes) (trees : Trees) → all_keep canonical (nodes_events items) → trees_agree canonical items trees ≡ true
       → trees_shapes trees ≡ contents_shapes (nodes_content items)
   trees_are canonical no_nodes no_trees keep agree = refl
-  trees_are canonical no_nodes (trees_and trees tree) keep agree = absurd (false≢true agree)
-  trees_are canonical (nodes_and items item) no_trees keep agree = absurd (false≢true agree)
   trees_are canonical (nodes_and items item) (trees_and trees tree) keep agree =
       let kept = keep_parts canonical (nodes_events items) (node_events item) keep in
       let both = and_parts (trees_agree canonical items trees) (tree_agrees canonical item tree) agree in
       ap (λ shapes. shapes_and shapes (tree_shape tree)) (trees_are canonical items trees kept.0 both.0)
       ∙ ap (shapes_and (contents_shapes (nodes_content items))) (tree_is canonical item tree kept.1 both.1)
+  trees_are canonical _ _ keep agree = absurd (false≢true agree)
 
   pairs_are : (canonical : Bool) (pairs : Pairs) (trees : TreePairs) → all_keep canonical (pairs_events pairs)
       → tree_pairs_agree canonical pairs trees ≡ true → tree_pairs_shapes trees ≡ content_pairs_shapes (pairs_content pairs)
   pairs_are canonical no_pairs no_tree_pairs keep agree = refl
-  pairs_are canonical no_pairs (tree_pairs_and trees key value) keep agree = absurd (false≢true agree)
-  pairs_are canonical (pairs_and pairs key value) no_tree_pairs keep agree = absurd (false≢true agree)
   pairs_are canonical (pairs_and pairs key value) (tree_pairs_and trees key_tree value_tree) keep agree =
       let kept = keep_parts canonical (pairs_events pairs) (node_events key ++ node_events value) keep in
       let last = keep_parts canonical (node_events key) (node_events value) kept.1 in
@@ -228,28 +201,22 @@ mutual
       (tree_is canonical key key_tree last.0 key_too.1)
       ∙ ap (shapes_and (shapes_and (content_pairs_shapes (pairs_content pairs)) (content_shape (node_content key))))
       (tree_is canonical value value_tree last.1 value_too.1)
+  pairs_are canonical _ _ keep agree = absurd (false≢true agree)
 
 -- ---- documents
 
 same_version : (a b : Option Version) → is_same_version a b ≡ true → a ≡ b
-same_version None None is = refl
-same_version None (Some b) is = absurd (false≢true is)
-same_version (Some a) None is = absurd (false≢true is)
-same_version (Some a) (Some b) is =
-    let both = and_parts (int_eq a.major b.major) (int_eq a.minor b.minor) is in
-    ap (λ (major : ℤ). Some (record { major = major; minor = a.minor })) ((Decides-int_eq a.major b.major).0 both.0)
-    ∙ ap (λ (minor : ℤ). Some (record { major = b.major; minor = minor })) ((Decides-int_eq a.minor b.minor).0 both.1)
+same_version a b is = grind (arith, nat_tests, false≢true, and_parts, int_eq)
 
 same_directives : (all others : List TagDirective) → are_same_directives all others ≡ true → all ≡ others
 same_directives [] [] is = refl
-same_directives [] (b ∷ others) is = absurd (false≢true is)
-same_directives (a ∷ rest) [] is = absurd (false≢true is)
 same_directives (a ∷ rest) (b ∷ others) is =
     let rest_too = and_parts (bytes_eq a.handle b.handle && bytes_eq a.prefix b.prefix) (are_same_directives rest others) is in
     let both = and_parts (bytes_eq a.handle b.handle) (bytes_eq a.prefix b.prefix) rest_too.0 in
     ap (λ (handle : Text). record { handle = handle; prefix = a.prefix } ∷ rest) (from_bytes a.handle b.handle both.0)
     ∙ ap (λ (prefix : Text). record { handle = b.handle; prefix = prefix } ∷ rest) (from_bytes a.prefix b.prefix both.1)
     ∙ ap (λ rest. b ∷ rest) (same_directives rest others rest_too.1)
+same_directives _ _ is = absurd (false≢true is)
 
 -- documents whose events keep their tags
 abbrev all_kept : Bool → List Document → Type 0
@@ -272,17 +239,13 @@ documents_kept canonical (documents_and documents document) keep =
 -- contents in order are those of documents in order
 contents_in_order : (documents : Documents) → documents_content documents ≡ map document_content (documents_in_order documents)
 contents_in_order no_documents = refl
-contents_in_order (documents_and documents document) =
-    ap (λ contents. contents ++ document_content document ∷ []) (contents_in_order documents)
-    ∙ sym (map-append document_content (documents_in_order documents) (document ∷ []))
+contents_in_order (documents_and documents document) = grind (arith, nat_tests, document_content, map-append, documents_in_order, contents_in_order documents)
 
 trees_unfold : (canonical : Bool) (graphs : List Graph) (documents : List Document) (read : List DocumentTree) → all_kept canonical documents
     → documents_agree canonical documents read ≡ true → ContentsUnfold graphs (map document_content documents) → TreesUnfold graphs read
 trees_unfold canonical [] [] [] keep agree unfolds = tt
-trees_unfold canonical [] [] (tree ∷ others) keep agree unfolds = absurd (false≢true agree)
 trees_unfold canonical [] (document ∷ rest) read keep agree unfolds = absurd unfolds
 trees_unfold canonical (graph ∷ graphs) [] read keep agree unfolds = absurd unfolds
-trees_unfold canonical (graph ∷ graphs) (document ∷ rest) [] keep agree unfolds = absurd (false≢true agree)
 trees_unfold canonical (graph ∷ graphs) (document ∷ rest) (tree ∷ others) keep agree unfolds =
     let both = and_parts (document_agrees canonical document tree) (documents_agree canonical rest others) agree in
     let root = and_parts (is_same_version document.start.version tree.version && are_same_directives document.start.directives tree.directives)
@@ -296,6 +259,7 @@ trees_unfold canonical (graph ∷ graphs) (document ∷ rest) (tree ∷ others) 
       },
       trees_unfold canonical graphs rest others keep.1 both.1 unfolds.1,
     )
+trees_unfold canonical _ _ _ keep agree unfolds = absurd (false≢true agree)
 
 -- the documents that were read of dumped graphs
 pub dumped_trees_unfold : DumpedTreesUnfold

@@ -4,7 +4,6 @@ use Rattle.yaml_dump.proofs.Common.{slice_set as set, take, Bool, cond, false, t
 use Rattle.yaml_dump.proofs.Common.{get_or-set_same, ◌∙◌, arith, nat_tests, length-map, map-append, list_any, Text, GraphNode, Graph, Step, enters, is_entry_of}
 use Rattle.yaml_dump.proofs.Common.{graph_steps, opening_events, get_or-map, seen_step, IsNamed}
 use Rattle.yaml_base.proofs.Common.{count_by, node_numbered, opening_event_of, closing_event_of, closing_events, first_reached, Held}
-use Rattle.yaml_base.proofs.Common.{scalar_held, sequence_held, mapping_held}
 use Rattle.yaml_base.proofs.UnfoldSteps.{any_added, orderly_steps}
 use Rattle.yaml_base.specs.{Seen.seen_text, graphs.SeenNodes.seen_held, graphs.SeenNodes.seen_node, declared.nodes.yaml_node_t.yaml_node_t}
 use Rattle.std.proofs.lemmas.{Bool.or_parts, List.take-append-drop, List.take-map, List.Sums.count_by_more_yes, List.Sums.sum_by-append, List.Sums.sum_by-cons}
@@ -15,8 +14,7 @@ use Rattle.yaml_dump.specs.Events.{HoldsTexts, IsFirstEntry, held_without_childr
 -- ---- a node is entered once
 
 not_counted : (now : Bool) (later : ℕ) → cond now 1 0 + later ≡ 0 → now ≡ false
-not_counted true later none = absurd (omega arith)
-not_counted false later none = refl
+not_counted now later x = grind (arith, nat_tests)
 
 -- a test that is counted nowhere fails everywhere
 none_counted : (test : Step → Bool) (walk : List Step) → count_by test walk ≡ 0 → list_any test walk ≡ false
@@ -36,8 +34,7 @@ once_before test walk index default few inside is =
     none_counted test (take index walk) (omega (arith, whole, count_by_more_yes test walk index default inside is))
 
 at_most_one : (any : Bool) → cond any 1 0 ≤ 1
-at_most_one true = omega arith
-at_most_one false = omega arith
+at_most_one any = grind (arith, nat_tests)
 
 -- no step of a graph's walk enters a node again
 first_entry : (graph : Graph) (walk : List Step) (index number : ℕ) (default : Step) → walk ≡ graph_steps graph → index < length walk
@@ -62,15 +59,10 @@ next_is_first graph walk index default whole inside number is =
 -- ---- nodes by their numbers
 
 numbered_at : (graph : Graph) (number : ℕ) → 1 ≤ number → node_numbered graph number ≡ slice_get graph.nodes (number - 1)
-numbered_at graph zero first = absurd (omega arith)
-numbered_at graph (suc before) first =
-    let same : before ≡ suc before - 1 = omega arith in
-    ap (λ (place : ℕ). slice_get graph.nodes place) same
+numbered_at graph number first = grind (arith, nat_tests, slice_get)
 
 next_node : (graph : Graph) (before : ℕ) → node_numbered graph (before + 1) ≡ slice_get graph.nodes before
-next_node graph before =
-    let same : before + 1 ≡ suc before = omega arith in
-    ap (node_numbered graph) same
+next_node graph before = grind (arith, nat_tests, node_numbered)
 
 -- a default past the end that is the element itself
 pub reads_itself : {A : Type 0} (xs : List A) (place : ℕ) (x : A) → x ≡ get_or xs place x → get_or xs place x ≡ get_or xs place (get_or xs place x)
@@ -88,15 +80,12 @@ some_next graph before inside none = none_inside graph.nodes before inside (sym 
 -- the node of a place, as an index reads it
 node_at : {A : Type 0} (nodes : List (yaml_node_t A)) (place : ℕ) (node : yaml_node_t A) → place < length nodes → node ≡ get_or nodes place node
     → slice_get (map seen_node nodes) place ≡ Some (seen_node node)
-node_at nodes place node inside is =
-    slice_get-map seen_node nodes place ∙ ap (option_map seen_node) (slice_get_read nodes (length nodes) place node refl inside is)
+node_at nodes place node inside is = grind (arith, nat_tests, slice_get-map, seen_node, option_map, slice_get_read, length)
 
 elsewhere : {A : Type 0} (xs : List A) (written place : ℕ) (x : A) → place ≢ written → slice_get (set xs written x) place ≡ slice_get xs place
-elsewhere [] written place x differs = refl
 elsewhere (y ∷ ys) zero zero x differs = absurd (differs refl)
-elsewhere (y ∷ ys) zero (suc place) x differs = refl
-elsewhere (y ∷ ys) (suc written) zero x differs = refl
 elsewhere (y ∷ ys) (suc written) (suc place) x differs = elsewhere ys written place x (λ same. differs (ap suc same))
+elsewhere _ _ _ x differs = refl
 
 -- ---- the parts that are left
 
@@ -117,25 +106,12 @@ opens_as_held graph before nodes number node anchor named is holds none =
 pub ends_as_held : {A : Type 0} (graph : Graph) (before : List Step) (nodes : List (yaml_node_t A)) (number : ℕ) (node : yaml_node_t A)
     → IsNamed (length nodes) number → node ≡ get_or nodes (number - 1) node → HoldsTexts graph before (map seen_node nodes)
     → closing_event_of (seen_held node.contents) ≡ closing_events (node_numbered graph number)
-ends_as_held graph before nodes number node named is holds =
-    let place = number - 1 in
-    let inside : place < length nodes = omega (arith, named.first, named.last) in
-    sym (ap closing_events (node_at nodes place node inside is))
-    ∙ holds.ends place
-    ∙ ap closing_events (sym (numbered_at graph number named.first))
+ends_as_held graph before nodes number node named is holds = grind (arith, nat_tests, length, closing_events, node_at, numbered_at)
 
 -- nodes that stay as they are still hold all parts that more steps need
 pub still_held : (graph : Graph) (before : List Step) (step : Step) (nodes : List GraphNode) → HoldsTexts graph before nodes
     → HoldsTexts graph (before ++ step ∷ []) nodes
-still_held graph before step nodes holds =
-    record {
-      counted = holds.counted;
-      opens = λ anchor place none.
-          holds.opens anchor place
-          (or_parts (list_any (is_entry_of (suc place)) before) (is_entry_of (suc place) step)
-          (sym (any_added (is_entry_of (suc place)) before step) ∙ none)).0;
-      ends = holds.ends;
-    }
+still_held graph before step nodes holds = grind (arith, nat_tests, or_parts, list_any, is_entry_of, any_added)
 
 -- a node is of the same kind after it was entered
 ends_after : {A : Type 0} (nodes : List (yaml_node_t A)) (written place : ℕ) (node after : yaml_node_t A) (same : Bool) → (place == written) ≡ same
@@ -148,10 +124,7 @@ ends_after nodes written place node after true same inside is kind =
     subst (λ (p : ℕ). closing_events (slice_get (map seen_node (set nodes written after)) p) ≡ closing_events (slice_get (map seen_node nodes) p)) (sym here)
     (ap closing_events now ∙ kind ∙ sym (ap closing_events (node_at nodes written node inside is)))
 ends_after nodes written place node after false other inside is kind =
-    let differs : place ≢ written = grind (arith, nat_tests) in
-    ap closing_events
-    (slice_get-map seen_node (set nodes written after) place ∙ ap (option_map seen_node) (elsewhere nodes written place after differs)
-    ∙ sym (slice_get-map seen_node nodes place))
+    grind (arith, nat_tests, closing_events, slice_get-map, seen_node, set, option_map, elsewhere)
 
 -- a node that is entered gives its texts away, and the others stay
 pub held_after_entry : {A : Type 0} (graph : Graph) (before : List Step) (nodes : List (yaml_node_t A)) (number : ℕ) (node after : yaml_node_t A)
@@ -179,44 +152,25 @@ held_after_entry graph before nodes number node after named is kind holds =
 
 -- nodes hold their own texts
 pub holds_own : (graph : Graph) (nodes : List GraphNode) → nodes ≡ graph.nodes → HoldsTexts graph [] nodes
-holds_own graph nodes same =
-    record {
-      counted = ap length same;
-      opens = λ anchor place none. ap (λ (all : List GraphNode). opening_events anchor (slice_get all place)) same;
-      ends = λ place. ap (λ (all : List GraphNode). closing_events (slice_get all place)) same;
-    }
+holds_own graph nodes same = grind (arith, nat_tests, length, opening_events, slice_get, closing_events)
 
 opening_copied : (anchor : Option Text) (tag : Text) (held : Held)
     → opening_event_of anchor tag (held_without_children held) ∷ [] ≡ opening_event_of anchor tag held ∷ []
-opening_copied anchor tag (scalar_held value style) = refl
-opening_copied anchor tag (sequence_held items style) = refl
-opening_copied anchor tag (mapping_held pairs style) = refl
+opening_copied anchor tag held = grind (arith, nat_tests)
 
 closing_copied : (held : Held) → closing_event_of (held_without_children held) ≡ closing_event_of held
-closing_copied (scalar_held value style) = refl
-closing_copied (sequence_held items style) = refl
-closing_copied (mapping_held pairs style) = refl
+closing_copied held = grind (arith, nat_tests)
 
 opens_copied : (anchor : Option Text) (node : Option GraphNode) → opening_events anchor (option_map without_children node) ≡ opening_events anchor node
-opens_copied anchor None = refl
-opens_copied anchor (Some node) = opening_copied anchor node.tag node.held
+opens_copied anchor found = grind (arith, nat_tests, opening_copied)
 
 ends_copied : (node : Option GraphNode) → closing_events (option_map without_children node) ≡ closing_events node
-ends_copied None = refl
-ends_copied (Some node) = closing_copied node.held
+ends_copied found = grind (arith, nat_tests, closing_copied)
 
 -- so do copies without children
 pub copies_hold : (graph : Graph) (nodes : List GraphNode) → nodes ≡ map without_children graph.nodes → HoldsTexts graph [] nodes
 copies_hold graph nodes copied =
-    record {
-      counted = ap length copied ∙ length-map graph.nodes without_children;
-      opens = λ anchor place none.
-          ap (λ (all : List GraphNode). opening_events anchor (slice_get all place)) copied
-          ∙ ap (opening_events anchor) (slice_get-map without_children graph.nodes place) ∙ opens_copied anchor (slice_get graph.nodes place);
-      ends = λ place.
-          ap (λ (all : List GraphNode). closing_events (slice_get all place)) copied
-          ∙ ap closing_events (slice_get-map without_children graph.nodes place) ∙ ends_copied (slice_get graph.nodes place);
-    }
+    grind (arith, nat_tests, length, length-map, without_children, opening_events, slice_get, slice_get-map, opens_copied, closing_events, ends_copied)
 
 -- one more copy
 pub copied_more : {A : Type 0} (graph : Graph) (before : ℕ) (copies grown : List (yaml_node_t A)) (copy : yaml_node_t A) (node : GraphNode)

@@ -1,4 +1,5 @@
 -- The graph in the order of its walk is a document with the same events.
+use Rattle.yaml_dump.proofs.Common.{nat_tests}
 use Rattle.yaml_base.proofs.Common.{suc, zero, ℕ, ◌==◌, Contains, unwrap_or, Option, None, Some, nat_le, length, Bool, false, true, ◌||◌, ◌&&◌, List, [], map}
 use Rattle.yaml_base.proofs.Common.{◌++◌, ◌∷◌, refl, ◌≡◌, le-leb, inl, inr, ap, sym, if◌then◌else◌, ◌∙◌, arith, length-map, Contains-append_right, flat_map}
 use Rattle.yaml_base.proofs.Common.{list_all, Graph, GraphNode, children, is_whole, Step, enters, leaves, meets_again, Event, document_start, document_end}
@@ -32,15 +33,11 @@ entered_of walk number within = contained_has (entered_nodes walk) number within
     contained_has : (xs : List ℕ) (number : ℕ) → Contains xs number → has number xs ≡ true
     contained_has [] number (k, within, is) = absurd (omega (arith, within))
     contained_has (x ∷ xs) number (zero, within, is) = ap (λ (b : Bool). b || has number xs) (eq-eqb x number is)
-    contained_has (x ∷ xs) number (suc k, within, is) =
-        ap (λ (b : Bool). x == number || b) (contained_has xs number (k, omega (arith, within), is)) ∙ or-true (x == number)
+    contained_has (x ∷ xs) number (suc k, within, is) = grind (arith, nat_tests, or-true, contained_has xs number (k, omega (arith, within), is))
 
 names_one : (order : List ℕ) (count number : ℕ) → count ≡ length order → has number order ≡ true
     → (nat_le 1 (number_in_order order number) && nat_le (number_in_order order number) count) ≡ true
-names_one order count number is there =
-    and_from (nat_le 1 (number_in_order order number)) (nat_le (number_in_order order number) count)
-    (le-leb 1 (number_in_order order number) (omega arith))
-    (le-leb (number_in_order order number) count (omega (arith, place_within number order there, is)))
+names_one order count number is there = grind (arith, nat_tests, and_from, nat_le, number_in_order, le-leb, place_within)
 
 in_order_whole : (graph : Graph) → HasWalk graph → is_whole (in_order graph) ≡ true
 in_order_whole graph walked =

@@ -3,8 +3,8 @@ use Rattle.yaml_base.proofs.Common.{suc, zero, ℕ, ◌+◌, ◌≤◌, ◌==◌
 use Rattle.yaml_base.proofs.Common.{◌||◌, List, map, ◌++◌, ◌∷◌, refl, ◌≡◌, eq-eqb, eqb-true, inl, inr, ap, subst, sym, ◌∙◌, arith, same_from_decides, nat_tests}
 use Rattle.yaml_base.proofs.Common.{Contains-append_right, flat_map, ltb-true, list_any, position_or_len, Text, Isomorphic, Graph, GraphNode, children, Step}
 use Rattle.yaml_base.proofs.Common.{enters, leaves, meets_again, is_entry_of, anchor_of, Placed, alias_placed, slice_index_or as get_or, PlacedNodes, number_at}
-use Rattle.yaml_base.proofs.Common.{node_placed, none_placed, placed_and, IsReached, first_reached, child_reached, IsWholeGraph, or_cases, Held, scalar_held}
-use Rattle.yaml_base.proofs.Common.{sequence_held, mapping_held, NumberPair, numbers_held, node_numbered, label_at, opening_event_of, closing_event_of}
+use Rattle.yaml_base.proofs.Common.{node_placed, none_placed, placed_and, IsReached, first_reached, child_reached, IsWholeGraph, or_cases, Held}
+use Rattle.yaml_base.proofs.Common.{NumberPair, numbers_held, node_numbered, label_at, opening_event_of, closing_event_of}
 use Rattle.yaml_base.proofs.{Common.label_of, DocumentsUnfold.some_nodes}
 use Rattle.std.specs.List.{slice_get}
 use Rattle.yaml_base.specs.graphs.Meetings.{graph_steps}
@@ -21,9 +21,7 @@ same_turned number other = grind (arith, nat_tests, same_from_decides, eqb-true,
 -- a node that is entered is in the order
 pub entered_has : (number : ℕ) (walk : List Step) → has number (entered_nodes walk) ≡ list_any (is_entry_of number) walk
 entered_has number [] = refl
-entered_has number (enters other ∷ walk) =
-    ap (λ (b : Bool). b || has number (entered_nodes walk)) (same_turned number other)
-    ∙ ap (λ (b : Bool). number == other || b) (entered_has number walk)
+entered_has number (enters other ∷ walk) = grind (arith, nat_tests, has, entered_nodes, same_turned, entered_has number walk)
 entered_has number (leaves other ∷ walk) = entered_has number walk
 entered_has number (meets_again other ∷ walk) = entered_has number walk
 
@@ -63,9 +61,7 @@ number_of_place order (suc place) = get_or order place 0
 
 reached_entered : (graph : Graph) (walk : List Step) (placed : Placed) → IsOrderly graph walk → Fits (anchor_of walk) graph placed → walk ≡ placed_steps placed
     → number_at placed ≡ 1 → {number : ℕ} → IsReached graph number → list_any (is_entry_of number) walk ≡ true
-reached_entered graph walk placed orderly fits is root first_reached =
-    orderly.met 1
-    (ap (list_any (is_meeting_of 1)) is ∙ subst (λ (n : ℕ). list_any (is_meeting_of n) (placed_steps placed) ≡ true) root (root_met placed))
+reached_entered graph walk placed orderly fits is root first_reached = grind (arith, nat_tests, list_any, is_meeting_of, placed_steps, root_met)
 reached_entered graph walk placed orderly fits is root (child_reached {number = parent} {child = child} reached within) =
     let before = reached_entered graph walk placed orderly fits is root reached in
     let met = children_met (anchor_of walk) graph placed parent child fits (ap (list_any (is_entry_of parent)) (sym is) ∙ before) within in
@@ -131,36 +127,25 @@ numbers_by_pairs place [] = refl
 numbers_by_pairs place (pair ∷ pairs) = ap (λ (rest : List ℕ). place pair.key ∷ place pair.value ∷ rest) (numbers_by_pairs place pairs)
 
 pub numbers_by : (place : ℕ → ℕ) (held : Held) → numbers_held (renumber_children place held) ≡ map place (numbers_held held)
-numbers_by place (scalar_held value style) = refl
-numbers_by place (sequence_held items style) = refl
-numbers_by place (mapping_held pairs style) = numbers_by_pairs place pairs
+numbers_by place held = grind (arith, nat_tests, numbers_by_pairs)
 
 pub opening_by : (place : ℕ → ℕ) (anchor : Option Text) (tag : Text) (held : Held)
     → opening_event_of anchor tag (renumber_children place held) ≡ opening_event_of anchor tag held
-opening_by place anchor tag (scalar_held value style) = refl
-opening_by place anchor tag (sequence_held items style) = refl
-opening_by place anchor tag (mapping_held pairs style) = refl
+opening_by place anchor tag held = grind (arith, nat_tests)
 
 pub closing_by : (place : ℕ → ℕ) (held : Held) → closing_event_of (renumber_children place held) ≡ closing_event_of held
-closing_by place (scalar_held value style) = refl
-closing_by place (sequence_held items style) = refl
-closing_by place (mapping_held pairs style) = refl
+closing_by place held = grind (arith, nat_tests)
 
 label_by : (place : ℕ → ℕ) (tag : Text) (held : Held)
     → label_of false (record { tag = tag; held = renumber_children place held }) ≡ label_of false (record { tag = tag; held = held })
-label_by place tag (scalar_held value style) = refl
-label_by place tag (sequence_held items style) = refl
-label_by place tag (mapping_held pairs style) = refl
+label_by place tag held = grind (arith, nat_tests)
 
 -- the node of a place in the new order
 pub node_placed_at : (graph : Graph) (number : ℕ) (node : GraphNode) → has number (entered_nodes (graph_steps graph)) ≡ true
     → node_numbered graph number ≡ Some node
     → node_numbered (in_order graph) (number_in_order (entered_nodes (graph_steps graph)) number)
     ≡ Some (node_by (number_in_order (entered_nodes (graph_steps graph))) node)
-node_placed_at graph number node there is =
-    let order = entered_nodes (graph_steps graph) in
-    mapped_at (λ (other : ℕ). node_by (number_in_order order) (numbered_node graph other)) number order there
-    ∙ ap (λ (found : Option GraphNode). Some (node_by (number_in_order order) (unwrap_or found (numbered_node graph 0)))) is
+node_placed_at graph number node there is = grind (arith, nat_tests, entered_nodes, graph_steps, mapped_at, node_by, number_in_order, numbered_node, unwrap_or)
 
 -- ---- isomorphic
 
@@ -194,10 +179,7 @@ labels_in_order graph walked number reached =
 
 pub root_first : (graph : Graph) (placed : Placed) → number_at placed ≡ 1 → FollowEntries [] (placed_steps placed)
     → number_in_order (entered_nodes (placed_steps placed)) 1 ≡ 1
-root_first graph (alias_placed name number) is follow = absurd (let no : false ≡ true = follow.0 in cc)
-root_first graph (node_placed anchor number below) is follow =
-    ap (λ (b : Bool). suc (cond (not b) (1 + position_or_len (λ other. other == 1) (entered_nodes (below_steps below ++ leaves number ∷ []))) 0))
-    (eq-eqb number 1 is)
+root_first graph placed is follow = grind (arith, nat_tests, cond, not, position_or_len, entered_nodes, below_steps, eq-eqb)
 
 pub reached_back : (graph : Graph) (walked : HasWalk graph) → number_in_order (entered_nodes (graph_steps graph)) 1 ≡ 1 → {number : ℕ}
     → IsReached (in_order graph) number

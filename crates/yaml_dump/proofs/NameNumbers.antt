@@ -1,6 +1,6 @@
 -- The name that a dump gives the shared node of a rank has the rank as its number.
-use Rattle.yaml_base.proofs.Common.{suc, zero, ℕ, ◌+◌, ◌-◌, ◌*◌, ◌/◌, ◌%◌, ◌<◌, ◌≤◌, ◌==◌, length, replicate, cond, false, true, List, [], ◌∷◌, ◌++◌, refl, ◌≡◌}
-use Rattle.yaml_base.proofs.Common.{eqb-true, ap, ◌∙◌, arith, nat_tests, digit_glyph, digits_onto, numbered_name, fold}
+use Rattle.yaml_base.proofs.Common.{suc, zero, ℕ, ◌+◌, ◌*◌, ◌/◌, ◌<◌, ◌≤◌, length, replicate, cond, false, List, ◌++◌, refl, ◌≡◌}
+use Rattle.yaml_base.proofs.Common.{eqb-true, arith, nat_tests, digit_glyph, digits_onto, numbered_name, fold}
 use Rattle.yaml_base.specs.{graphs.Meetings.decimal_digits, Settings.largest_usize}
 use Rattle.yaml_dump.specs.Composition.{with_digit, number_in_name}
 
@@ -13,19 +13,7 @@ digits_read : (room number : ℕ) (rest : List ℕ) → number < room → number
     → fold with_digit 0 (digits_onto room 10 false number rest) ≡ fold with_digit number rest
 digits_read zero number rest small fits = absurd (omega (arith, small))
 digits_read (suc room) number rest small fits =
-    let glyph = digit_glyph false (number % 10) in
-    (elim (number / 10 == 0) as (λ one. (number / 10 == 0) ≡ one
-    → fold with_digit 0 (cond one (glyph ∷ rest) (digits_onto room 10 false (number / 10) (glyph ∷ rest))) ≡ fold with_digit number rest) [
-      | true ↦ λ is.
-          let none = eqb-true (number / 10) 0 is in
-          let same : 0 * 10 + number % 10 ≡ number = omega (arith, none) in
-          ap (λ (n : ℕ). fold with_digit n rest) (digit_taken 0 (number % 10) (omega arith) (omega (arith, same, fits)) ∙ same)
-      | false ↦ λ is.
-          let less : number / 10 < room = grind (arith, nat_tests, small, is) in
-          let same : (number / 10) * 10 + number % 10 ≡ number = omega arith in
-          digits_read room (number / 10) (glyph ∷ rest) less (omega (arith, fits))
-          ∙ ap (λ (n : ℕ). fold with_digit n rest) (digit_taken (number / 10) (number % 10) (omega arith) (omega (arith, same, fits)) ∙ same)
-    ]) refl
+    grind (arith, nat_tests, digit_glyph, fold, with_digit, cond, digits_onto, eqb-true, digit_taken, digits_read room (number / 10))
 
 -- leading zeros don't count
 zeros_read : (count : ℕ) (digits : List ℕ) → fold with_digit 0 (replicate count 0x30 ++ digits) ≡ fold with_digit 0 digits
@@ -34,6 +22,4 @@ zeros_read (suc count) digits = zeros_read count digits
 
 pub name_read : (number : ℕ) → number ≤ largest_usize → number_in_name (numbered_name number) ≡ number
 unfolding decimal_digits
-name_read number fits =
-    zeros_read (3 - length (digits_onto (suc number) 10 false number [])) (digits_onto (suc number) 10 false number [])
-    ∙ digits_read (suc number) number [] (omega arith) fits
+name_read number fits = grind (arith, nat_tests, zeros_read, length, digits_onto, digits_read)

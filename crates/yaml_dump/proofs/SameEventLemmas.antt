@@ -1,22 +1,18 @@
 -- The meaning of `==` for events: whether their views are equal.
-use Rattle.yaml_dump.proofs.Common.{◌≡◌, refl, false≢true, ap, sym, ◌∙◌, Bool, ◌&&◌, List, [], ◌∷◌, map, Option, None, Some, option_map, seen_event}
+use Rattle.yaml_dump.proofs.Common.{arith, nat_tests}
+use Rattle.yaml_dump.proofs.Common.{◌≡◌, refl, false≢true, ap, sym, ◌∙◌, Bool, ◌&&◌, List, [], ◌∷◌, map, Option, option_map, seen_event}
 use Rattle.std.proofs.lemmas.{Bool.Decides.Decides-at, Bool.Decides.Decides-like, Bool.Decides.Decides-and}
-use Rattle.std.proofs.lemmas.{Bool.Decides.Decides-int_eq, Slice.Eq.bytes_eq-Decides, Str.encodes-chars}
+use Rattle.std.proofs.lemmas.{Slice.Eq.bytes_eq-Decides, Str.encodes-chars}
 use Rattle.std.proofs.lemmas.Str.{IsUtf8-string_bytes}
 use Rattle.std.specs.{Bool.Decides, Cmp.booleans_Decides, Cmp.Lexicographic.pointwise, Option.option_eq, String.string_eq, String.string_bytes, Str.chars}
 use Rattle.std.specs.{Str.encode_utf8_all, Prelude.String, declared.alloc.Allocator.Ghosts}
-use Rattle.yaml_base.specs.Event.{Version, TagDirective, DocumentStart, Scalar, Collection}
-use Rattle.yaml_base.specs.{Event.stream_start, Event.document_start, Event.document_end, Event.alias, Event.scalar, Event.sequence_start, Event.mapping_start}
+use Rattle.yaml_base.specs.Event.{DocumentStart, Scalar, Collection}
+use Rattle.yaml_base.specs.{Event.document_start, Event.alias, Event.scalar, Event.sequence_start, Event.mapping_start}
 use Rattle.yaml_base.specs.Seen.{seen_text, seen_version, seen_directive, seen_encoding, seen_scalar_style, seen_sequence_style, seen_mapping_style}
 use Rattle.yaml_base.specs.{declared.encodings.yaml_encoding_t.yaml_encoding_t, declared.styles.yaml_scalar_style_t.yaml_scalar_style_t}
-use Rattle.yaml_base.specs.declared.encodings.yaml_encoding_t.TheVariants.{YAML_ANY_ENCODING, YAML_UTF8_ENCODING, YAML_UTF16LE_ENCODING, YAML_UTF16BE_ENCODING}
-use Rattle.yaml_base.specs.{declared.styles.yaml_scalar_style_t.TheVariants.YAML_FOLDED_SCALAR_STYLE, declared.styles.yaml_mapping_style_t.yaml_mapping_style_t}
-use Rattle.yaml_base.specs.declared.styles.yaml_scalar_style_t.TheVariants.{YAML_ANY_SCALAR_STYLE, YAML_PLAIN_SCALAR_STYLE, YAML_SINGLE_QUOTED_SCALAR_STYLE}
-use Rattle.yaml_base.specs.declared.styles.yaml_scalar_style_t.TheVariants.{YAML_DOUBLE_QUOTED_SCALAR_STYLE, YAML_LITERAL_SCALAR_STYLE}
+use Rattle.yaml_base.specs.{declared.styles.yaml_mapping_style_t.yaml_mapping_style_t}
 use Rattle.yaml_base.specs.{declared.styles.yaml_sequence_style_t.yaml_sequence_style_t, declared.directives.yaml_version_directive_t.yaml_version_directive_t}
 use Rattle.yaml_base.specs.{declared.directives.yaml_tag_directive_t.yaml_tag_directive_t, declared.events.yaml_event_t.yaml_event_t}
-use Rattle.yaml_base.specs.declared.styles.yaml_sequence_style_t.TheVariants.{YAML_ANY_SEQUENCE_STYLE, YAML_BLOCK_SEQUENCE_STYLE, YAML_FLOW_SEQUENCE_STYLE}
-use Rattle.yaml_base.specs.declared.styles.yaml_mapping_style_t.TheVariants.{YAML_ANY_MAPPING_STYLE, YAML_BLOCK_MAPPING_STYLE, YAML_FLOW_MAPPING_STYLE}
 use Rattle.yaml_base.specs.declared.events.yaml_event_t.TheVariants.{YAML_STREAM_START_EVENT, YAML_STREAM_END_EVENT, YAML_DOCUMENT_START_EVENT}
 use Rattle.yaml_base.specs.declared.events.yaml_event_t.TheVariants.{YAML_DOCUMENT_END_EVENT, YAML_ALIAS_EVENT, YAML_SCALAR_EVENT, YAML_SEQUENCE_START_EVENT}
 use Rattle.yaml_base.specs.declared.events.yaml_event_t.TheVariants.{YAML_SEQUENCE_END_EVENT, YAML_MAPPING_START_EVENT, YAML_MAPPING_END_EVENT}
@@ -30,32 +26,16 @@ use denote.RattleType.{RattleType}
 use mir.Syntax.{Dict}
 
 same_encodings : (x y : yaml_encoding_t) → Decides (encodings.eq-value.it x y) (seen_encoding x ≡ seen_encoding y)
-same_encodings YAML_ANY_ENCODING YAML_ANY_ENCODING = (λ _. refl, λ _. refl)
-same_encodings YAML_UTF8_ENCODING YAML_UTF8_ENCODING = (λ _. refl, λ _. refl)
-same_encodings YAML_UTF16LE_ENCODING YAML_UTF16LE_ENCODING = (λ _. refl, λ _. refl)
-same_encodings YAML_UTF16BE_ENCODING YAML_UTF16BE_ENCODING = (λ _. refl, λ _. refl)
-same_encodings _ _ = (λ no. absurd (false≢true no), λ no. cc)
+same_encodings x y = grind (arith, nat_tests, false≢true)
 
 same_scalar_styles : (x y : yaml_scalar_style_t) → Decides (scalars.eq-value.it x y) (seen_scalar_style x ≡ seen_scalar_style y)
-same_scalar_styles YAML_ANY_SCALAR_STYLE YAML_ANY_SCALAR_STYLE = (λ _. refl, λ _. refl)
-same_scalar_styles YAML_PLAIN_SCALAR_STYLE YAML_PLAIN_SCALAR_STYLE = (λ _. refl, λ _. refl)
-same_scalar_styles YAML_SINGLE_QUOTED_SCALAR_STYLE YAML_SINGLE_QUOTED_SCALAR_STYLE = (λ _. refl, λ _. refl)
-same_scalar_styles YAML_DOUBLE_QUOTED_SCALAR_STYLE YAML_DOUBLE_QUOTED_SCALAR_STYLE = (λ _. refl, λ _. refl)
-same_scalar_styles YAML_LITERAL_SCALAR_STYLE YAML_LITERAL_SCALAR_STYLE = (λ _. refl, λ _. refl)
-same_scalar_styles YAML_FOLDED_SCALAR_STYLE YAML_FOLDED_SCALAR_STYLE = (λ _. refl, λ _. refl)
-same_scalar_styles _ _ = (λ no. absurd (false≢true no), λ no. cc)
+same_scalar_styles x y = grind (arith, nat_tests, false≢true)
 
 same_sequence_styles : (x y : yaml_sequence_style_t) → Decides (sequences.eq-value.it x y) (seen_sequence_style x ≡ seen_sequence_style y)
-same_sequence_styles YAML_ANY_SEQUENCE_STYLE YAML_ANY_SEQUENCE_STYLE = (λ _. refl, λ _. refl)
-same_sequence_styles YAML_BLOCK_SEQUENCE_STYLE YAML_BLOCK_SEQUENCE_STYLE = (λ _. refl, λ _. refl)
-same_sequence_styles YAML_FLOW_SEQUENCE_STYLE YAML_FLOW_SEQUENCE_STYLE = (λ _. refl, λ _. refl)
-same_sequence_styles _ _ = (λ no. absurd (false≢true no), λ no. cc)
+same_sequence_styles x y = grind (arith, nat_tests, false≢true)
 
 same_mapping_styles : (x y : yaml_mapping_style_t) → Decides (mappings.eq-value.it x y) (seen_mapping_style x ≡ seen_mapping_style y)
-same_mapping_styles YAML_ANY_MAPPING_STYLE YAML_ANY_MAPPING_STYLE = (λ _. refl, λ _. refl)
-same_mapping_styles YAML_BLOCK_MAPPING_STYLE YAML_BLOCK_MAPPING_STYLE = (λ _. refl, λ _. refl)
-same_mapping_styles YAML_FLOW_MAPPING_STYLE YAML_FLOW_MAPPING_STYLE = (λ _. refl, λ _. refl)
-same_mapping_styles _ _ = (λ no. absurd (false≢true no), λ no. cc)
+same_mapping_styles x y = grind (arith, nat_tests, false≢true)
 
 same_texts : {A : Type 0} (x y : String A) → Decides (string_eq x y) (seen_text x ≡ seen_text y)
 same_texts x y =
@@ -65,29 +45,20 @@ same_texts x y =
 
 same_options : {X Y : Type 0} (E : X → X → Bool) (seen : X → Y) → ((x y : X) → Decides (E x y) (seen x ≡ seen y)) → (x y : Option X)
     → Decides (option_eq E x y) (option_map seen x ≡ option_map seen y)
-same_options E seen same None None = (λ _. refl, λ _. refl)
-same_options E seen same (Some x) (Some y) = Decides-like _ (ap (λ item. Some item)) (λ is. cc) (same x y)
-same_options E seen same _ _ = (λ no. absurd (false≢true no), λ no. cc)
+same_options E seen x y z = grind (arith, nat_tests, false≢true)
 
 same_lists : {X Y : Type 0} (E : X → X → Bool) (seen : X → Y) → ((x y : X) → Decides (E x y) (seen x ≡ seen y)) → (xs ys : List X)
     → Decides (pointwise E xs ys) (map seen xs ≡ map seen ys)
 same_lists E seen same [] [] = (λ _. refl, λ _. refl)
-same_lists E seen same (x ∷ xs) (y ∷ ys) =
-    Decides-like _ (λ all i. all.0 i ∷ all.1 i) (λ is. (cc, cc)) (Decides-and (E x y) _ (same x y) (same_lists E seen same xs ys))
+same_lists E seen same (x ∷ xs) (y ∷ ys) = grind (arith, nat_tests, same_lists E seen same xs ys, E x y, same x y)
 same_lists E seen same _ _ = (λ no. absurd (false≢true no), λ no. cc)
 
 same_versions : (x y : yaml_version_directive_t) → Decides (versions.eq-value.it x y) (seen_version x ≡ seen_version y)
-same_versions x y =
-    Decides-like _ (λ all i. record { major = all.0 i; minor = all.1 i })
-    (λ is. (ap (λ (version : Version). version.major) is, ap (λ (version : Version). version.minor) is))
-    (Decides-and _ _ (Decides-int_eq x.major y.major) (Decides-int_eq x.minor y.minor))
+same_versions x y = grind (arith, nat_tests)
 
 same_directives : {A : Type 0} (x y : yaml_tag_directive_t A)
     → Decides (string_eq x.handle y.handle && string_eq x.prefix y.prefix) (seen_directive x ≡ seen_directive y)
-same_directives x y =
-    Decides-like _ (λ all i. record { handle = all.0 i; prefix = all.1 i })
-    (λ is. (ap (λ (directive : TagDirective). directive.handle) is, ap (λ (directive : TagDirective). directive.prefix) is))
-    (Decides-and _ _ (same_texts x.handle y.handle) (same_texts x.prefix y.prefix))
+same_directives x y = grind (arith, nat_tests, same_texts)
 
 same_names : {A : Type 0} (x y : Option (String A)) → Decides (option_eq string_eq x y) (option_map seen_text x ≡ option_map seen_text y)
 same_names x y = same_options string_eq seen_text same_texts x y
@@ -107,25 +78,18 @@ mapping_of is = cc
 scalar_parts : {x y : Scalar} → x ≡ y
     → (x.anchor ≡ y.anchor) × ((x.tag ≡ y.tag) × ((x.value ≡ y.value)
     × ((x.plain_implicit ≡ y.plain_implicit) × ((x.quoted_implicit ≡ y.quoted_implicit) × (x.style ≡ y.style)))))
-scalar_parts same =
-    (λ i. (same i).anchor, (λ i. (same i).tag, (λ i. (same i).value, (λ i. (same i).plain_implicit, (λ i. (same i).quoted_implicit, λ i. (same i).style)))))
+scalar_parts same = grind (arith, nat_tests)
 
 collection_parts : {x y : Collection} → x ≡ y → (x.anchor ≡ y.anchor) × ((x.tag ≡ y.tag) × ((x.implicit ≡ y.implicit) × (x.style ≡ y.style)))
 collection_parts same = (λ i. (same i).anchor, (λ i. (same i).tag, (λ i. (same i).implicit, λ i. (same i).style)))
 
 same_events : (A : RattleType) (allocator : Ghosts A.Denot) (own drops : Dict) (x y : yaml_event_t A.Denot)
     → Decides ((events.eq-value A allocator own drops).it x y) (seen_event x ≡ seen_event y)
-same_events A allocator own drops (YAML_STREAM_START_EVENT encoding) (YAML_STREAM_START_EVENT other) =
-    Decides-like _ (ap stream_start) (λ is. cc) (same_encodings encoding other)
+same_events A allocator own drops (YAML_STREAM_START_EVENT encoding) (YAML_STREAM_START_EVENT other) = grind (arith, nat_tests, same_encodings)
 same_events A allocator own drops YAML_STREAM_END_EVENT YAML_STREAM_END_EVENT = (λ _. refl, λ _. refl)
 same_events A allocator own drops (YAML_DOCUMENT_START_EVENT version directives implicit) (YAML_DOCUMENT_START_EVENT other others also) =
-    Decides-like _ (λ all i. document_start record { version = all.0 i; directives = all.1.0 i; implicit = all.1.1 i })
-    (λ is. let same = start_of is in
-    (λ i. (same i).version, (λ i. (same i).directives, λ i. (same i).implicit)))
-    (Decides-and _ _ (same_options _ seen_version same_versions version other)
-    (Decides-and _ _ (same_lists _ seen_directive same_directives directives.items others.items) (booleans_Decides implicit also)))
-same_events A allocator own drops (YAML_DOCUMENT_END_EVENT implicit) (YAML_DOCUMENT_END_EVENT other) =
-    Decides-like _ (ap document_end) (λ is. cc) (booleans_Decides implicit other)
+    grind (arith, nat_tests, start_of, same_options, seen_version, same_versions, same_lists, seen_directive, same_directives, booleans_Decides)
+same_events A allocator own drops (YAML_DOCUMENT_END_EVENT implicit) (YAML_DOCUMENT_END_EVENT other) = grind (arith, nat_tests, booleans_Decides)
 same_events A allocator own drops (YAML_ALIAS_EVENT anchor) (YAML_ALIAS_EVENT other) = Decides-like _ (ap alias) (λ is. cc) (same_texts anchor other)
 same_events A allocator own drops (YAML_SCALAR_EVENT anchor tag value plain quoted style) (YAML_SCALAR_EVENT name kind text bare marked shape) =
     Decides-like _
@@ -140,16 +104,10 @@ same_events A allocator own drops (YAML_SCALAR_EVENT anchor tag value plain quot
     (Decides-and _ _ (same_names anchor name) (Decides-and _ _ (same_names tag kind) (Decides-and _ _ (same_texts value text)
     (Decides-and _ _ (booleans_Decides plain bare) (Decides-and _ _ (booleans_Decides quoted marked) (same_scalar_styles style shape))))))
 same_events A allocator own drops (YAML_SEQUENCE_START_EVENT anchor tag implicit style) (YAML_SEQUENCE_START_EVENT name kind also shape) =
-    Decides-like _ (λ all i. sequence_start record { anchor = all.0 i; tag = all.1.0 i; implicit = all.1.1.0 i; style = all.1.1.1 i })
-    (λ is. collection_parts (sequence_of is))
-    (Decides-and _ _ (same_names anchor name)
-    (Decides-and _ _ (same_names tag kind) (Decides-and _ _ (booleans_Decides implicit also) (same_sequence_styles style shape))))
+    grind (arith, nat_tests, collection_parts, sequence_of, same_names, booleans_Decides, same_sequence_styles)
 same_events A allocator own drops YAML_SEQUENCE_END_EVENT YAML_SEQUENCE_END_EVENT = (λ _. refl, λ _. refl)
 same_events A allocator own drops (YAML_MAPPING_START_EVENT anchor tag implicit style) (YAML_MAPPING_START_EVENT name kind also shape) =
-    Decides-like _ (λ all i. mapping_start record { anchor = all.0 i; tag = all.1.0 i; implicit = all.1.1.0 i; style = all.1.1.1 i })
-    (λ is. collection_parts (mapping_of is))
-    (Decides-and _ _ (same_names anchor name)
-    (Decides-and _ _ (same_names tag kind) (Decides-and _ _ (booleans_Decides implicit also) (same_mapping_styles style shape))))
+    grind (arith, nat_tests, collection_parts, mapping_of, same_names, booleans_Decides, same_mapping_styles)
 same_events A allocator own drops YAML_MAPPING_END_EVENT YAML_MAPPING_END_EVENT = (λ _. refl, λ _. refl)
 same_events A allocator own drops _ _ = (λ no. absurd (false≢true no), λ no. cc)
 

@@ -1,12 +1,12 @@
 -- Documents that were dumped with their types read back as their graphs with all tags.
 use Rattle.yaml_dump.proofs.Common.{unwrap_or, Option, None, Some, false, true, List, [], map, ◌∷◌, refl, ◌≡◌, ap, subst, sym, ◌∙◌, false≢true}
-use Rattle.yaml_dump.proofs.Common.{list_all, dumped_stream, Text, Event, Settings, IsDumpOf, Graph, DocumentTree, State}
-use Rattle.yaml_base.proofs.Common.{ℕ, option_map, is_some, and_parts, and_from, scalar, sequence_start, mapping_start, scalar_tag, Stream, stream_events}
+use Rattle.yaml_dump.proofs.Common.{list_all, dumped_stream, Text, Event, Settings, IsDumpOf, Graph, DocumentTree, State, arith, nat_tests}
+use Rattle.yaml_base.proofs.Common.{ℕ, option_map, is_some, and_parts, and_from, scalar_tag, Stream, stream_events}
 use Rattle.yaml_base.proofs.Common.{IsAccepted, agrees, stream_trees, bytes_written, list_layout, encoding_asked, has_scalar_texts}
 use Rattle.yaml_base.proofs.Common.{settings_for, resolved_by_core, resolved_by_11, reads_alike}
 use Rattle.std.proofs.Common.{take_all}
 use Rattle.yaml_base.specs.{graphs.Meetings.string_tag, streams.StreamContent.is_same_text, values.CanonicalTags.Schema}
-use Rattle.yaml_emitter.specs.{Emits.IsPromised, Promises.IsWritten}
+use Rattle.yaml_emitter.specs.{Emits.IsPromised}
 use Rattle.yaml_writer.proofs.TypedTrees.{typed_stream, stream_typed, typed_read}
 use Rattle.yaml_writer.specs.TypedEvents.{typed_event, document_by, says_tag, ReadsTags}
 use Rattle.yaml_dump.proofs.{GraphLemmas.stream_accepted, GraphTreeLemmas.has_kept_tag, GraphTreeLemmas.dumped_keep, GraphTreeLemmas.dumped_trees_unfold}
@@ -15,20 +15,14 @@ use Rattle.yaml_dump.specs.TypedDumps.{TypesReadBack, TypedDumpsReadBack}
 -- ---- each event of dumped graphs has its node's tag
 
 some_tag : (tag : Option Text) (text : Text) → is_same_text (Some text) tag ≡ true → is_some tag ≡ true
-some_tag None text h = h
-some_tag (Some tag) text h = refl
+some_tag tag text h = grind (arith, nat_tests)
 
 says_kept : (event : Event) → has_kept_tag false event ≡ true → says_tag event ≡ true
-says_kept (scalar content) h = some_tag content.tag (unwrap_or (scalar_tag false content) string_tag) h
-says_kept (sequence_start start) h = h
-says_kept (mapping_start start) h = h
-says_kept event h = refl
+says_kept event h = grind (arith, nat_tests, some_tag, unwrap_or, scalar_tag, string_tag)
 
 all_say : (events : List Event) → list_all (has_kept_tag false) events ≡ true → list_all says_tag events ≡ true
 all_say [] h = refl
-all_say (event ∷ events) h =
-    let both = and_parts (has_kept_tag false event) (list_all (has_kept_tag false) events) h in
-    and_from (says_tag event) (list_all says_tag events) (says_kept event both.0) (all_say events both.1)
+all_say (event ∷ events) h = grind (arith, nat_tests, and_parts, has_kept_tag, list_all, and_from, says_tag, says_kept, all_say events)
 
 -- ---- the events that were given are written whole
 
@@ -51,9 +45,7 @@ module _ (graphs : List Graph) (events : List Event) (state : State) (dumped : I
   accepted = stream_accepted state promised none (typed_stream stream) (stream_typed stream ∙ ap (map typed_event) is ∙ sym was)
 
   bytes : state.page.output ≡ bytes_written (settings_for given typed) (list_layout (settings_for given typed) typed)
-  bytes =
-      let is_written : IsWritten given typed state = promised.whole none accepted in
-      is_written.output ∙ take_all given.limit (bytes_written (settings_for given typed) (list_layout (settings_for given typed) typed)) is_written.uncut
+  bytes = grind (arith, nat_tests, given, typed, accepted, take_all, given.limit, bytes_written, settings_for, list_layout)
 
   -- so by a schema all tags are read
   agree : (schema : Schema) → ReadsTags schema

@@ -1,6 +1,6 @@
 -- The visits that a walk still has to end make of its steps those of the whole walk.
 use Rattle.yaml_dump.proofs.Common.{suc, zero, ℕ, ◌≤◌, None, Some, drop, length, Bool, false, true, List, [], ◌++◌, ◌∷◌, refl, ◌≡◌, length-append, ap, ◌∙◌}
-use Rattle.yaml_dump.proofs.Common.{arith, list_any, slice_get, Graph, children, enters, leaves, meets_again, is_entry_of, steps_from}
+use Rattle.yaml_dump.proofs.Common.{arith, list_any, slice_get, Graph, children, enters, leaves, meets_again, is_entry_of, steps_from, nat_tests}
 use Rattle.std.specs.List.{fold}
 use Rattle.yaml_base.proofs.UnfoldSteps.{from_node}
 use Rattle.yaml_dump.specs.declared.walk.Visit.{Visit}
@@ -38,13 +38,7 @@ pub finish_longer : (depth : ℕ) (graph : Graph) (visits : List Visit) (before 
 unfolding finish
 finish_longer depth graph [] before = omega arith
 finish_longer depth graph (visit ∷ outer) before =
-    let behind = fold (steps_from depth graph) before (drop visit.met (children graph visit.number)) in
-    omega (
-      arith,
-      fold_longer (steps_from depth graph) (steps_longer depth graph) before (drop visit.met (children graph visit.number)),
-      added behind (leaves visit.number),
-      finish_longer (suc depth) graph outer (behind ++ leaves visit.number ∷ []),
-    )
+    grind (arith, nat_tests, fold, steps_from, drop, children, fold_longer, steps_longer, added, finish_longer (suc depth) graph outer)
 
 -- ---- a turn leaves the whole walk as it is
 
@@ -66,9 +60,7 @@ pub finish_left : (depth : ℕ) (graph : Graph) (visit : Visit) (outer : List Vi
     → slice_get (children graph visit.number) visit.met ≡ None
     → finish depth graph (visit ∷ outer) before ≡ finish (suc depth) graph outer (before ++ leaves visit.number ∷ [])
 unfolding finish
-finish_left depth graph visit outer before none =
-    ap (λ (numbers : List ℕ). finish (suc depth) graph outer (fold (steps_from depth graph) before numbers ++ leaves visit.number ∷ []))
-    (drop_none (children graph visit.number) visit.met none)
+finish_left depth graph visit outer before none = grind (arith, nat_tests, finish, fold, steps_from, drop_none, children)
 
 -- a child is met
 pub finish_met : (depth : ℕ) (graph : Graph) (visit : Visit) (outer : List Visit) (before : List meetings.Step) (child : ℕ)
@@ -76,9 +68,7 @@ pub finish_met : (depth : ℕ) (graph : Graph) (visit : Visit) (outer : List Vis
     → finish depth graph (visit ∷ outer) before
     ≡ finish depth graph (record { number = visit.number; met = suc visit.met } ∷ outer) (steps_from depth graph before child)
 unfolding finish
-finish_met depth graph visit outer before child some =
-    ap (λ (numbers : List ℕ). finish (suc depth) graph outer (fold (steps_from depth graph) before numbers ++ leaves visit.number ∷ []))
-    (drop_some (children graph visit.number) visit.met child some)
+finish_met depth graph visit outer before child some = grind (arith, nat_tests, finish, fold, steps_from, drop_some, children)
 
 -- a walk from a node, and then the visits' ends: a node that was entered is met again
 pub finish_again : (depth : ℕ) (graph : Graph) (visits : List Visit) (before : List meetings.Step) (number : ℕ) → list_any (is_entry_of number) before ≡ true

@@ -1,8 +1,9 @@
 -- The invariants of a walk's state, and that each turn keeps them.
+use Rattle.yaml_dump.proofs.Common.{nat_tests}
 use Rattle.yaml_base.proofs.Common.{suc, ℕ, ◌+◌, ◌-◌, ◌<◌, ◌≤◌, All, Option, None, Some, length, replicate, slice_index_or as get_or, Bool, cond, false, true}
-use Rattle.yaml_base.proofs.Common.{List, [], map, ◌++◌, ◌∷◌, ◌⊎◌, refl, ◌≡◌, eq-eqb, ne_eqb, inl, inr, ap, subst, sym, ◌∙◌, arith, cases_eq, length-map}
+use Rattle.yaml_base.proofs.Common.{List, [], map, ◌++◌, ◌∷◌, ◌⊎◌, refl, ◌≡◌, eq-eqb, ne_eqb, ap, subst, sym, ◌∙◌, arith, cases_eq, length-map}
 use Rattle.yaml_base.proofs.Common.{All-head, All-tail, list_any, Graph, is_whole, enters, leaves, meets_again, is_entry_of, steps_from}
-use Rattle.std.{proofs.Common.reverse, proofs.Common.set, proofs.Common.◌≢◌, proofs.lemmas.List.Elements.All-nil, proofs.lemmas.List.Elements.All-cons}
+use Rattle.std.{proofs.Common.reverse, proofs.Common.set, proofs.Common.◌≢◌, proofs.lemmas.List.Elements.All-cons}
 use Rattle.std.{proofs.lemmas.List.Elements.All-push, proofs.lemmas.List.Folds.sum_by-replicate, proofs.lemmas.List.Sums.sum_by-set, specs.List.sum_by}
 use Rattle.std.{specs.Prelude.Vec, specs.Prelude.IfSome}
 use Rattle.std.proofs.lemmas.List.{get_or-replicate, get_or-set_other, get_or-set_same, length-replicate, length-set, reverse-append, length_push, get_or-map}
@@ -89,12 +90,7 @@ stands_left graph standing visit stands none =
 -- the flag of a number
 flag_of : (graph : Graph) (standing : WalkState) (number : ℕ) → IsSound graph standing → IsNamed (length graph.nodes) number
     → get_or standing.entered (number - 1) false ≡ list_any (is_entry_of number) standing.steps
-flag_of graph standing number sound named =
-    let first = named.first in
-    let last = named.last in
-    let within : number - 1 < length graph.nodes = omega arith in
-    let is : suc (number - 1) ≡ number = omega arith in
-    sound.flagged (number - 1) within ∙ ap (λ (n : ℕ). list_any (is_entry_of n) standing.steps) is
+flag_of graph standing number sound named = grind (arith, nat_tests, length, list_any, is_entry_of)
 
 -- a node that was entered
 stands_again : (graph : Graph) (standing : WalkState) (number : ℕ) → Meets graph number standing → get_or standing.entered (number - 1) false ≡ true
@@ -115,23 +111,14 @@ stands_again graph standing number meets entered =
 flag_set : (flags : List Bool) (place other : ℕ) (before : List meetings.Step) → place < length flags
     → get_or flags other false ≡ list_any (is_entry_of (suc other)) before → (other ≡ place) ⊎ (other ≢ place)
     → get_or (set flags place true) other false ≡ list_any (is_entry_of (suc other)) (before ++ enters (suc place) ∷ [])
-flag_set flags place other before within is (inl same) =
-    ap (λ (n : ℕ). get_or (set flags place true) n false) same
-    ∙ get_or-set_same flags place true false within
-    ∙ sym (one_added (is_entry_of (suc other)) before (enters (suc place)) (eq-eqb (suc other) (suc place) (ap suc same)))
-flag_set flags place other before within is (inr differs) =
-    get_or-set_other flags place other true false differs
-    ∙ is
-    ∙ sym (none_added (is_entry_of (suc other)) before (enters (suc place)) (ne_eqb (suc other) (suc place) (λ same. differs (omega arith))))
+flag_set flags place other before x is y =
+    grind (arith, nat_tests, get_or, set, get_or-set_same, one_added, is_entry_of, eq-eqb, get_or-set_other, none_added, ne_eqb)
 
 -- one node fewer is unentered
 unentered_set : (flags : List Bool) (place : ℕ) → place < length flags → get_or flags place false ≡ false
     → suc (unentered (set flags place true)) ≡ unentered flags
 unfolding unentered
-unentered_set flags place within is =
-    let set_sum = sum_by-set (λ (entered : Bool). cond entered 0 1) flags place true false within in
-    let one : ◌≡◌ {A = ℕ} (cond (get_or flags place false) 0 1) 1 = ap (λ (entered : Bool). cond entered 0 1) is in
-    omega (arith, set_sum, one)
+unentered_set flags place within is = grind (arith, nat_tests, sum_by-set, cond, get_or)
 
 -- a node that was not entered
 sound_entered : (graph : Graph) (standing : WalkState) (number : ℕ) → IsSound graph standing → IsNamed (length graph.nodes) number
@@ -233,31 +220,18 @@ root_finished graph = let same : suc (length graph.nodes) - 0 ≡ suc (length gr
 -- the root is met next
 meets_root : (graph : Graph) → 1 ≤ length graph.nodes → Meets graph 1 (at_start (length graph.nodes))
 meets_root graph some =
-    let none_entered : unentered (replicate (length graph.nodes) false) ≡ length graph.nodes = unentered-replicate (length graph.nodes) in
-    record {
-      finished = root_finished graph;
-      named = record { first = omega (arith, some); last = omega (arith, some) };
-      sound = record {
-        counted = length-replicate (length graph.nodes) false;
-        flagged = λ place within. get_or-replicate (length graph.nodes) place false false within;
-        room = omega (arith, none_entered);
-        visits_named = All-nil (λ visit. IsNamed (length graph.nodes) visit.number);
-        steps_named = All-nil (λ step. IsNamed (length graph.nodes) (step_number step));
-      };
-    }
+    grind (arith, nat_tests, unentered, replicate, length, unentered-replicate, root_finished, length-replicate, get_or-replicate, step_number)
 
 -- ---- the consequences of a state
 
 -- no visit is left: the walk is whole
 pub steps_whole : (graph : Graph) (standing : WalkState) → standing.visits ≡ [] → Stands graph standing → standing.steps ≡ graph_steps graph
 unfolding finish
-steps_whole graph standing none stands =
-    sym (ap (λ (visits : List Visit). finish (suc (length graph.nodes) - length visits) graph visits standing.steps) none) ∙ stands.finished
+steps_whole graph standing none stands = grind (arith, nat_tests, finish, length)
 
 -- there are no more steps than the walk's
 steps_within : (graph : Graph) (standing : WalkState) → Stands graph standing → length standing.steps ≤ length (graph_steps graph)
-steps_within graph standing stands =
-    omega (arith, ap length stands.finished, finish_longer (depth_of graph standing) graph standing.visits standing.steps)
+steps_within graph standing stands = grind (arith, nat_tests, length, finish_longer, depth_of)
 
 -- a turn adds one
 one_more : (visit : Visit) (child : Option ℕ) (standing : WalkState) → length (with_child visit child standing).steps ≡ length standing.steps + 1
@@ -266,8 +240,7 @@ one_more visit (Some child) standing = at_flag (get_or standing.entered (child -
   where
     at_flag : (entered : Bool) → length (met_or_entered entered child (push_visit (record { number = visit.number; met = visit.met + 1 }) standing)).steps
         ≡ length standing.steps + 1
-    at_flag true = length_push standing.steps (meets_again child)
-    at_flag false = length_push standing.steps (enters child)
+    at_flag entered = grind (arith, nat_tests, length_push)
 
 -- ---- a walker's loop
 
@@ -282,9 +255,7 @@ stands_first graph count started met some all is_start is_met =
 -- the innermost visit is taken out
 pub stands_popped : {A : Type 0} (graph : Graph) (walker : Walker A) (rest : Vec Visit A) (visit : Visit) → walker.visits.items ≡ rest.items ++ visit ∷ []
     → Stands graph (seen_walker walker) → Stands graph (push_visit visit (seen_walker (record walker { visits = rest })))
-stands_popped graph walker rest visit is stands =
-    let innermost : reverse walker.visits.items ≡ visit ∷ reverse rest.items = ap reverse is ∙ reverse-append rest.items (visit ∷ []) in
-    subst (λ (visits : List Visit). Stands graph (record (seen_walker walker) { visits = visits })) innermost stands
+stands_popped graph walker rest visit is stands = grind (arith, nat_tests, reverse, reverse-append, seen_walker)
 
 -- a visit's turn keeps it all
 pub stands_behind : (graph : Graph) (visit : Visit) (before after : WalkState) → is_whole graph ≡ true → Stands graph (push_visit visit before)

@@ -70,10 +70,11 @@ pub use yaml_emitter::{
 pub use yaml_emitter::{
     CharacterKind, Charset, Directives, Ending, Indicator, Name, Pen, Position, allows_literal,
     analyze_anchor, analyze_for_style, analyze_name, analyze_scalar, analyze_tag,
-    analyze_tag_directive, analyze_version, begins_blank, holds_break, is_simple_ascii,
-    position_of, scalar_data_t, select_scalar_style, tag_t, write_anchor, write_block_scalar_hints,
-    write_double_quoted_scalar, write_folded_scalar, write_literal_scalar, write_plain_scalar,
-    write_simple_ascii_scalar, write_single_quoted_scalar, write_tag_content, write_tag_handle,
-    write_tag_prefix, write_tag_suffix, write_to_sink,
+    analyze_tag_directive, analyze_version, append_double_quoted, begins_blank, holds_break,
+    is_simple_ascii, position_of, scalar_data_t, select_scalar_style, tag_t, write_anchor,
+    write_block_scalar_hints, write_double_quoted_scalar, write_folded_scalar,
+    write_literal_scalar, write_plain_scalar, write_simple_ascii_scalar,
+    write_single_quoted_scalar, write_tag_content, write_tag_handle, write_tag_prefix,
+    write_tag_suffix, write_to_sink,
 };
 pub use yaml_writer::{plain_tag, typed_event};

@@ -1,14 +1,12 @@
 -- The collections that are open in the code, and the text before an event.
-use Rattle.yaml_base.proofs.Common.{ℕ, ◌-◌, ◌+◌, ◌*◌, suc, true, false, Option, None, Some, List, [], ◌∷◌, ◌++◌, refl, ◌≡◌, ap, subst, sym, ◌∙◌, append_assoc}
-use Rattle.yaml_base.proofs.Common.{append-nil, arith, codes, false≢true, length, Text, encode_utf8_all}
-use Rattle.yaml_base.specs.values.ValueText.{line_at}
-use Rattle.std.{specs.Prelude.Result, specs.Prelude.Ok, specs.Prelude.Err, specs.Prelude.Vec}
-use Rattle.std.{proofs.lemmas.List.append_cancel_left, specs.Borrow.Bor, specs.Option.MatchOption, specs.Option.option_to_list, proofs.Common.vec_len}
-use Rattle.yaml_read.specs.Awaits.{EntryStands, IsInnermostAwait, IsLastAwait, LeadStands, awaits_onto, can_end, seen_await, seen_awaits}
-use Rattle.yaml_read.specs.EventTexts.{Pending, closing_text, item_awaited, key_awaited, lead_text, next_awaited, left_open, outside, trail_text, value_awaited}
-use Rattle.yaml_read.specs.declared.levels.Entry.TheVariants.{Another, End}
+use Rattle.yaml_read.proofs.Common.{ℕ, ◌-◌, ◌+◌, ◌*◌, suc, true, false, Option, None, Some, List, [], ◌∷◌, ◌++◌, refl, ◌≡◌, ap, subst, sym, ◌∙◌, append_assoc}
+use Rattle.yaml_read.proofs.Common.{append-nil, arith, codes, false≢true, length, Text, encode_utf8_all, line_at, Result, Ok, Err, Vec, append_cancel_left, Bor}
+use Rattle.yaml_read.proofs.Common.{MatchOption, vec_len, EntryStands, LeadStands, can_end, seen_await, seen_awaits, Pending, closing_text, item_awaited}
+use Rattle.yaml_read.proofs.Common.{key_awaited, lead_text, next_awaited, left_open, outside, trail_text, value_awaited, Another, End, past_word, Stop, Await}
+use Rattle.yaml_read.proofs.Common.{Entry}
+use Rattle.std.specs.Option.{option_to_list}
+use Rattle.yaml_read.specs.Awaits.{IsInnermostAwait, IsLastAwait, awaits_onto}
 use Rattle.yaml_read.proofs.{Words.no_word, Encoded.are_ascii, Encoded.line_encoded, Encoded.word_encoded, Turns.line_deeper}
-use Rattle.yaml_read.specs.{Words.past_word, declared.errors.Stop.Stop, declared.leads.Await.Await, declared.levels.Entry.Entry}
 
 -- ---- the code's list
 
@@ -22,16 +20,10 @@ await_more awaits awaited = onto_more [] awaits awaited
 
 onto_length : (outer : List Pending) (awaits : List Await) → length (awaits_onto outer awaits) ≡ length outer + length awaits
 onto_length outer [] = omega arith
-onto_length outer (first ∷ awaits) = onto_length (seen_await first ∷ outer) awaits ∙ one (length outer) (length awaits)
-  where
-    one : (a b : ℕ) → suc a + b ≡ a + suc b
-    one a b = omega arith
+onto_length outer (first ∷ awaits) = grind (arith, seen_await, length, suc, onto_length (seen_await first ∷ outer) awaits)
 
 pub awaits_length : (awaits : List Await) → length (seen_awaits awaits) ≡ length awaits
-awaits_length awaits = onto_length [] awaits ∙ zero_add (length awaits)
-  where
-    zero_add : (n : ℕ) → 0 + n ≡ n
-    zero_add n = omega arith
+awaits_length awaits = grind (arith, onto_length, length)
 
 pub innermost_is : (awaits : List Await) (found : Option Await) → MatchOption found (awaits ≡ []) (λ awaited. IsLastAwait awaited awaits)
     → IsInnermostAwait (seen_awaits awaits) found
@@ -45,9 +37,7 @@ no_awaits (awaited ∷ awaits) none = cc
 -- the innermost is taken off
 pub taken_off : {A : Type 0} (old new : Vec Await A) (found : Option Await) → old.items ≡ new.items ++ option_to_list found
     → MatchOption found ((vec_len old ≡ 0) × (vec_len new ≡ 0)) (λ _. vec_len new + 1 ≡ vec_len old) → seen_awaits new.items ≡ outside (seen_awaits old.items)
-taken_off old new None is cases =
-    no_awaits new.items (omega (arith, cases.1, new.ok.0)) ∙ sym (ap outside (no_awaits old.items (omega (arith, cases.0, old.ok.0))))
-taken_off old new (Some awaited) is cases = sym (ap (λ awaits. outside (seen_awaits awaits)) is ∙ ap outside (await_more new.items awaited))
+taken_off old new found h1 h2 = grind (arith, no_awaits, outside, seen_awaits, await_more)
 
 -- ---- the text before an event
 
@@ -179,19 +169,10 @@ line_word : (column : ℕ) (word rest : Text) → are_ascii word ≡ true
 line_word column word rest ascii = grind (arith, encode_utf8_all, append_assoc, line_encoded, word_encoded)
 
 pub lead_encoded : (levels : List Pending) (rest : Text) → encode_utf8_all (lead_text levels ++ rest) ≡ lead_text levels ++ encode_utf8_all rest
-lead_encoded [] rest = refl
-lead_encoded (item_awaited empty ∷ outer) rest = line_encoded (length (item_awaited empty ∷ outer) * 2) rest
-lead_encoded (key_awaited empty ∷ outer) rest = line_word (length (key_awaited empty ∷ outer) * 2) (codes "? ") rest refl
-lead_encoded (value_awaited ∷ outer) rest = line_word (length (value_awaited ∷ outer) * 2) (codes ": ") rest refl
+lead_encoded levels rest = grind (arith, line_encoded, length, item_awaited, line_word, key_awaited, codes, value_awaited)
 
 pub closing_encoded : (levels : List Pending) (rest : Text) → encode_utf8_all (closing_text levels ++ rest) ≡ closing_text levels ++ encode_utf8_all rest
-closing_encoded (item_awaited true ∷ outer) rest = word_encoded (codes "]") rest refl
-closing_encoded (item_awaited false ∷ outer) rest = line_word (length outer * 2) (codes "]") rest refl
-closing_encoded (key_awaited true ∷ outer) rest = word_encoded (codes "}") rest refl
-closing_encoded (key_awaited false ∷ outer) rest = line_word (length outer * 2) (codes "}") rest refl
-closing_encoded _ rest = refl
+closing_encoded levels rest = grind (arith, word_encoded, codes, line_word, length)
 
 pub trail_encoded : (levels : List Pending) (rest : Text) → encode_utf8_all (trail_text levels ++ rest) ≡ trail_text levels ++ encode_utf8_all rest
-trail_encoded (item_awaited empty ∷ outer) rest = word_encoded (codes ",") rest refl
-trail_encoded (value_awaited ∷ outer) rest = word_encoded (codes ",") rest refl
-trail_encoded _ rest = refl
+trail_encoded levels rest = grind (arith, word_encoded, codes)

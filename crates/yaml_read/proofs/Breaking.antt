@@ -1,10 +1,9 @@
 -- The places at which bytes break off: at a word, after words, and in a line.
-use Rattle.yaml_base.proofs.Common.{ℕ, ◌+◌, ◌*◌, ◌<◌, [], ◌∷◌, ◌++◌, ◌≡◌, ◌∙◌, zero, suc, None, List, refl, ap, subst, sym, inl, inr, arith, append_assoc}
-use Rattle.yaml_base.{proofs.Common.codes, proofs.Common.flat_map, proofs.Common.replicate, proofs.Common.space, specs.values.ValueText.line_at}
-use Rattle.std.proofs.lemmas.List.{replicate-append-replicate}
-use Rattle.yaml_read.specs.Grammar.{these_or_those, entry_end, levels_then, line_then, nothing, word_then}
-use Rattle.yaml_read.specs.Places.{BreaksAt, BreaksOff, IsHere, LacksLine, no_level, no_line}
-use Rattle.yaml_read.{specs.Words.past_word, specs.declared.errors.Stop.Stop, proofs.Words.no_word}
+use Rattle.yaml_read.proofs.Common.{ℕ, ◌+◌, ◌*◌, ◌<◌, [], ◌∷◌, ◌++◌, ◌≡◌, ◌∙◌, zero, suc, None, List, refl, ap, subst, sym, inl, inr, arith, append_assoc}
+use Rattle.yaml_read.proofs.Common.{codes, flat_map, replicate, space, line_at, replicate-append-replicate, these_or_those, entry_end, levels_then, line_then}
+use Rattle.yaml_read.proofs.Common.{nothing, word_then, BreaksAt, BreaksOff, IsHere, no_level, past_word, Stop}
+use Rattle.yaml_read.specs.Places.{LacksLine, no_line}
+use Rattle.yaml_read.proofs.Words.{no_word}
 use Rattle.yaml_read.specs.declared.errors.Stop.TheVariants as stop
 
 -- ---- at a word
@@ -78,9 +77,7 @@ none_later : (These Those : List (List ℕ) → Type 0) (bytes rest first : List
     → ((next : List ℕ) (after : List (List ℕ)) → These (next ∷ after) → past_word next bytes ≡ None)
     → ((next : List ℕ) (after : List (List ℕ)) → Those (first ∷ (read ++ next ∷ after)) → past_word next rest ≡ None)
     → (next : List ℕ) (after : List (List ℕ)) → these_or_those These Those (first ∷ (read ++ next ∷ after)) → past_word next rest ≡ None
-none_later These Those bytes rest first read is lacks none next after (inl these) =
-    absurd (no_word first bytes (flat_map (λ (w : List ℕ). w) read ++ rest) (lacks first (read ++ next ∷ after) these)
-    (is ∙ append_assoc first (flat_map (λ (w : List ℕ). w) read) rest))
+none_later These Those bytes rest first read is lacks none next after (inl these) = grind (arith, no_word, flat_map, append_assoc)
 none_later These Those bytes rest first read is lacks none next after (inr those) = none next after those
 
 right_of : (These Those : List (List ℕ) → Type 0) (bytes : List ℕ) (left : ℕ)

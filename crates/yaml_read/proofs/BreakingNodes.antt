@@ -1,21 +1,15 @@
 -- The places at which the bytes of a node break off, and the bytes after a node.
-use Rattle.yaml_base.proofs.Common.{ℕ, ◌<◌, ◌≤◌, suc, true, Option, None, Some, List, [], ◌∷◌, ◌++◌, refl, ◌≡◌, ap, subst, sym, ◌∙◌, ◌⊎◌, inl, inr, pos}
-use Rattle.yaml_base.proofs.Common.{arith, append_assoc, append-nil, codes, flat_map, length, encode_utf8_all, encode_utf8, character_text, Text}
-use Rattle.yaml_base.specs.values.TypedValues.{TypedValue, most_nested}
-use Rattle.yaml_base.{specs.scalars.DoubleQuoted.quote, specs.values.ValueText.in_quotes}
-use Rattle.std.proofs.lemmas.Str.{IsUtf8-past_char, encode_ascii, encodes-append}
-use Rattle.std.specs.Prelude.{ℤ, ◌^◌}
-use Rattle.std.{proofs.lemmas.Bool.cases_lt, specs.Fmt.signed_decimal, specs.Int.Signed.mag, specs.Str.IsUtf8}
-use Rattle.yaml_read.specs.Grammar.{behind_in, behind_tag, characters, these_or_those, integer, line_then, node, nothing, quoted_text, unless_deep, word_then}
-use Rattle.yaml_read.specs.Heads.{ReadsCharacter, tag_word}
-use Rattle.yaml_read.specs.Places.{BreaksAt, BreaksOff, IsHere, IsHereOrMemory, IsWholeWord, LacksEnd, StopsIn, behind_all, behind_node, in_node, more_follows}
-use Rattle.yaml_value.specs.OpenLevels.{OpenLevel, items_open, pairs_open, value_due}
-use Rattle.yaml_value.specs.declared.keys.Keys.{Keys}
-use Rattle.yaml_read.specs.AllowedKeys.{KeysAllow, OpenKeysAllow}
-use Rattle.yaml_read.specs.{Opened.HasRead, Opened.IsOpen, Opened.OpenCanBeRead, Places.no_end, Sound.IsCharacter, Words.IsMemory}
-use Rattle.yaml_read.specs.{Words.past_word, declared.errors.Stop.Stop, declared.heads.Kind.Kind}
-use Rattle.yaml_read.proofs.{Breaking.here, Breaking.missing, Breaking.passed, Breaking.passed_at, Breaking.second_of}
-use Rattle.yaml_read.proofs.{CharactersRead.ReadSoFar}
+use Rattle.yaml_read.proofs.Common.{ℕ, ◌<◌, ◌≤◌, suc, true, Option, None, Some, List, [], ◌∷◌, ◌++◌, refl, ◌≡◌, ap, subst, sym, ◌∙◌, ◌⊎◌, inl, inr, pos, arith}
+use Rattle.yaml_read.proofs.Common.{append_assoc, append-nil, codes, flat_map, length, encode_utf8_all, encode_utf8, character_text, Text, TypedValue}
+use Rattle.yaml_read.proofs.Common.{most_nested, quote, in_quotes, IsUtf8-past_char, encode_ascii, encodes-append, ℤ, ◌^◌, signed_decimal, mag, IsUtf8}
+use Rattle.yaml_read.proofs.Common.{behind_tag, characters, these_or_those, integer, line_then, node, nothing, quoted_text, unless_deep, word_then}
+use Rattle.yaml_read.proofs.Common.{ReadsCharacter, tag_word, BreaksAt, BreaksOff, IsHere, IsHereOrMemory, IsWholeWord, LacksEnd, StopsIn, behind_all}
+use Rattle.yaml_read.proofs.Common.{behind_node, in_node, more_follows, OpenLevel, items_open, pairs_open, value_due, Keys, KeysAllow, OpenKeysAllow, HasRead}
+use Rattle.yaml_read.proofs.Common.{IsOpen, OpenCanBeRead, no_end, IsCharacter, IsMemory, past_word, Stop, Kind}
+use Rattle.yaml_read.proofs.Breaking.{here, missing, passed, passed_at, second_of}
+use Rattle.std.proofs.lemmas.Bool.{cases_lt}
+use Rattle.yaml_read.specs.Grammar.{behind_in}
+use Rattle.yaml_read.proofs.CharactersRead.{ReadSoFar}
 use Rattle.yaml_read.specs.declared.errors.Stop.TheVariants as stop
 use Rattle.yaml_read.specs.declared.heads.Kind.TheVariants as kind
 use Rattle.yaml_read.proofs.Words.{absent, behind_word as behind_itself, no_word}
@@ -107,20 +101,10 @@ no_integer bytes error utf8 (inr place) reads =
 -- ---- tags
 
 kinds_same : (k j : Kind) → past_word (tag_word k) (tag_word j) ≡ Some [] → k ≡ j
-kinds_same kind.Null kind.Null is = refl
-kinds_same kind.Bool kind.Bool is = refl
-kinds_same kind.Int kind.Int is = refl
-kinds_same kind.Text kind.Text is = refl
-kinds_same kind.List kind.List is = refl
-kinds_same kind.Map kind.Map is = refl
-kinds_same k j is = absurd (none_some is)
-  where
-    none_some : ◌≡◌ {A = Option (List ℕ)} None (Some []) → ⊥
-    none_some e = cc
+kinds_same k j h1 = grind arith
 
 same_kind : (k j : Kind) → tag_word k ≡ tag_word j → k ≡ j
-same_kind k j is =
-    kinds_same k j (ap (past_word (tag_word k)) (sym is ∙ sym (append-nil (tag_word k))) ∙ behind_itself (tag_word k) [])
+same_kind k j is = grind (arith, kinds_same, past_word, tag_word, append-nil, behind_itself)
 
 -- the bytes begin with no tag
 pub no_tag_there : (depth : ℕ) (bytes : List ℕ) (error : Stop) → ((k : Kind) → past_word (tag_word k) bytes ≡ None) → IsHere bytes error

@@ -1,15 +1,12 @@
 -- Texts between quotes can be read in one way only.
-use Rattle.yaml_base.proofs.Common.{ℕ, true, true≢false, None, Some, Option, List, [], ◌∷◌, ◌++◌, refl, ◌≡◌, ap, sym, ◌∙◌, ◌⊎◌, inl, inr}
-use Rattle.yaml_base.proofs.Common.{append_assoc, append-nil, arith, codes, flat_map, all_scalars, encode_utf8, encode_utf8_all, character_text, ◌==◌, ◌&&◌}
-use Rattle.yaml_base.proofs.Common.{and_parts, escape_after_backslash, hex_digits, letter_among, needs_escape, short_escapes, Text}
-use Rattle.yaml_base.specs.{scalars.DoubleQuoted.quote, values.ValueText.in_quotes, Characters.backslash, reading.ReadDouble.letter_meaning}
-use Rattle.std.proofs.lemmas.Str.{encode_same, encodes-append}
-use Rattle.std.{specs.Fmt.signed_decimal}
-use Rattle.yaml_read.specs.Grammar.{characters, integer, quoted_text}
+use Rattle.yaml_read.proofs.Common.{ℕ, true, true≢false, None, Some, Option, List, [], ◌∷◌, ◌++◌, refl, ◌≡◌, ap, sym, ◌∙◌, ◌⊎◌, inl, inr, append_assoc}
+use Rattle.yaml_read.proofs.Common.{append-nil, arith, codes, flat_map, all_scalars, encode_utf8, encode_utf8_all, character_text, ◌==◌, ◌&&◌, and_parts}
+use Rattle.yaml_read.proofs.Common.{escape_after_backslash, hex_digits, letter_among, needs_escape, short_escapes, Text, quote, in_quotes, backslash}
+use Rattle.yaml_read.proofs.Common.{letter_meaning, encode_same, encodes-append, characters, integer, quoted_text}
 use Rattle.yaml_read.proofs.OneWays.{OneWay, nothing_more, word_way, words_same}
 use Rattle.yaml_read.proofs.Escapes.{Stands, as_escape, as_itself, stands}
 use Rattle.yaml_read.proofs.Firsts.{AfterBackslash, after_backslash, by_four, by_letter, by_two}
-use Rattle.yaml_read.{proofs.Encoded.word_encoded, proofs.HeadsRead.word_bytes, proofs.Scalars.int_scalars, proofs.WordTexts.flat}
+use Rattle.yaml_read.proofs.{Encoded.word_encoded, HeadsRead.word_bytes, Scalars.int_scalars, WordTexts.flat}
 
 -- ---- characters
 
@@ -40,19 +37,7 @@ none_some : (c : ℕ) → ◌≡◌ {A = Option ℕ} None (Some c) → ⊥
 none_some c is = cc
 
 escapes_same : (c d : ℕ) (one other more : Text) → AfterBackslash c one → AfterBackslash d other → other ≡ one ++ more → one ≡ other
-escapes_same c d _ _ more (by_letter letter means) (by_two none few) is =
-    absurd (none_some c (ap letter_meaning (heads 120 letter (hex_digits 2 d) more is) ∙ means))
-escapes_same c d _ _ more (by_letter letter means) (by_four none many few) is =
-    absurd (none_some c (ap letter_meaning (heads 117 letter (hex_digits 4 d) more is) ∙ means))
-escapes_same c d _ _ more (by_two none few) (by_letter letter means) is =
-    absurd (none_some d (ap letter_meaning (sym (heads letter 120 [] (hex_digits 2 c ++ more) is)) ∙ means))
-escapes_same c d _ _ more (by_two none few) (by_four also many little) is =
-    absurd (omega (arith, heads 117 120 (hex_digits 4 d) (hex_digits 2 c ++ more) is))
-escapes_same c d _ _ more (by_four none many few) (by_letter letter means) is =
-    absurd (none_some d (ap letter_meaning (sym (heads letter 117 [] (hex_digits 4 c ++ more) is)) ∙ means))
-escapes_same c d _ _ more (by_four none many few) (by_two also little) is =
-    absurd (omega (arith, heads 120 117 (hex_digits 2 d) (hex_digits 4 c ++ more) is))
-escapes_same c d _ _ more _ _ is = cc
+escapes_same c d one other more h1 h2 h3 = grind (arith, none_some, letter_meaning, heads, hex_digits)
 
 stand_same : (c d : ℕ) (one other more : Text) → all_scalars (c ∷ []) ≡ true → all_scalars (d ∷ []) ≡ true → Stands c one → Stands d other
     → other ≡ one ++ more → one ≡ other
@@ -69,15 +54,10 @@ stand_same c d _ _ more scalar also (as_escape needs) (as_escape other) is =
 
 -- no character's text begins with a quote
 no_quote : (c : ℕ) (text more : Text) → Stands c text → text ≡ quote ∷ more → ⊥
-no_quote c _ more (as_itself plain) is = true≢false (ap (needs_escape true) (sym (heads c quote [] more is)) ∙ plain)
-no_quote c _ more (as_escape needs) is =
-    true≢false (ap (λ n. n == backslash) (heads backslash quote (escape_after_backslash (letter_among short_escapes c) c) more is))
+no_quote c text more h1 h2 = grind (arith, true≢false, needs_escape, true, heads, quote, backslash, escape_after_backslash, letter_among, short_escapes)
 
 quoted_first : (c : ℕ) (text more : Text) → Stands c text → quote ∷ [] ≡ text ++ more → ⊥
-quoted_first c _ more (as_itself plain) is = true≢false (ap (needs_escape true) (heads quote c [] more is) ∙ plain)
-quoted_first c _ more (as_escape needs) is =
-    true≢false
-    (ap (λ n. n == backslash) (sym (heads quote backslash [] (escape_after_backslash (letter_among short_escapes c) c ++ more) is)))
+quoted_first c text more h1 h2 = grind (arith, true≢false, needs_escape, true, heads, quote, backslash, escape_after_backslash, letter_among, short_escapes)
 
 between_same : (one other more : Text) → Between one → Between other → other ≡ one ++ more → one ≡ other
 between_same _ _ more closes closes is = refl

@@ -1,16 +1,14 @@
 -- A character that was read was written in its one spelling.
-use Rattle.yaml_base.proofs.Common.{ℕ, ◌+◌, ◌*◌, ◌/◌, ◌%◌, ◌-◌, ◌<◌, ◌≤◌, not, ◌||◌, None, Some, List, [], ◌∷◌, ◌++◌, refl, ◌≡◌, ap, sym, ◌∙◌, Text, ◌==◌}
-use Rattle.yaml_base.proofs.Common.{if◌then◌else◌, encode_utf8_all, character_text, flat_map-append, chars-encodes, short_escapes, escape_after_backslash, Bool}
-use Rattle.yaml_base.proofs.Common.{true, false, ◌&&◌, subst, arith, nat_tests, and_parts, and_from, eqb-true, nat_le, hex_digit, flat_map, codes, chars}
-use Rattle.yaml_base.proofs.Common.{Option, append_assoc, append-nil, encode_utf8, all_scalars, hex_digits, is_between, letter_among, needs_escape, escape_text}
-use Rattle.yaml_base.proofs.Common.{length, length-append, length-le-encodes}
-use Rattle.yaml_base.specs.reading.ReadDouble.{digit_meaning, letter_meaning, meaning_among}
-use Rattle.yaml_base.{specs.scalars.DoubleQuoted.quote, specs.Seen.seen_text, specs.values.ValueText.in_quotes, specs.Characters.backslash}
+use Rattle.yaml_read.proofs.Common.{ℕ, ◌+◌, ◌*◌, ◌/◌, ◌%◌, ◌-◌, ◌<◌, ◌≤◌, not, ◌||◌, None, Some, List, [], ◌∷◌, ◌++◌, refl, ◌≡◌, ap, sym, ◌∙◌, Text, ◌==◌}
+use Rattle.yaml_read.proofs.Common.{if◌then◌else◌, encode_utf8_all, character_text, flat_map-append, chars-encodes, short_escapes, escape_after_backslash, Bool}
+use Rattle.yaml_read.proofs.Common.{true, false, ◌&&◌, subst, arith, nat_tests, and_parts, eqb-true, nat_le, hex_digit, flat_map, codes, chars, Option}
+use Rattle.yaml_read.proofs.Common.{append_assoc, append-nil, encode_utf8, all_scalars, hex_digits, is_between, letter_among, needs_escape, escape_text, length}
+use Rattle.yaml_read.proofs.Common.{length-append, length-le-encodes, digit_meaning, letter_meaning, meaning_among, quote, seen_text, in_quotes, backslash}
+use Rattle.yaml_read.proofs.Common.{String, IfSome, MatchOption, IsUtf8, string_bytes, encodes-append, same_Some, Bor, IsCharacter}
 use lib.Utf8.{scalar}
-use Rattle.std.{specs.Prelude.String, specs.Prelude.IfSome, specs.Prelude.MatchOption, specs.Str.IsUtf8, specs.String.string_bytes}
-use Rattle.std.{proofs.lemmas.Str.cons_from_encodes, proofs.lemmas.Str.encodes-append, proofs.lemmas.Option.same_Some, specs.Borrow.Bor}
-use Rattle.yaml_read.specs.Sound.{NumberRead, IsByNumber, IsCharacter, IsEscape}
-use Rattle.yaml_read.proofs.{Encoded.word_encoded, Escapes.is_answer, Escapes.is_answer-is, Firsts.four_text}
+use Rattle.std.proofs.lemmas.Str.{cons_from_encodes}
+use Rattle.yaml_read.specs.Sound.{NumberRead, IsByNumber, IsEscape}
+use Rattle.yaml_read.proofs.{Encoded.word_encoded, Escapes.is_answer, Escapes.is_answer-is, Firsts.four_text, Scalars.joined_scalars}
 
 -- the first character of a text is a Unicode scalar value
 pub scalar_of : (bytes rest : List ℕ) (c : ℕ) → IsUtf8 bytes → bytes ≡ encode_utf8 c ++ rest → all_scalars (c ∷ []) ≡ true
@@ -20,9 +18,7 @@ scalar_of bytes rest c utf8 is = grind (arith, cons_from_encodes, all_scalars, a
 
 digit_by : (c d : ℕ) (low high : Bool) → is_between 48 57 c ≡ low → is_between 65 70 c ≡ high
     → (if low then Some (c - 48) else (if high then Some (c - 55) else None)) ≡ Some d → c ≡ hex_digit d
-digit_by c d true high is_low is_high is = grind (arith, nat_tests, and_parts, is_low)
-digit_by c d false true is_low is_high is = grind (arith, nat_tests, and_parts, is_high)
-digit_by c d false false is_low is_high is = cc
+digit_by c d low high h1 h2 h3 = grind (arith, nat_tests, and_parts)
 
 -- a digit that was read
 pub digit_is : (c d : ℕ) → digit_meaning c ≡ Some d → c ≡ hex_digit d
@@ -31,35 +27,11 @@ digit_is c d is = digit_by c d (is_between 48 57 c) (is_between 65 70 c) refl re
 -- one number after another
 pub two_read : (bytes behind rest : List ℕ) (upper lower : ℕ) → upper < 16 → lower < 16 → bytes ≡ encode_utf8_all (hex_digit upper ∷ []) ++ behind
     → behind ≡ encode_utf8_all (hex_digit lower ∷ []) ++ rest → bytes ≡ encode_utf8_all (hex_digits 2 (upper * 16 + lower)) ++ rest
-two_read bytes behind rest upper lower few also first second =
-    first ∙ ap (λ b. encode_utf8_all (hex_digit upper ∷ []) ++ b) second
-    ∙ sym (append_assoc (encode_utf8_all (hex_digit upper ∷ [])) (encode_utf8_all (hex_digit lower ∷ [])) rest)
-    ∙ ap (λ b. b ++ rest) (sym (encodes-append (hex_digit upper ∷ []) (hex_digit lower ∷ [])) ∙ ap encode_utf8_all digits)
-  where
-    up : upper ≡ (upper * 16 + lower) / 16 % 16
-    up = omega (arith, few, also)
-
-    low : lower ≡ (upper * 16 + lower) % 16
-    low = omega (arith, few, also)
-
-    digits : hex_digit upper ∷ hex_digit lower ∷ [] ≡ hex_digits 2 (upper * 16 + lower)
-    digits = ap (λ n. hex_digit n ∷ hex_digit lower ∷ []) up ∙ ap (λ n. hex_digit ((upper * 16 + lower) / 16 % 16) ∷ hex_digit n ∷ []) low
+two_read bytes behind rest upper lower few also first second = grind (arith, encode_utf8_all, hex_digit, append_assoc, encodes-append, hex_digits)
 
 pub four_read : (bytes behind rest : List ℕ) (upper lower : ℕ) → lower < 256 → bytes ≡ encode_utf8_all (hex_digits 2 upper) ++ behind
     → behind ≡ encode_utf8_all (hex_digits 2 lower) ++ rest → bytes ≡ encode_utf8_all (hex_digits 4 (upper * 256 + lower)) ++ rest
-four_read bytes behind rest upper lower few first second =
-    first ∙ ap (λ b. encode_utf8_all (hex_digits 2 upper) ++ b) second
-    ∙ sym (append_assoc (encode_utf8_all (hex_digits 2 upper)) (encode_utf8_all (hex_digits 2 lower)) rest)
-    ∙ ap (λ b. b ++ rest) (sym (encodes-append (hex_digits 2 upper) (hex_digits 2 lower)) ∙ ap encode_utf8_all digits)
-  where
-    up : upper ≡ (upper * 256 + lower) / 256
-    up = omega (arith, few)
-
-    low : lower ≡ (upper * 256 + lower) % 256
-    low = omega (arith, few)
-
-    digits : hex_digits 2 upper ++ hex_digits 2 lower ≡ hex_digits 4 (upper * 256 + lower)
-    digits = grind (arith, hex_digits, up, low, append-nil, four_text)
+four_read bytes behind rest upper lower few first second = grind (arith, encode_utf8_all, hex_digits, append_assoc, encodes-append, append-nil, four_text)
 
 -- ---- letters
 
@@ -71,8 +43,6 @@ letters_fit _ _ = true
 
 letter_fits : (letters meanings : Text) (c meaning : ℕ) → letters_fit letters meanings ≡ true → meaning_among letters meanings c ≡ Some meaning
     → needs_escape true meaning ≡ true → letter_among short_escapes meaning ≡ Some c
-letter_fits [] meanings c meaning fit is needs = cc
-letter_fits (letter ∷ letters) [] c meaning fit is needs = cc
 letter_fits (letter ∷ letters) (m ∷ meanings) c meaning fit is needs =
     let parts : ((not (needs_escape true m) || is_answer (letter_among short_escapes m) letter) ≡ true) × (letters_fit letters meanings ≡ true) =
     and_parts _ _ fit in
@@ -87,6 +57,7 @@ letter_fits (letter ∷ letters) (m ∷ meanings) c meaning fit is needs =
         → (if b then Some m else meaning_among letters meanings c) ≡ Some meaning → letter_among short_escapes meaning ≡ Some c
     first true same fits more found = grind (arith, letter_among, short_escapes, answered, needs_escape, eqb-true)
     first false other fits more found = more found needs
+letter_fits _ _ c meaning fit is needs = cc
 
 pub letter_is : (letter c : ℕ) → letter_meaning letter ≡ Some c → needs_escape true c ≡ true → letter_among short_escapes c ≡ Some letter
 letter_is letter c is needs =
@@ -173,10 +144,6 @@ pub record ReadSoFar (whole value bytes : List ℕ) : Type 0 where
   pub value_is : value ≡ encode_utf8_all read
   pub whole_is : whole ≡ codes "\"" ++ (encode_utf8_all (flat_map (character_text true) read) ++ bytes)
 
-pub scalars_more : (a b : Text) → all_scalars a ≡ true → all_scalars b ≡ true → all_scalars (a ++ b) ≡ true
-scalars_more [] b ha hb = hb
-scalars_more (c ∷ a) b ha hb = let parts = and_parts _ (all_scalars a) ha in and_from _ _ parts.0 (scalars_more a b parts.1 hb)
-
 pub none_yet : (whole bytes : List ℕ) → whole ≡ codes "\"" ++ bytes → ReadSoFar whole [] bytes
 none_yet whole bytes is = record { read = []; scalars = refl; value_is = refl; whole_is = is }
 
@@ -187,7 +154,7 @@ one_more whole value bytes rest c so_far character =
     let before = flat_map (character_text true) so_far.read in
     record {
       read = so_far.read ++ c ∷ [];
-      scalars = scalars_more so_far.read (c ∷ []) so_far.scalars character.scalar;
+      scalars = joined_scalars so_far.read (c ∷ []) so_far.scalars character.scalar;
       value_is =
           ap (λ v. v ++ encode_utf8 c) so_far.value_is ∙ ap (λ t. encode_utf8_all so_far.read ++ t) (sym (append-nil (encode_utf8 c)))
           ∙ sym (encodes-append so_far.read (c ∷ []));
@@ -212,8 +179,6 @@ all_read whole bytes end value so_far ends =
 -- a letter means a Unicode scalar value
 means_scalar : (letters meanings : Text) (c meaning : ℕ) → all_scalars meanings ≡ true → meaning_among letters meanings c ≡ Some meaning
     → all_scalars (meaning ∷ []) ≡ true
-means_scalar [] meanings c meaning h is = cc
-means_scalar (letter ∷ letters) [] c meaning h is = cc
 means_scalar (letter ∷ letters) (m ∷ meanings) c meaning h is =
     let parts : (all_scalars (m ∷ []) ≡ true) × (all_scalars meanings ≡ true) = (
       ap (λ b. b && true) (and_parts _ (all_scalars meanings) h).0,
@@ -225,6 +190,7 @@ means_scalar (letter ∷ letters) (m ∷ meanings) c meaning h is =
         → (if b then Some m else meaning_among letters meanings c) ≡ Some meaning → all_scalars (meaning ∷ []) ≡ true
     first true fits more found = let meant : m ≡ meaning = cc in subst (λ k. all_scalars (k ∷ []) ≡ true) meant fits
     first false fits more found = more found
+means_scalar _ _ c meaning h is = cc
 
 pub letter_scalar : (letter c : ℕ) → letter_meaning letter ≡ Some c → all_scalars (c ∷ []) ≡ true
 letter_scalar letter c is =
@@ -237,28 +203,13 @@ pub number_reads : (least c : ℕ) (rest : Text) (found answer : Option (ℕ × 
     → MatchOption found ⊥ (λ read. (read.0 ≡ c) × (read.1.now ≡ encode_utf8_all rest)) → NumberRead least found answer → all_scalars (c ∷ []) ≡ true
     → needs_escape true c ≡ true → letter_among short_escapes c ≡ None → least ≤ c
     → MatchOption answer ⊥ (λ read. (read.0 ≡ c) × (read.1.now ≡ encode_utf8_all rest))
-number_reads least c rest None answer reads is scalar needs none most = absurd reads
-number_reads least c rest (Some read) None reads is scalar needs none most =
-    absurd (is read refl (subst (λ n. least ≤ n) (sym reads.0) most) (ap (needs_escape true) reads.0 ∙ needs)
-    (ap (letter_among short_escapes) reads.0 ∙ none) (ap (λ n. all_scalars (n ∷ [])) reads.0 ∙ scalar))
-number_reads least c rest (Some read) (Some found) reads is scalar needs none most =
-    subst (λ (r : ℕ × Bor (List ℕ)). (r.0 ≡ c) × (r.1.now ≡ encode_utf8_all rest)) (same_Some read found is.0) reads
+number_reads least c rest found answer h1 h2 h3 h4 h5 h6 =
+    grind (arith, needs_escape, true, letter_among, short_escapes, all_scalars, scalar, encode_utf8_all, same_Some)
 
 pub number_sound : (digits least : ℕ) (bytes : List ℕ) (Few : ℕ → Type 0) (found answer : Option (ℕ × Bor (List ℕ)))
     → IfSome found (λ read. bytes ≡ encode_utf8_all (hex_digits digits read.0) ++ read.1.now) → IfSome found (λ read. Few read.0)
     → NumberRead least found answer → IfSome answer (λ read. IsByNumber bytes digits read.0 read.1.now × (least ≤ read.0) × Few read.0)
-number_sound digits least bytes Few found None sound few is = tt
-number_sound digits least bytes Few found (Some read) sound few is = (
-  record {
-    scalar = is.4;
-    needs = is.2;
-    none = is.3;
-    text =
-        subst (λ (o : Option (ℕ × Bor (List ℕ))). IfSome o (λ read. bytes ≡ encode_utf8_all (hex_digits digits read.0) ++ read.1.now)) is.0 sound;
-  },
-  is.1,
-  subst (λ (o : Option (ℕ × Bor (List ℕ))). IfSome o (λ read. Few read.0)) is.0 few,
-)
+number_sound digits least bytes Few found answer h1 h2 h3 = grind (arith, scalar, encode_utf8_all, hex_digits)
 
 -- a character that was read leaves less
 pub character_shorter : (bytes : List ℕ) (c : ℕ) (rest : List ℕ) → IsCharacter bytes c rest → length rest < length bytes

@@ -1,19 +1,10 @@
 -- Which values are told to have none of some bytes, by whether keys must differ.
-use Rattle.yaml_base.proofs.Common.{ℕ, ◌<◌, List, ◌≡◌, sym, inl, inr, encode, utf8, Some, false, true≢false}
-use Rattle.std.specs.Prelude.{◌⊎◌, ◌≢◌}
-use Rattle.std.specs.Bool.{Decides}
-use Rattle.yaml_base.specs.values.TypedValues.{TypedValue, WritesValue, most_nested, nesting}
-use Rattle.yaml_base.specs.values.UniqueKeys.{HasUniqueKeys}
-use Rattle.yaml_base.specs.values.ValueText.{document_text}
-use Rattle.yaml_value.specs.{SeenValues.seen_value, declared.value.Value.Value}
-use Rattle.yaml_value.specs.declared.keys.Keys.{Keys}
-use Rattle.yaml_value.specs.declared.keys.Keys.TheVariants as keys
-use Rattle.yaml_read.specs.AllowedKeys.{KeysAllow}
-use Rattle.yaml_read.specs.ReadBack.{IsJust}
-use Rattle.yaml_read.specs.Readable.{CanBeRead}
-use Rattle.yaml_read.specs.declared.errors.ReadError.{ReadError}
-use Rattle.yaml_read.specs.declared.errors.ReadError.TheVariants as told
+use Rattle.yaml_read.proofs.Common.{ℕ, ◌<◌, List, ◌≡◌, sym, inl, inr, encode, utf8, Some, false, true≢false, ◌⊎◌, TypedValue, WritesValue, most_nested, nesting}
+use Rattle.yaml_read.proofs.Common.{HasUniqueKeys, document_text, seen_value, Value, Keys, KeysAllow, IsJust, CanBeRead, ReadError}
+use Rattle.std.{specs.Prelude.◌≢◌, specs.Bool.Decides}
 use Rattle.yaml_read.proofs.ReadBack.{written_readable}
+use Rattle.yaml_value.specs.declared.keys.Keys.TheVariants as keys
+use Rattle.yaml_read.specs.declared.errors.ReadError.TheVariants as told
 
 -- memory gave out, or no value with keys as they must be has these bytes
 abbrev pub NoneAllowed : Keys → List ℕ → ReadError → Type 0

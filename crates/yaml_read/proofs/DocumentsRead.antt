@@ -1,15 +1,11 @@
 -- From the events of a node's text to the document of these bytes, and to why there is none.
-use Rattle.yaml_base.proofs.Common.{ℕ, ◌==◌, Bool, true, false, None, List, [], ◌∷◌, ◌++◌, refl, ◌≡◌, ap, subst, sym, ◌∙◌, ◌⊎◌, inl, inr, All, codes}
-use Rattle.yaml_base.proofs.Common.{flat_map, length, encode_utf8_all, line_feed, Text, if◌then◌else◌}
-use Rattle.yaml_base.specs.graphs.Meetings.{Graph, document_event_list, graph_steps, step_events}
-use Rattle.yaml_base.{specs.Event.Event, specs.Event.document_end, specs.graphs.Documents.graph_of, specs.graphs.Isomorphic.Isomorphic}
-use Rattle.yaml_base.specs.graphs.Unfolding.{IsWholeGraph}
-use Rattle.yaml_base.{specs.Event.document_start, specs.declared.documents.yaml_document_t.yaml_document_t}
-use Rattle.std.specs.{Prelude.IfErr, Prelude.IfOk, Prelude.Result, Prelude.Ok, Prelude.Err, Str.IsUtf8}
-use Rattle.yaml_read.specs.DocumentPlaces.{AreEventsOf, AreRunBytes, ComposesNode, DocumentStops, IsDocumentPlaced}
-use Rattle.yaml_read.specs.DocumentTexts.{AreDumpedBytes, unstyled_graph}
-use Rattle.yaml_read.specs.{Errors.Tells, Places.IsHere, RunPlaces.RunStops, RunPlaces.in_document, Words.IsMemory, Words.past_word}
-use Rattle.yaml_read.specs.{EventTexts.HasRunText, EventTexts.IsInNode, declared.errors.ReadError.ReadError, declared.errors.Stop.Stop}
+use Rattle.yaml_read.proofs.Common.{ℕ, ◌==◌, Bool, true, false, None, List, [], ◌∷◌, ◌++◌, refl, ◌≡◌, ap, subst, sym, ◌∙◌, ◌⊎◌, inl, inr, All, codes, flat_map}
+use Rattle.yaml_read.proofs.Common.{length, encode_utf8_all, line_feed, Text, if◌then◌else◌, Graph, document_event_list, graph_steps, step_events, Event, arith}
+use Rattle.yaml_read.proofs.Common.{document_end, graph_of, Isomorphic, IsWholeGraph, document_start, IfErr, IfOk, Result, Ok, Err, IsUtf8, AreRunBytes}
+use Rattle.yaml_read.proofs.Common.{DocumentStops, IsDocumentPlaced, AreDumpedBytes, unstyled_graph, Tells, IsHere, RunStops, in_document, IsMemory, past_word}
+use Rattle.yaml_read.proofs.Common.{HasRunText, IsInNode, ReadError, Stop}
+use Rattle.yaml_base.specs.declared.documents.yaml_document_t.{yaml_document_t}
+use Rattle.yaml_read.specs.DocumentPlaces.{AreEventsOf, ComposesNode}
 use Rattle.yaml_read.proofs.{DumpedRuns.dumped_bytes_run, DumpedRuns.run_is_dumped, OneGraph.same_events, OneGraph.styled_isomorphic, RunScalars.run_utf8}
 use Rattle.yaml_dump.specs.InOrder.{in_order}
 use Rattle.yaml_read.specs.declared.errors.ReadError.TheVariants as told

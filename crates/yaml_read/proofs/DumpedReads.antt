@@ -1,24 +1,21 @@
 -- The canonical reader finds a graph's content in the bytes of its dump, however deep it nests and however long they are.
-use Rattle.yaml_base.proofs.Common.{◌==◌, [], ◌∷◌, ◌++◌, if◌then◌else◌, ◌≡◌, ◌∙◌, ℕ, Bool, true, false, Option, None, Some, List, refl, ap, subst, sym, All}
-use Rattle.yaml_base.proofs.Common.{All-head, All-tail, arith, and_from, append_assoc, codes, eqb-true, flat_map-append, list_all, Text, line_feed, encode}
-use Rattle.yaml_base.proofs.Common.{utf8, with_breaks_written, line_feed_break, layout, Standing, Piece, text_of, piece_text, root_place, render_node}
-use Rattle.yaml_base.proofs.Common.{document_end_piece, stream_end_piece, first_standing, Event, document_end, documents_and, no_documents, document_events}
-use Rattle.yaml_base.proofs.Common.{Node, node_events, Graph, canonical_content, DocumentContent, Isomorphic, option_and_then, unwrap_or, TreeUnfolds, Content}
-use Rattle.yaml_base.specs.graphs.DumpedText.{dumped_text, node_text}
-use Rattle.yaml_base.proofs.{Common.node_content, Common.anchor_fault, DumpedLeaves.Writes, DumpedLeaves.force, DumpedLeaves.s, ContentsUnfold.content_unfolds}
-use Rattle.yaml_base.proofs.{DumpedOutputs.bare_document, DumpedOutputs.stream_alone, DumpedTexts.node_writes, SameShapes.same_shape}
-use Rattle.yaml_base.specs.{graphs.Unfolding.Unfolds, graphs.Unfolding.content_shape, reading.Content.alias_content, reading.Content.documents_content}
+use Rattle.yaml_read.proofs.Common.{◌==◌, [], ◌∷◌, ◌++◌, if◌then◌else◌, ◌≡◌, ◌∙◌, ℕ, Bool, true, false, Option, None, Some, List, refl, ap, subst, sym, All}
+use Rattle.yaml_read.proofs.Common.{All-head, All-tail, arith, and_from, append_assoc, codes, eqb-true, flat_map-append, list_all, Text, line_feed, encode}
+use Rattle.yaml_read.proofs.Common.{utf8, Event, document_end, documents_and, no_documents, document_events, node_events, Graph, canonical_content, Isomorphic}
+use Rattle.yaml_read.proofs.Common.{option_and_then, unwrap_or, dumped_text, node_text, node_content, anchor_fault, content_unfolds, same_shape, Unfolds}
+use Rattle.yaml_read.proofs.Common.{content_shape, BeginsNode, IsAnchor, IsInNode, begins_node, is_alias, is_mapping, is_scalar, is_sequence, AreDumpedBytes}
+use Rattle.yaml_read.proofs.Common.{unstyled_graph, bare_start, in_document}
+use Rattle.yaml_base.proofs.Common.{DocumentContent, Node, TreeUnfolds, Content}
+use Rattle.yaml_base.{proofs.DumpedLeaves.s, proofs.DumpedOutputs.bare_document, proofs.DumpedOutputs.stream_alone, proofs.DumpedOutputs.tree_text}
+use Rattle.yaml_base.specs.reading.Content.{alias_content, documents_content}
 use Rattle.yaml_emitter.{proofs.canonical.Canonical.bytes_read, proofs.canonical.CanonicalSound.is_good_canonical, proofs.canonical.CanonicalSound.documents_ok}
-use Rattle.yaml_read.specs.EventTexts.{BeginsNode, IsAnchor, IsInNode, begins_node, ends_mapping, ends_sequence, is_alias, is_mapping, is_scalar, is_sequence}
-use Rattle.yaml_read.proofs.DumpedRuns.{dumped_bytes_run, run_is_dumped, same_parts}
-use Rattle.yaml_read.specs.DocumentTexts.{AreDumpedBytes, unstyled_graph}
-use Rattle.yaml_read.{proofs.OneGraph.isomorphic_styled, proofs.OneGraph.styled_isomorphic, specs.RunPlaces.bare_start, specs.RunPlaces.in_document}
+use Rattle.yaml_read.proofs.{DumpedRuns.dumped_bytes_run, DumpedRuns.run_is_dumped, DumpedRuns.same_parts, OneGraph.isomorphic_styled}
+use Rattle.yaml_read.proofs.{OneGraph.styled_isomorphic}
 
 -- ---- events
 
 anchor_good : (anchor : Option Text) → IsAnchor anchor → option_and_then anchor_fault anchor ≡ None
-anchor_good None sound = refl
-anchor_good (Some name) sound = sound
+anchor_good anchor h1 = grind arith
 
 opening_good : (event : Event) → BeginsNode event → is_good_canonical event ≡ true
 opening_good _ (is_alias name sound) = rw sound refl
@@ -28,8 +25,7 @@ opening_good _ (is_sequence anchor tag parts) = rw (anchor_good anchor parts.anc
 opening_good _ (is_mapping anchor tag parts) = rw (anchor_good anchor parts.anchor_sound, parts.tag_sound, parts.tag_scalars) refl
 
 event_good : (event : Event) → IsInNode event → is_good_canonical event ≡ true
-event_good _ (begins_node event begins) = opening_good event begins
-event_good _ _ = refl
+event_good event h1 = grind (arith, opening_good)
 
 node_good : (events : List Event) → All IsInNode events → list_all is_good_canonical (events ++ document_end true ∷ []) ≡ true
 node_good [] all = refl
@@ -42,40 +38,12 @@ run_good events all = node_good events all
 
 -- ---- bytes
 
-more_text : (a b c : List Piece) → text_of ((a ++ b) ++ c) ≡ text_of a ++ (text_of b ++ text_of c)
-more_text a b c =
-    flat_map-append piece_text (a ++ b) c ∙ ap (λ t. t ++ text_of c) (flat_map-append piece_text a b) ∙ append_assoc (text_of a) (text_of b) (text_of c)
-
--- a document's text is that of its layout
-layout_text : (root : Node) → text_of (layout s (stream_alone None (bare_document true root))) ≡ dumped_text root
-layout_text root =
-    let node = render_node root s force root_place first_standing in
-    let end = document_end_piece true node.standing in
-    let last = stream_end_piece end.standing in
-    let written : Writes (node_text 0 root) 0 node = node_writes root None first_standing in
-    let ends : text_of (end.piece ∷ []) ++ text_of (last.piece ∷ []) ≡ line_feed ∷ [] =
-    ap
-    (λ (from : Standing). let made = document_end_piece true from in text_of (made.piece ∷ []) ++ text_of ((stream_end_piece made.standing).piece ∷ []))
-    written.stands in
-    ap (λ t. codes "---\n" ++ t)
-    (more_text node.pieces (end.piece ∷ []) (last.piece ∷ []) ∙ ap (λ t. t ++ (text_of (end.piece ∷ []) ++ text_of (last.piece ∷ []))) written.is
-    ∙ ap (λ t. node_text 0 root ++ t) ends)
-
-breaks_same : (text : Text) → with_breaks_written line_feed_break text ≡ text
-breaks_same [] = refl
-breaks_same (c ∷ rest) = by (c == line_feed) refl (breaks_same rest)
-  where
-    by : (b : Bool) → (c == line_feed) ≡ b → with_breaks_written line_feed_break rest ≡ rest
-        → (if b then line_feed ∷ [] else c ∷ []) ++ with_breaks_written line_feed_break rest ≡ c ∷ rest
-    by true e same = ap (λ d. d ∷ with_breaks_written line_feed_break rest) (sym (eqb-true c line_feed e)) ∙ ap (λ t. c ∷ t) same
-    by false e same = ap (λ t. c ∷ t) same
-
 -- the canonical reader finds in a document's bytes its content
 root_read : (root : Node) → list_all is_good_canonical (document_events (bare_document true root)) ≡ true
     → canonical_content false (encode (Some utf8) (dumped_text root)) ≡ Some (documents_content (documents_and no_documents (bare_document true root)))
 root_read root good =
     let stream = stream_alone None (bare_document true root) in
-    ap (λ t. canonical_content false (encode (Some utf8) t)) (sym (layout_text root) ∙ sym (breaks_same (text_of (layout s stream))))
+    ap (λ t. canonical_content false (encode (Some utf8) t)) (sym (tree_text None true root))
     ∙ bytes_read s (omega arith) stream (documents_ok stream.documents good) false
 
 -- a root that unfolds a graph without styles, and whose content is read of the bytes

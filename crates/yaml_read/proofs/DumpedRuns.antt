@@ -1,15 +1,13 @@
 -- The canonical bytes of a graph's dump are the text of a run of events, and such a run is a dump's.
-use Rattle.yaml_base.proofs.Common.{ℕ, All, Bool, true, None, Some, List, [], ◌∷◌, ◌++◌, refl, ◌≡◌, ap, subst, sym, ◌∙◌, arith, map, map-append, codes, Text}
-use Rattle.yaml_base.proofs.Common.{line_feed, encode, utf8, encode_utf8_all, DocumentStart, Event, document_start, document_end, node_events, Graph}
-use Rattle.yaml_base.proofs.Common.{document_event_list, IsWholeGraph}
-use Rattle.yaml_base.specs.graphs.DumpedText.{HaveText, dumped_text, node_text}
-use Rattle.yaml_base.{proofs.Decoding.text_bytes-utf8, proofs.DocumentsUnfold.document_unfolds, proofs.DumpedOutputs.one_text, proofs.Unstyled.unstyled}
+use Rattle.yaml_read.proofs.Common.{ℕ, All, Bool, true, None, Some, List, [], ◌∷◌, ◌++◌, refl, ◌≡◌, ap, subst, sym, ◌∙◌, arith, map, map-append, codes, Text}
+use Rattle.yaml_read.proofs.Common.{line_feed, encode, utf8, encode_utf8_all, Event, document_start, document_end, node_events, Graph, document_event_list}
+use Rattle.yaml_read.proofs.Common.{IsWholeGraph, dumped_text, node_text, text_bytes-utf8, document_unfolds, unstyled, All-append, All-cons, All-nil}
+use Rattle.yaml_read.proofs.Common.{All-weaker, BeginsNode, HasRunText, IsInNode, begins_node, is_alias, is_mapping, is_scalar, is_sequence, AreDumpedBytes}
+use Rattle.yaml_read.proofs.Common.{IsWritable, unstyled_graph, bare_start, in_document}
+use Rattle.yaml_base.{proofs.Common.DocumentStart, specs.graphs.DumpedText.HaveText, proofs.DumpedOutputs.one_text}
 use Rattle.std.proofs.lemmas.List.{same_from_push}
-use Rattle.std.proofs.lemmas.List.Elements.{All-append, All-cons, All-nil, All-weaker}
-use Rattle.yaml_read.specs.EventTexts.{BeginsNode, HasRunText, IsInNode, begins_node, ends_mapping, ends_sequence, is_alias, is_mapping, is_scalar, is_sequence}
 use Rattle.yaml_read.proofs.{Encoded.word_encoded, NodeEvents.root_between, NodeEvents.root_events, NodeEvents.root_in_node, RunTexts.one_run_text}
 use Rattle.yaml_read.proofs.{RunTexts.run_unstyled, TreeRuns.tree_runs, UnstyledGraphs.document_unstyled, UnstyledGraphs.whole_unstyled}
-use Rattle.yaml_read.specs.{DocumentTexts.AreDumpedBytes, DocumentTexts.IsWritable, DocumentTexts.unstyled_graph, RunPlaces.bare_start, RunPlaces.in_document}
 
 -- ---- documents by their parts
 

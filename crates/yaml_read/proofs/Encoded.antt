@@ -1,7 +1,6 @@
 -- Words of ASCII in UTF-8.
-use Rattle.yaml_base.proofs.Common.{ℕ, [], ◌∷◌, ◌++◌, ◌≡◌, ◌∙◌, suc, zero, Bool, true, refl, ap, nat_lt, ltb-true, and_parts, list_all, replicate, space}
-use Rattle.yaml_base.{proofs.Common.encode_utf8_all, proofs.Common.Text, specs.values.ValueText.line_at}
-use Rattle.std.proofs.lemmas.Str.{encode_ascii}
+use Rattle.yaml_read.proofs.Common.{ℕ, [], ◌∷◌, ◌++◌, ◌≡◌, ◌∙◌, suc, zero, Bool, true, refl, nat_lt, ltb-true, and_parts, list_all, replicate, space}
+use Rattle.yaml_read.proofs.Common.{encode_utf8_all, Text, line_at, encode_ascii, arith}
 
 -- characters of ASCII; computes at a literal
 abbrev pub are_ascii : Text → Bool
@@ -11,8 +10,7 @@ are_ascii word = list_all (λ c. nat_lt c 128) word
 pub word_encoded : (word rest : Text) → are_ascii word ≡ true → encode_utf8_all (word ++ rest) ≡ word ++ encode_utf8_all rest
 word_encoded [] rest h = refl
 word_encoded (c ∷ word) rest h =
-    let both = and_parts (nat_lt c 128) (are_ascii word) h in
-    ap (λ bytes. bytes ++ encode_utf8_all (word ++ rest)) (encode_ascii c (ltb-true c 128 both.0)) ∙ ap (λ t. c ∷ t) (word_encoded word rest both.1)
+    grind (arith, and_parts, nat_lt, are_ascii, encode_utf8_all, encode_ascii, ltb-true, word_encoded word rest (and_parts (nat_lt c 128) (are_ascii word) h).1)
 
 spaces_ascii : (n : ℕ) → are_ascii (replicate n space) ≡ true
 spaces_ascii zero = refl

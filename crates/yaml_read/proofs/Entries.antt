@@ -1,15 +1,10 @@
 -- A line with a lead, and an entry after its comma.
-use Rattle.yaml_base.proofs.Common.{ℕ, ◌*◌, ◌<◌, [], ◌∷◌, ◌++◌, ◌≡◌, ◌∙◌, List, refl, ap, subst, sym, arith, append_assoc, length, codes}
-use Rattle.yaml_base.specs.values.ValueText.{line_at}
-use Rattle.std.specs.{Prelude.Result, Prelude.Ok, Prelude.Err, Prelude.IfErr, Prelude.IfOk, Borrow.Bor}
-use Rattle.yaml_read.specs.Grammar.{entry_end, line_then, nothing, these_or_those, word_then}
-use Rattle.yaml_read.specs.Stepped.{EntryLacks, EntryRead, EntryShorter, LineEntryRead, no_lead, no_line, no_memory}
-use Rattle.yaml_read.specs.{Awaits.EntryStands, Opened.EntryCut, Places.BreaksAt, Places.IsHere, Words.Cuts}
+use Rattle.yaml_read.proofs.Common.{ℕ, ◌*◌, ◌<◌, [], ◌∷◌, ◌++◌, ◌≡◌, ◌∙◌, List, refl, ap, subst, sym, arith, append_assoc, length, codes, line_at, Result, Ok}
+use Rattle.yaml_read.proofs.Common.{Err, IfErr, IfOk, Bor, entry_end, line_then, nothing, these_or_those, word_then, EntryLacks, no_lead, no_memory}
+use Rattle.yaml_read.proofs.Common.{EntryStands, BreaksAt, IsHere, Cuts, Stop, Entry, Another, End}
+use Rattle.yaml_read.specs.Stepped.{EntryRead, EntryShorter, LineEntryRead, no_line}
 use Rattle.yaml_read.proofs.Breaking.{behind_word, line_lacks, line_passed, missing}
-use Rattle.yaml_read.proofs.Turns.{cut_is}
-use Rattle.yaml_read.specs.declared.errors.Stop.{Stop}
-use Rattle.yaml_read.specs.declared.levels.Entry.{Entry}
-use Rattle.yaml_read.specs.declared.levels.Entry.TheVariants.{Another, End}
+use Rattle.yaml_read.specs.Opened.{EntryCut}
 
 -- the place at which a line with a lead is incomplete
 pub lead_breaks : (depth : ℕ) (lead text : List ℕ) (error : Stop) → EntryLacks depth lead text error
@@ -29,7 +24,6 @@ pub entry_behind : (depth : ℕ) (lead end text behind : List ℕ) (result : Res
     → LineEntryRead depth lead end behind result → EntryRead depth lead end text result
 entry_behind depth lead end text behind result is entry =
     record {
-      found = λ tail at. entry.found tail (cut_is (codes ",") text behind (line_at (depth * 2) ++ tail) is at);
       cut = cut result entry.stands;
       breaks = breaks result entry.breaks;
       shorter = shorter result entry.shorter;

@@ -1,8 +1,9 @@
 -- Escapes and digits.
-use Rattle.yaml_base.proofs.Common.{ℕ, ◌<◌, ◌==◌, ◌&&◌, [], ◌∷◌, ◌≡◌, ◌∙◌, true≢false, if◌then◌else◌, Bool, true, false, Option, None, Some, List, refl, ap}
-use Rattle.yaml_base.proofs.Common.{sym, arith, nat_tests, nat_lt, ltb-true, and_parts, agree_below_at, eqb-true, Text, hex_digit, scalar_cases, all_scalars}
+use Rattle.yaml_base.proofs.Common.{ℕ, ◌<◌, ◌==◌, ◌&&◌, [], ◌∷◌, ◌≡◌, ◌∙◌, true≢false, if◌then◌else◌, Bool, true, false, Option, None, Some, List, refl, arith}
+use Rattle.yaml_base.proofs.Common.{nat_tests, nat_lt, ltb-true, and_parts, agree_below_at, eqb-true, Text, hex_digit, scalar_cases, all_scalars}
+use Rattle.yaml_base.proofs.Common.{character_text}
 use Rattle.yaml_base.specs.scalars.DoubleQuoted.{ShortEscape, short_escapes, letter_among, needs_escape, escape_after_backslash, escape_text}
-use Rattle.yaml_base.{proofs.Common.character_text, specs.reading.ReadDouble.letter_meaning, specs.reading.ReadDouble.digit_meaning, specs.Characters.backslash}
+use Rattle.yaml_base.{specs.reading.ReadDouble.letter_meaning, specs.reading.ReadDouble.digit_meaning, specs.Characters.backslash}
 
 -- an answer is there and is this number
 abbrev pub is_answer : Option ℕ → ℕ → Bool
@@ -10,8 +11,7 @@ is_answer None n = false
 is_answer (Some m) n = m == n
 
 pub is_answer-is : (o : Option ℕ) (n : ℕ) → is_answer o n ≡ true → o ≡ Some n
-is_answer-is None n h = cc
-is_answer-is (Some m) n h = ap (λ k. Some k) (eqb-true m n h)
+is_answer-is o n h1 = grind (arith, eqb-true)
 
 -- a digit is read as its value
 pub digit_reads : (d : ℕ) → d < 16 → digit_meaning (hex_digit d) ≡ Some d
@@ -26,8 +26,7 @@ letter_found : (more : List ShortEscape) (entry : ShortEscape) (c letter : ℕ) 
     → is_answer (letter_meaning entry.letter) entry.character ≡ true
     → (letter_among more c ≡ Some letter → letter_meaning letter ≡ Some c)
     → (if b then Some entry.letter else letter_among more c) ≡ Some letter → letter_meaning letter ≡ Some c
-letter_found more entry c letter true is reads later h = grind (arith, eqb-true, is_answer-is)
-letter_found more entry c letter false is reads later h = later h
+letter_found more entry c letter b h1 h2 h3 h4 = grind (arith, eqb-true, is_answer-is)
 
 letter_by : (table : List ShortEscape) (c letter : ℕ) → letters_read table ≡ true
     → letter_among table c ≡ Some letter → letter_meaning letter ≡ Some c
@@ -42,11 +41,7 @@ letter_reads c letter found = letter_by short_escapes c letter refl found
 
 -- no character past U+FFFF needs an escape
 pub short_number : (c : ℕ) → all_scalars (c ∷ []) ≡ true → needs_escape true c ≡ true → c < 65536
-short_number c is_scalar needs = by (nat_lt c 65536) refl
-  where
-    by : (b : Bool) → nat_lt c 65536 ≡ b → c < 65536
-    by true is = ltb-true c 65536 is
-    by false is = absurd (true≢false (sym needs ∙ grind (arith, nat_tests, scalar_cases, and_parts)))
+short_number c is_scalar needs = grind (arith, nat_lt, true, ltb-true, false, true≢false, nat_tests, scalar_cases, and_parts)
 
 -- how a character is written between quotes: as itself, or as a backslash and what follows it
 pub data Stands (c : ℕ) : Text → Type 0 where

@@ -1,15 +1,9 @@
 -- The place of an event that is impossible.
-use Rattle.yaml_base.proofs.Common.{ℕ, None, Option, Some, List, ◌++◌, ◌≡◌, refl, subst, sym, true, length, Event}
-use Rattle.std.specs.Prelude.{Err, IfErr, Ok, Result}
-use Rattle.yaml_read.specs.Awaits.{can_end}
-use Rattle.yaml_read.specs.Beginnings.{IsOpeningRead, ReadOr}
-use Rattle.yaml_read.specs.{EventSteps.trail_behind_opening, declared.leads.Await.Await}
-use Rattle.yaml_read.specs.EventTexts.{Pending, closing_text, lead_text, outside, trail_text}
-use Rattle.yaml_read.specs.Places.{IsHere, IsWholeWord}
-use Rattle.yaml_read.specs.RunPlaces.{IsEventPlace, IsNodePlace, StopsBy, after_bracket, after_node, in_event_at}
-use Rattle.yaml_read.specs.Words.{IsMemory, past_word}
+use Rattle.yaml_read.proofs.Common.{ℕ, None, Option, List, ◌++◌, ◌≡◌, refl, subst, sym, true, length, Event, Err, IfErr, Result, can_end, IsOpeningRead, ReadOr}
+use Rattle.yaml_read.proofs.Common.{trail_behind_opening, Await, Pending, closing_text, lead_text, outside, trail_text, IsHere, IsWholeWord, IsEventPlace}
+use Rattle.yaml_read.proofs.Common.{IsNodePlace, StopsBy, IsMemory, past_word, Stop, arith}
+use Rattle.yaml_read.specs.RunPlaces.{after_bracket, after_node, in_event_at}
 use Rattle.yaml_read.proofs.Words.{memory_only}
-use Rattle.yaml_read.specs.declared.errors.Stop.{Stop}
 use Rattle.yaml_read.specs.declared.errors.Stop.TheVariants as stop
 
 -- at the first word of the bytes
@@ -48,8 +42,7 @@ placed_if Read One Other _ then_is none place = tt
 -- the text after a node's beginning is missing only if it is the one after a node
 trail_missing : (levels : List Pending) (opened : Option Await) (rest : List ℕ) → past_word (trail_behind_opening levels opened) rest ≡ None
     → past_word (trail_text levels) rest ≡ None
-trail_missing levels None rest none = none
-trail_missing levels (Some awaited) rest none = cc
+trail_missing levels opened rest h1 = grind arith
 
 -- after a node
 pub node_placed : {T : Type 0} (Read : T → Type 0) (levels : List Pending) (opened : Option Await) (text rest : List ℕ) (event : Event)

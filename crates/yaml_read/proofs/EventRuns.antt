@@ -1,71 +1,46 @@
 -- A document's events, one after another: what was read, and what is due.
-use Rattle.yaml_base.proofs.Common.{ℕ, [], ◌∷◌, ◌++◌, ◌≡◌, ◌∙◌, false≢true, ◌⊎◌, ◌<◌, true, false, Option, None, Some, List, refl, ap, subst, sym, append_assoc}
-use Rattle.yaml_base.proofs.Common.{All, All-head, All-tail, codes, inl, inr, line_feed, Text, encode_utf8_all, Event, alias, scalar, sequence_start}
-use Rattle.yaml_base.proofs.Common.{sequence_end, mapping_start, mapping_end, stream_start, stream_end, document_start, document_end, length, arith}
-use Rattle.yaml_base.proofs.Common.{length-append, length-le-encodes}
-use Rattle.std.specs.{Prelude.Result, Prelude.Ok, Prelude.Err, Prelude.map, Borrow.Bor}
-use Rattle.std.proofs.lemmas.{List.append_cancel_left, List.map-append, List.Elements.All-nil, List.Elements.All-push, Str.encodes-append}
-use Rattle.yaml_read.specs.EventTexts.{Pending, HasBegunText, HasRunText, IsInNode, closing_text, ends_name, event_text, item_awaited, key_awaited, lead_text}
-use Rattle.yaml_read.specs.EventTexts.{may_come, more_come, none_begun, one_more, next_open, left_open, outside, root_ends, value_awaited}
-use Rattle.yaml_read.specs.EventTexts.{IsOver, begins_node, ends_mapping, ends_sequence, opening_text, trail_text}
-use Rattle.yaml_read.specs.RunPlaces.{IsEventPlace, RunStops, StopsBy, after_root, bare_start, in_document, in_event, NoEventBegins}
-use Rattle.yaml_read.specs.Beginnings.{ReadOr}
-use Rattle.yaml_read.specs.Places.{LacksEnd, more_follows, no_end}
+use Rattle.yaml_read.proofs.Common.{ℕ, [], ◌∷◌, ◌++◌, ◌≡◌, ◌∙◌, false≢true, ◌⊎◌, ◌<◌, true, Option, None, Some, List, refl, ap, subst, sym, append_assoc, All}
+use Rattle.yaml_read.proofs.Common.{All-head, All-tail, codes, line_feed, Text, encode_utf8_all, Event, sequence_end, mapping_end, document_start, document_end}
+use Rattle.yaml_read.proofs.Common.{length, arith, length-append, length-le-encodes, Result, Ok, Err, map, Bor, append_cancel_left, map-append, All-nil}
+use Rattle.yaml_read.proofs.Common.{encodes-append, Pending, HasRunText, IsInNode, closing_text, ends_name, event_text, lead_text, may_come, more_come}
+use Rattle.yaml_read.proofs.Common.{next_open, left_open, outside, root_ends, value_awaited, IsOver, IsEventPlace, RunStops, StopsBy, bare_start, in_document}
+use Rattle.yaml_read.proofs.Common.{NoEventBegins, ReadOr, LacksEnd, more_follows, no_end, ReadsEvent, OrMemory, Stop}
 use Rattle.yaml_read.specs.EventReads.{EndDue, EndRead, IsEventRead, RootRead, RunAnswer, RunEnded, RunFails}
-use Rattle.yaml_read.proofs.NameEnds.{longer_over, nothing_over, opening_some}
 use Rattle.yaml_read.proofs.EventSteps.{behind_text, end_shorter, mapping_ends, node_event, sequence_ends}
-use Rattle.yaml_read.specs.EventSteps.{ReadsEvent, await_opened, text_behind_lead, trail_behind_opening}
-use Rattle.yaml_read.{specs.Words.OrMemory, specs.declared.errors.Stop.Stop, proofs.Encoded.word_encoded, proofs.EventPlaces.memory_placed}
-use Rattle.yaml_read.proofs.Words.{memory_only, no_word}
+use Rattle.std.proofs.lemmas.List.Elements.{All-push}
+use Rattle.yaml_read.{specs.EventTexts.HasBegunText, specs.EventTexts.none_begun, specs.EventTexts.one_more, specs.RunPlaces.after_root}
+use Rattle.yaml_read.{specs.RunPlaces.in_event}
+use Rattle.yaml_read.proofs.{NameEnds.longer_over, NameEnds.nothing_over, NameEnds.opening_some, Encoded.word_encoded, EventPlaces.memory_placed}
+use Rattle.yaml_read.proofs.{Words.memory_only, Words.no_word}
 use Rattle.yaml_read.specs.declared.errors.Stop.TheVariants as stop
 
 -- ---- a name ends before an event in a collection
 
 lead_ends_name : (awaited : Pending) (outer : List Pending) (text more : Text) → ends_name ((lead_text (awaited ∷ outer) ++ text) ++ more) ≡ true
-lead_ends_name (item_awaited empty) outer text more = refl
-lead_ends_name _ outer text more = refl
+lead_ends_name awaited outer text more = grind arith
 
 end_ends_name : (awaited : Pending) (outer : List Pending) (event : Event) (text more : Text) → event ≡ sequence_end ⊎ event ≡ mapping_end
     → may_come (awaited ∷ outer) event ≡ true → ends_name ((closing_text (awaited ∷ outer) ++ text) ++ more) ≡ true
-end_ends_name (item_awaited true) outer event text more is comes = refl
-end_ends_name (item_awaited false) outer event text more is comes = refl
-end_ends_name (key_awaited true) outer event text more is comes = refl
-end_ends_name (key_awaited false) outer event text more is comes = refl
-end_ends_name value_awaited outer event text more (inl is) comes = absurd (false≢true (ap (may_come (value_awaited ∷ outer)) (sym is) ∙ comes))
-end_ends_name value_awaited outer event text more (inr is) comes = absurd (false≢true (ap (may_come (value_awaited ∷ outer)) (sym is) ∙ comes))
+end_ends_name awaited outer event text more h1 h2 = grind (arith, false≢true, may_come, value_awaited)
 
 event_ends_name : (awaited : Pending) (outer : List Pending) (event : Event) (more : Text) → may_come (awaited ∷ outer) event ≡ true
     → ends_name (event_text (awaited ∷ outer) event ++ more) ≡ true
-event_ends_name awaited outer sequence_end more comes = end_ends_name awaited outer sequence_end _ more (inl refl) comes
-event_ends_name awaited outer mapping_end more comes = end_ends_name awaited outer mapping_end _ more (inr refl) comes
-event_ends_name awaited outer (stream_start encoding) more comes = absurd (false≢true comes)
-event_ends_name awaited outer stream_end more comes = absurd (false≢true comes)
-event_ends_name awaited outer (document_start start) more comes = absurd (false≢true comes)
-event_ends_name awaited outer (document_end implicit) more comes = absurd (false≢true comes)
-event_ends_name awaited outer _ more comes = lead_ends_name awaited outer _ more
+event_ends_name awaited outer event more h1 = grind (arith, end_ends_name, sequence_end, mapping_end, false≢true, lead_ends_name)
 
 run_ends_name : (awaited : Pending) (outer : List Pending) (events : List Event) (text more : Text) → HasRunText (awaited ∷ outer) events text
     → ends_name (text ++ more) ≡ true
-run_ends_name awaited outer _ _ more (root_ends _ event text comes after is) =
-    ap (λ (t : Text). ends_name (t ++ more)) is ∙ event_ends_name awaited outer event more comes
-run_ends_name awaited outer _ _ more (more_come _ next event events rest text comes after is run) = grind (arith, append_assoc, event_ends_name)
+run_ends_name awaited outer events text more h1 = grind (arith, ends_name, event_ends_name, append_assoc)
 
 -- something is open after an event that doesn't end the root
 behind_open : (levels : List Pending) → left_open levels ≡ Some [] → ⊥
-behind_open [] is = cc
-behind_open (awaited ∷ outer) is = cc
+behind_open levels h1 = grind arith
 
 after_open : (levels : List Pending) (event : Event) → next_open levels event ≡ Some [] → ⊥
-after_open levels (sequence_start start) is = cc
-after_open levels (mapping_start start) is = cc
-after_open levels sequence_end is = behind_open (outside levels) is
-after_open levels mapping_end is = behind_open (outside levels) is
-after_open levels _ is = behind_open levels is
+after_open levels event h1 = grind (arith, behind_open, outside)
 
 more_ends_name : (levels next : List Pending) (event : Event) (events : List Event) (text more : Text) → next_open levels event ≡ Some next
     → HasRunText next events text → ends_name (text ++ more) ≡ true
-more_ends_name levels [] event events text more after run = absurd (after_open levels event after)
-more_ends_name levels (awaited ∷ outer) event events text more after run = run_ends_name awaited outer events text more run
+more_ends_name levels next event events text more h1 h2 = grind (arith, after_open, run_ends_name)
 
 -- ---- the events that were read, and the text after them
 
@@ -105,9 +80,7 @@ one_more_parts whole bytes rest text own is also = grind (arith, encode_utf8_all
 
 -- an event's text isn't empty
 event_some : (levels : List Pending) (event : Event) → IsInNode event → may_come levels event ≡ true → 0 < length (event_text levels event)
-event_some levels _ (begins_node event begins) comes = grind (arith, node_event, length-append, opening_some)
-event_some levels _ ends_sequence comes = grind (arith, end_shorter, sequence_end, sequence_ends)
-event_some levels _ ends_mapping comes = grind (arith, end_shorter, mapping_end, mapping_ends)
+event_some levels event h1 h2 = grind (arith, node_event, length-append, opening_some, end_shorter, sequence_end, sequence_ends, mapping_end, mapping_ends)
 
 -- one more event is read
 pub event_more : (whole : List ℕ) (found : List Event) (levels : List Pending) (bytes rest : List ℕ) (after : Option (List Pending)) (event : Event)

@@ -1,17 +1,16 @@
 -- Events of a document, by what is open before them.
-use Rattle.yaml_base.proofs.Common.{ℕ, ◌<◌, true, false, Option, None, Some, List, [], ◌∷◌, ◌++◌, refl, ◌≡◌, ap, subst, sym, ◌∙◌, append_assoc, append-nil}
-use Rattle.yaml_base.proofs.Common.{arith, false≢true, length, length-append, Text, encode_utf8_all, Event, alias, scalar, sequence_start, sequence_end}
-use Rattle.yaml_base.proofs.Common.{mapping_start, mapping_end, Scalar, Collection}
-use Rattle.std.specs.Prelude.{Err}
-use Rattle.std.{proofs.lemmas.List.append_cancel_left, proofs.lemmas.Str.encodes-append, specs.Borrow.Bor}
-use Rattle.yaml_read.specs.EventSteps.{GoesTo, ReadsEvent, ReadsNode, await_opened, open_behind_opening, text_behind_lead, trail_behind_opening}
-use Rattle.yaml_read.specs.EventTexts.{Pending, BeginsNode, IsInNode, begins_node, closing_text, ends_mapping, ends_name, ends_sequence, event_text, is_alias}
-use Rattle.yaml_read.specs.EventTexts.{is_mapping, is_scalar, is_sequence, item_awaited, key_awaited, lead_text, may_come, next_open, left_open, opening_text}
-use Rattle.yaml_read.specs.EventTexts.{IsOver, outside, trail_text, value_awaited}
+use Rattle.yaml_read.proofs.Common.{ℕ, ◌<◌, true, false, Option, Some, List, [], ◌∷◌, ◌++◌, refl, ◌≡◌, ap, subst, sym, ◌∙◌, append_assoc, append-nil, arith}
+use Rattle.yaml_read.proofs.Common.{false≢true, length, length-append, Text, encode_utf8_all, Event, alias, sequence_start, sequence_end, mapping_start}
+use Rattle.yaml_read.proofs.Common.{mapping_end, Err, append_cancel_left, encodes-append, Bor, GoesTo, ReadsEvent, await_opened, open_behind_opening}
+use Rattle.yaml_read.proofs.Common.{text_behind_lead, trail_behind_opening, Pending, BeginsNode, IsInNode, begins_node, closing_text, ends_mapping, ends_name}
+use Rattle.yaml_read.proofs.Common.{ends_sequence, event_text, is_alias, is_mapping, is_scalar, is_sequence, item_awaited, key_awaited, lead_text, may_come}
+use Rattle.yaml_read.proofs.Common.{next_open, left_open, opening_text, IsOver, outside, trail_text, LeadStands, can_end, closing_event, seen_await, Await}
+use Rattle.yaml_read.proofs.Common.{Stop}
 use Rattle.yaml_read.proofs.NameEnds.{behind_over, end_over, longer_over, opening_some}
-use Rattle.yaml_read.specs.{Awaits.LeadStands, Awaits.can_end, Awaits.closing_event, Awaits.seen_await, declared.leads.Await.Await}
-use Rattle.yaml_read.specs.{declared.errors.Stop.Stop, declared.steps.Progress.TheVariants.Continues}
-use Rattle.yaml_read.proofs.{Awaits.closing_encoded, Awaits.lead_encoded, Awaits.lead_or_end, Awaits.trail_encoded, Words.no_word}
+use Rattle.yaml_read.proofs.Awaits.{closing_encoded, lead_encoded, lead_or_end, trail_encoded}
+use Rattle.yaml_base.proofs.Common.{scalar, Scalar, Collection}
+use Rattle.yaml_read.{specs.EventSteps.ReadsNode, specs.declared.steps.Progress.TheVariants.Continues}
+use Rattle.yaml_read.proofs.Words.{no_word}
 
 -- ---- an event that begins a node
 
@@ -76,16 +75,11 @@ mapping_ends _ comes = absurd (false≢true comes)
 -- a comma or nothing ends a name, if what follows ends it
 pub trail_ends : (levels : List Pending) (opened : Option Await) (tail : Text) → ends_name tail ≡ true
     → ends_name (trail_behind_opening levels opened ++ tail) ≡ true
-trail_ends [] None tail ends = ends
-trail_ends (item_awaited empty ∷ outer) None tail ends = refl
-trail_ends (key_awaited empty ∷ outer) None tail ends = ends
-trail_ends (value_awaited ∷ outer) None tail ends = refl
-trail_ends levels (Some awaited) tail ends = ends
+trail_ends levels opened tail h1 = grind arith
 
 pub behind_encoded : (levels : List Pending) (opened : Option Await) (tail : Text)
     → encode_utf8_all (trail_behind_opening levels opened ++ tail) ≡ trail_behind_opening levels opened ++ encode_utf8_all tail
-behind_encoded levels None tail = trail_encoded levels tail
-behind_encoded levels (Some awaited) tail = refl
+behind_encoded levels opened tail = grind (arith, trail_encoded)
 
 -- a collection was opened
 pub opened_on : (levels now : List Pending) (found : Option Await) (awaited : Await) (text : Bor (List ℕ)) → found ≡ Some awaited
@@ -171,30 +165,19 @@ end_read levels text behind rest after event can is same opened follows =
 -- less is left after a collection's end
 pub end_shorter : (levels : List Pending) (text behind : List ℕ) → can_end levels ≡ true → text ≡ closing_text levels ++ behind
     → length behind < length text
-end_shorter (item_awaited true ∷ outer) text behind can is = omega (arith, ap length is)
-end_shorter (item_awaited false ∷ outer) text behind can is =
-    omega (arith, ap length is, length-append (closing_text (item_awaited false ∷ outer)) behind)
-end_shorter (key_awaited true ∷ outer) text behind can is = omega (arith, ap length is)
-end_shorter (key_awaited false ∷ outer) text behind can is =
-    omega (arith, ap length is, length-append (closing_text (key_awaited false ∷ outer)) behind)
-end_shorter _ text behind can is = absurd (false≢true can)
+end_shorter levels text behind h1 h2 = grind (arith, length, length-append, closing_text, item_awaited, false, key_awaited, false≢true)
 
 -- ---- the text before an event that comes
 
 -- bytes of an event after its lead, or after the collection's bracket
 node_bytes : (levels : List Pending) (bytes : List ℕ) (event : Event) (tail : Text) → BeginsNode event
     → bytes ≡ encode_utf8_all (event_text levels event ++ tail) → bytes ≡ lead_text levels ++ encode_utf8_all (text_behind_lead levels event ++ tail)
-node_bytes levels bytes event tail begins is =
-    is ∙ ap encode_utf8_all (ap (λ t. t ++ tail) (node_event levels event begins).text ∙ append_assoc (lead_text levels) (text_behind_lead levels event) tail)
-    ∙ lead_encoded levels (text_behind_lead levels event ++ tail)
+node_bytes levels bytes event tail begins is = grind (arith, encode_utf8_all, node_event, append_assoc, lead_text, text_behind_lead, lead_encoded)
 
 end_bytes : (levels : List Pending) (bytes : List ℕ) (event : Event) (tail : Text) → can_end levels ≡ true → closing_event levels ≡ event
     → bytes ≡ encode_utf8_all (event_text levels event ++ tail) → bytes ≡ closing_text levels ++ (trail_text (outside levels) ++ encode_utf8_all tail)
 end_bytes levels bytes event tail can same is =
-    let trail = trail_text (outside levels) in
-    is ∙ ap (λ e. encode_utf8_all (event_text levels e ++ tail)) (sym same)
-    ∙ ap encode_utf8_all (ap (λ t. t ++ tail) (end_event levels can).text ∙ append_assoc (closing_text levels) trail tail)
-    ∙ closing_encoded levels (trail ++ tail) ∙ ap (λ t. closing_text levels ++ t) (trail_encoded (outside levels) tail)
+    grind (arith, trail_text, outside, encode_utf8_all, event_text, end_event, append_assoc, closing_text, closing_encoded, trail_encoded)
 
 -- the bytes after the lead or the bracket that was found, if an event comes
 pub data Comes (levels : List Pending) (event : Event) (tail : Text) (bytes : List ℕ) : Type 0 where

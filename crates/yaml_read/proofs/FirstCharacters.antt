@@ -1,8 +1,7 @@
 -- The meaning of a character between quotes, by its first character.
-use Rattle.yaml_base.proofs.Common.{ℕ, ◌<◌, ◌≤◌, [], ◌∷◌, ◌++◌, ◌≡◌, ◌∙◌, true≢false, true, false, Option, None, Some, List, ap, sym, arith, Text}
-use Rattle.yaml_base.proofs.Common.{encode_utf8_all, encode_utf8, all_scalars, hex_digits, character_text, short_escapes, letter_among, needs_escape}
-use Rattle.yaml_base.{proofs.Common.escape_after_backslash, proofs.Common.length, specs.reading.ReadDouble.letter_meaning, specs.Characters.backslash}
-use Rattle.std.{specs.Prelude.MatchOption, specs.Borrow.Bor}
+use Rattle.yaml_read.proofs.Common.{ℕ, ◌<◌, ◌≤◌, [], ◌∷◌, ◌++◌, ◌≡◌, ◌∙◌, true≢false, true, false, Option, None, Some, List, ap, sym, arith, Text}
+use Rattle.yaml_read.proofs.Common.{encode_utf8_all, encode_utf8, all_scalars, hex_digits, character_text, short_escapes, letter_among, needs_escape}
+use Rattle.yaml_read.proofs.Common.{escape_after_backslash, length, letter_meaning, backslash, MatchOption, Bor}
 use Rattle.yaml_read.proofs.Escapes.{Stands, as_itself, as_escape, stands}
 use Rattle.yaml_read.proofs.Firsts.{AfterBackslash, by_letter, by_two, by_four, after_backslash, first_is, not_empty}
 
@@ -103,9 +102,7 @@ itself_first c rest first bytes tail is starts other = itself_by c (character_te
 
 -- a character's text isn't empty
 there_by : (c : ℕ) (text rest : Text) (bytes : List ℕ) → Stands c text → bytes ≡ encode_utf8_all (text ++ rest) → length bytes ≡ 0 → ⊥
-there_by c _ rest bytes (as_itself plain) is none = not_empty bytes c rest is none
-there_by c _ rest bytes (as_escape needs) is none =
-    not_empty bytes backslash (escape_after_backslash (letter_among short_escapes c) c ++ rest) is none
+there_by c text rest bytes h1 h2 h3 = grind (arith, not_empty, backslash, escape_after_backslash, letter_among, short_escapes)
 
 pub character_there : (c : ℕ) (rest : Text) (bytes : List ℕ) → bytes ≡ encode_utf8_all (character_text true c ++ rest) → length bytes ≡ 0 → ⊥
 character_there c rest bytes is none = there_by c (character_text true c) rest bytes (stands c) is none
@@ -114,5 +111,4 @@ character_there c rest bytes is none = there_by c (character_text true c) rest b
 pub read_on : (found : Option (ℕ × Bor (List ℕ))) (c : ℕ) (rest : Text) (tail : List ℕ) → tail ≡ encode_utf8_all rest
     → MatchOption found ⊥ (λ found. (found.0 ≡ c) × (found.1.now ≡ tail))
     → MatchOption found ⊥ (λ found. (found.0 ≡ c) × (found.1.now ≡ encode_utf8_all rest))
-read_on None c rest tail is read = read
-read_on (Some found) c rest tail is read = (read.0, read.1 ∙ is)
+read_on found c rest tail h1 h2 = grind arith

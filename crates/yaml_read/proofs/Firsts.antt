@@ -1,9 +1,8 @@
 -- The first character of a text.
-use Rattle.yaml_base.proofs.Common.{ℕ, ◌/◌, ◌%◌, ◌<◌, ◌≤◌, Bool, true, None, Some, List, [], ◌∷◌, ◌++◌, refl, ◌≡◌, ap, sym, ◌∙◌, length, Text, nat_le}
-use Rattle.yaml_base.proofs.Common.{false, length-append, length-encode, len_utf8_bounds, encode_utf8_all, if◌then◌else◌, short_escapes, escape_after_backslash}
-use Rattle.yaml_base.proofs.Common.{Option, arith, nat_tests, encode_utf8, all_scalars, leb-true, hex_digit, hex_digits, true≢false, letter_among, needs_escape}
-use Rattle.yaml_base.specs.reading.ReadDouble.{letter_meaning}
-use Rattle.std.proofs.lemmas.Str.{encode_same}
+use Rattle.yaml_read.proofs.Common.{ℕ, ◌/◌, ◌%◌, ◌<◌, ◌≤◌, Bool, true, None, Some, List, [], ◌∷◌, ◌++◌, refl, ◌≡◌, sym, ◌∙◌, length, Text, nat_le, false}
+use Rattle.yaml_read.proofs.Common.{length-append, encode_utf8_all, if◌then◌else◌, short_escapes, escape_after_backslash, Option, arith, nat_tests, encode_utf8}
+use Rattle.yaml_read.proofs.Common.{all_scalars, hex_digit, hex_digits, true≢false, letter_among, needs_escape, letter_meaning, encode_same}
+use Rattle.yaml_base.proofs.Common.{length-encode, len_utf8_bounds, leb-true}
 use Rattle.yaml_read.proofs.Escapes.{letter_reads, short_number}
 
 -- the first character, and what follows it
@@ -13,19 +12,12 @@ first_is bytes rest c d text is also = encode_same c d rest (encode_utf8_all tex
 
 -- a text that begins with a character isn't empty
 pub not_empty : (bytes : List ℕ) (d : ℕ) (text : Text) → bytes ≡ encode_utf8_all (d ∷ text) → length bytes ≡ 0 → ⊥
-not_empty bytes d text is none =
-    absurd (omega (arith, ap length is, length-append (encode_utf8 d) (encode_utf8_all text), length-encode d, len_utf8_bounds d))
+not_empty bytes d text is none = grind (arith, length, length-append, encode_utf8, encode_utf8_all, length-encode, len_utf8_bounds)
 
 -- ---- digits
 
 pub four_text : (n : ℕ) (rest : Text) → hex_digits 4 n ++ rest ≡ hex_digits 2 (n / 256) ++ (hex_digits 2 (n % 256) ++ rest)
-four_text n rest =
-    four (n / 16 / 16 / 16 % 16) (n / 16 / 16 % 16) (n / 16 % 16) (n % 16) (n / 256 / 16 % 16) (n / 256 % 16) (n % 256 / 16 % 16) (n % 256 % 16)
-    (omega arith) (omega arith) (omega arith) (omega arith)
-  where
-    four : (a b c d e f g h : ℕ) → a ≡ e → b ≡ f → c ≡ g → d ≡ h
-        → hex_digit a ∷ hex_digit b ∷ hex_digit c ∷ hex_digit d ∷ rest ≡ hex_digit e ∷ hex_digit f ∷ hex_digit g ∷ hex_digit h ∷ rest
-    four a b c d e f g h first second third last = grind (arith, hex_digit)
+four_text n rest = grind (arith, hex_digit)
 
 -- ---- escapes
 

@@ -1,15 +1,9 @@
 -- How a value that was read began.
-use Rattle.yaml_base.proofs.Common.{ℕ, ◌<◌, Bool, true, false, None, List, [], ◌++◌, refl, ◌≡◌, ap, subst, sym, ◌∙◌, append_assoc, append-nil, arith, codes}
-use Rattle.yaml_base.proofs.Common.{Text, encode_utf8_all, chars, chars-IsAscii, pos, negsuc, ℤ}
-use Rattle.yaml_base.specs.values.TypedValues.{TypedValue, null_value, bool_value, text_value, list_value, map_value, no_values, no_value_pairs, bool_text}
-use Rattle.yaml_base.{specs.Seen.seen_text, specs.values.ValueText.in_quotes, specs.values.ValueText.value_text}
-use Rattle.std.proofs.Common.{FitsSigned, w64, ◌^◌, Result, Ok, Err, String, string_bytes}
-use Rattle.std.proofs.lemmas.Str.{IsUtf8-string_bytes, scalars-chars}
-use Rattle.std.{proofs.lemmas.Fmt.IsAscii-signed, specs.Fmt.signed_decimal, specs.Int.Signed.mag, specs.Str.Parse.ParsesSigned}
-use Rattle.yaml_value.{proofs.SeenLevels.seen_truth, specs.SeenValues.seen_value}
-use Rattle.yaml_read.specs.Sound.{IsInteger, IsTruth, IsScalarValue}
-use Rattle.yaml_read.{proofs.Encoded.are_ascii, proofs.Encoded.word_encoded, proofs.Turns.cut_is, proofs.Words.no_word}
-use Rattle.yaml_read.specs.Words.{past_word}
+use Rattle.yaml_read.proofs.Common.{ℕ, ◌<◌, true, List, [], ◌++◌, refl, ◌≡◌, ap, subst, sym, ◌∙◌, append_assoc, append-nil, arith, codes, Text, encode_utf8_all}
+use Rattle.yaml_read.proofs.Common.{chars, chars-IsAscii, ℤ, TypedValue, null_value, text_value, list_value, map_value, no_values, no_value_pairs, bool_text}
+use Rattle.yaml_read.proofs.Common.{seen_text, in_quotes, value_text, FitsSigned, w64, ◌^◌, Result, Ok, Err, String, string_bytes, IsUtf8-string_bytes}
+use Rattle.yaml_read.proofs.Common.{scalars-chars, IsAscii-signed, signed_decimal, mag, ParsesSigned, IsInteger, IsTruth, IsScalarValue}
+use Rattle.yaml_read.proofs.Encoded.{are_ascii, word_encoded}
 use Rattle.yaml_value.specs.declared.value.Value as declared
 
 -- a word of ASCII is its bytes
@@ -25,8 +19,7 @@ parsed_fits bytes n (Err error) parses is = absurd (apart is)
     apart e = cc
 
 pub bits_of_fits : (n : ℤ) → FitsSigned w64 n → mag n < 2 ^ 63
-bits_of_fits (pos n) fits = omega (arith, fits)
-bits_of_fits (negsuc n) fits = omega (arith, fits)
+bits_of_fits n h1 = grind arith
 
 pub digits_seen : {A : Type 0} (digits : String A) (n : ℤ) → mag n < 2 ^ 63 → string_bytes digits ≡ signed_decimal n → seen_text digits ≡ signed_decimal n
 digits_seen digits n few is = ap chars is ∙ chars-IsAscii (signed_decimal n) (IsAscii-signed n few)
@@ -34,8 +27,7 @@ digits_seen digits n few is = ap chars is ∙ chars-IsAscii (signed_decimal n) (
 -- the rest of a value's text after a tag
 pub tagged_text : (bytes behind rest tail : List ℕ) (word written : Text) → are_ascii word ≡ true → bytes ≡ word ++ behind
     → behind ≡ encode_utf8_all written ++ rest → bytes ≡ encode_utf8_all (word ++ written) ++ rest
-tagged_text bytes behind rest tail word written h tagged is =
-    tagged ∙ ap (λ b. word ++ b) is ∙ sym (append_assoc word (encode_utf8_all written) rest) ∙ ap (λ b. b ++ rest) (sym (word_encoded word written h))
+tagged_text bytes behind rest tail word written h tagged is = grind (arith, append_assoc, encode_utf8_all, word_encoded)
 
 -- ---- values on their line
 
@@ -86,27 +78,3 @@ pub empty_map : (column : ℕ) (bytes behind inside rest : List ℕ) → bytes �
 empty_map column bytes behind inside rest tagged bracket is =
     tagged_text bytes behind rest [] (codes "!!map ") (codes "{}") refl tagged
     (bracket ∙ ap (λ t. codes "{" ++ t) is ∙ ap (λ w. w ++ rest) (sym (word_bytes (codes "{}") refl)))
-
--- the bytes of one truth value aren't those of the other
-pub true_there : (A : Type 0) (bytes after : List ℕ) (b : Bool) (rest : Text) → bytes ≡ codes "\"true\"" ++ after
-    → bytes ≡ encode_utf8_all (in_quotes (bool_text b) ++ rest) → (seen_value {A = A} (declared.Bool true) ≡ bool_value b) × (after ≡ encode_utf8_all rest)
-true_there A bytes after true rest cut is =
-    (seen_truth A true, cut_is (codes "\"true\"") bytes after (encode_utf8_all rest) cut (is ∙ word_encoded (codes "\"true\"") rest refl))
-true_there A bytes after false rest cut is =
-    absurd (no_word (codes "\"false\"") bytes (encode_utf8_all rest) (ap (past_word (codes "\"false\"")) cut)
-    (is ∙ word_encoded (codes "\"false\"") rest refl))
-
-pub false_there : (A : Type 0) (bytes after : List ℕ) (b : Bool) (rest : Text) → past_word (codes "\"true\"") bytes ≡ None
-    → bytes ≡ codes "\"false\"" ++ after → bytes ≡ encode_utf8_all (in_quotes (bool_text b) ++ rest)
-    → (seen_value {A = A} (declared.Bool false) ≡ bool_value b) × (after ≡ encode_utf8_all rest)
-false_there A bytes after true rest none cut is =
-    absurd (no_word (codes "\"true\"") bytes (encode_utf8_all rest) none (is ∙ word_encoded (codes "\"true\"") rest refl))
-false_there A bytes after false rest none cut is =
-    (seen_truth A false, cut_is (codes "\"false\"") bytes after (encode_utf8_all rest) cut (is ∙ word_encoded (codes "\"false\"") rest refl))
-
-pub no_truth_there : (bytes : List ℕ) (b : Bool) (rest : Text) → past_word (codes "\"true\"") bytes ≡ None → past_word (codes "\"false\"") bytes ≡ None
-    → bytes ≡ encode_utf8_all (in_quotes (bool_text b) ++ rest) → ⊥
-no_truth_there bytes true rest none other is =
-    no_word (codes "\"true\"") bytes (encode_utf8_all rest) none (is ∙ word_encoded (codes "\"true\"") rest refl)
-no_truth_there bytes false rest none other is =
-    no_word (codes "\"false\"") bytes (encode_utf8_all rest) other (is ∙ word_encoded (codes "\"false\"") rest refl)

@@ -1,33 +1,18 @@
 -- The keys that are held of the maps that are open, at the next node.
-use Rattle.yaml_base.proofs.Common.{ℕ, ◌+◌, ◌≤◌, suc, Bool, true, false, cond, List, [], ◌∷◌, ◌++◌, refl, ◌≡◌, ap, subst, sym, ◌∙◌, arith, length}
-use Rattle.yaml_base.proofs.Common.{append_assoc, append-nil, length-append, take, ◌||◌, bytes_eq}
-use Rattle.yaml_base.specs.values.TypedValues.{TypedValue}
-use Rattle.std.specs.Prelude.{Ok, Err, Result, String}
-use Rattle.std.specs.BTreeSet.{BTreeSet, contains_text}
-use Rattle.std.proofs.Math.Seq.{take-append_seam}
-use Rattle.yaml_value.specs.OpenLevels.{OpenLevel, items_open, pairs_open, seen_level, seen_levels, value_due, with_value}
-use Rattle.yaml_read.specs.HeldKeys.{FollowsKeys, HasKeys, HeldAtNode, HeldKeys, HoldKeys, HoldsKeys, InnermostIsNew, IsLastLevel, KeyEndsBefore}
-use Rattle.yaml_read.specs.HeldKeys.{FollowedBy, KeysFollowed, TakenOff}
-use Rattle.yaml_read.specs.Opened.{IsOpen}
-use Rattle.yaml_read.specs.Remaining.{column_in}
-use Rattle.yaml_read.specs.RepeatedKeys.{key_bytes}
-use Rattle.yaml_read.specs.Settled.{BeginsLevel, Ended, Moved, begins_list, begins_map, value_given, none_ended, one_ended, level_opened}
-use Rattle.yaml_read.specs.declared.errors.KeyStop.{KeyStop}
+use Rattle.yaml_read.proofs.Common.{ℕ, ◌+◌, ◌≤◌, suc, Bool, true, false, cond, List, [], ◌∷◌, ◌++◌, refl, ◌≡◌, ap, subst, sym, ◌∙◌, arith, length, append_assoc}
+use Rattle.yaml_read.proofs.Common.{append-nil, length-append, take, ◌||◌, bytes_eq, TypedValue, Ok, Err, Result, String, contains_text, take-append_seam}
+use Rattle.yaml_read.proofs.Common.{OpenLevel, items_open, pairs_open, seen_level, seen_levels, value_due, with_value, FollowsKeys, InnermostIsNew, FollowedBy}
+use Rattle.yaml_read.proofs.Common.{IsOpen, column_in, key_bytes, BeginsLevel, Ended, Moved, begins_list, begins_map, value_given, none_ended, one_ended}
+use Rattle.yaml_read.proofs.Common.{level_opened, KeyStop, OpenKeys, level_more, Keys, Level}
+use Rattle.yaml_read.specs.HeldKeys.{HasKeys, HeldAtNode, HeldKeys, HoldKeys, HoldsKeys, IsLastLevel, KeyEndsBefore, KeysFollowed, TakenOff}
+use Rattle.std.specs.BTreeSet.{BTreeSet}
+use Rattle.yaml_read.proofs.{KeyTexts.key_between, SeenLevels.levels_length}
 use Rattle.yaml_read.specs.declared.errors.KeyStop.TheVariants as stop
-use Rattle.yaml_read.specs.declared.keys.OpenKeys.{OpenKeys}
-use Rattle.yaml_read.proofs.KeyTexts.{key_between}
-use Rattle.yaml_read.proofs.SeenLevels.{levels_length}
-use Rattle.yaml_value.proofs.SeenLevels.{level_more}
-use Rattle.yaml_value.specs.declared.keys.Keys.{Keys}
 use Rattle.yaml_value.specs.declared.keys.Keys.TheVariants as keys
-use Rattle.yaml_value.specs.declared.levels.Level.{Level}
 
 -- a text more in a set
 pub or_last : (one all : Bool) → cond one true all ≡ (all || one)
-or_last true true = refl
-or_last true false = refl
-or_last false true = refl
-or_last false false = refl
+or_last one all = grind arith
 
 -- the last of two equal lists
 snoc_same : {X : Type 0} (xs ys : List X) (x y : X) → xs ++ x ∷ [] ≡ ys ++ y ∷ [] → (xs ≡ ys) × (x ≡ y)
@@ -42,11 +27,7 @@ snoc_same (a ∷ xs) (b ∷ ys) x y is =
 
 hold_length : {A : Type 0} (whole : List ℕ) (levels : List OpenLevel) (all : List (OpenKeys A)) → HoldKeys whole levels all → length all ≡ length levels
 hold_length whole [] all hold = ap length hold
-hold_length whole (level ∷ levels) all hold =
-    ap length hold.2 ∙ length-append hold.0 (hold.1 ∷ []) ∙ one (length hold.0) (length levels) (hold_length whole levels hold.0 hold.4)
-  where
-    one : (n m : ℕ) → n ≡ m → n + 1 ≡ suc m
-    one n m is = omega (arith, is)
+hold_length whole (level ∷ levels) all hold = grind (arith, length, length-append, suc, hold_length whole levels hold.0 hold.4)
 
 -- the keys of the levels that are open still are the first of all
 record HeldFirst {A : Type 0} (whole : List ℕ) (levels : List OpenLevel) (all : List (OpenKeys A)) : Type 0 where

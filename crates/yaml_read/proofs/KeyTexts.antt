@@ -1,28 +1,18 @@
 -- The texts of keys tell the keys.
-use Rattle.yaml_base.proofs.Common.{ℕ, ◌+◌, ◌*◌, ◌<◌, ◌≤◌, suc, zero, true, false, List, [], ◌∷◌, ◌++◌, ◌≡◌, ap, subst, sym, ◌∙◌, arith}
-use Rattle.yaml_base.proofs.Common.{append_assoc, codes, encode_utf8_all, Text, length, line_feed, or_parts, or_cases, bytes_eq, bytes_eq-Decides, inl, inr}
-use Rattle.yaml_base.specs.values.TypedValues.{TypedValue, TypedPairs, list_value, most_nested, no_values, values_and, no_value_pairs, value_pairs_and}
-use Rattle.yaml_base.specs.values.UniqueKeys.{IsNewKey}
-use Rattle.yaml_base.specs.values.ValueText.{entry_lead, has_no_value_pairs, line_at, pairs_text, value_text}
-use Rattle.std.proofs.lemmas.Str.{encodes-append}
-use Rattle.std.proofs.lemmas.List.{append_cancel_left, append_cancel_right}
-use Rattle.std.proofs.lemmas.Bool.{both_ways}
-use Rattle.yaml_value.specs.OpenLevels.{OpenLevel, pairs_open, value_due}
+use Rattle.yaml_read.proofs.Common.{ℕ, ◌+◌, ◌*◌, ◌<◌, ◌≤◌, suc, zero, true, false, List, [], ◌∷◌, ◌++◌, ◌≡◌, ap, subst, sym, ◌∙◌, arith, append_assoc, codes}
+use Rattle.yaml_read.proofs.Common.{encode_utf8_all, Text, length, line_feed, or_parts, bytes_eq, bytes_eq-Decides, inl, inr, TypedValue, TypedPairs}
+use Rattle.yaml_read.proofs.Common.{list_value, most_nested, no_values, values_and, no_value_pairs, value_pairs_and, IsNewKey}
+use Rattle.yaml_read.proofs.Common.{line_at, map_begun, value_text, encodes-append, append_cancel_left, OpenLevel, pairs_open, value_due, IsOpen, opened_text}
+use Rattle.yaml_read.proofs.Common.{CanBeReadAt, PairsCanBeReadAt, column_in, key_bytes}
+use Rattle.yaml_base.proofs.Common.{or_cases}
+use Rattle.std.{proofs.lemmas.List.append_cancel_right, proofs.lemmas.Bool.both_ways}
 use Rattle.yaml_read.specs.HeldKeys.{is_key}
-use Rattle.yaml_read.specs.Opened.{IsOpen, opened_text}
-use Rattle.yaml_read.specs.Readable.{CanBeReadAt, PairsCanBeReadAt}
-use Rattle.yaml_read.specs.Remaining.{column_in}
-use Rattle.yaml_read.specs.RepeatedKeys.{key_bytes}
 use Rattle.yaml_read.proofs.{Turns.column_is, WrittenValues.text_tells}
 
 -- texts with equal bytes have equal bytes within others
 within : (front first second behind : Text) → encode_utf8_all first ≡ encode_utf8_all second
     → encode_utf8_all (front ++ (first ++ behind)) ≡ encode_utf8_all (front ++ (second ++ behind))
-within front first second behind same =
-    parts first ∙ ap (λ t. encode_utf8_all front ++ (t ++ encode_utf8_all behind)) same ∙ sym (parts second)
-  where
-    parts : (text : Text) → encode_utf8_all (front ++ (text ++ behind)) ≡ encode_utf8_all front ++ (encode_utf8_all text ++ encode_utf8_all behind)
-    parts text = encodes-append front (text ++ behind) ∙ ap (λ t. encode_utf8_all front ++ t) (encodes-append text behind)
+within front first second behind same = grind (arith, encode_utf8_all, encodes-append)
 
 -- a list of one value
 abbrev listed : TypedValue → TypedValue
@@ -31,14 +21,14 @@ listed value = list_value (values_and no_values value)
 list_same : (column : ℕ) (first second : TypedValue) → encode_utf8_all (value_text (column + 2) first) ≡ encode_utf8_all (value_text (column + 2) second)
     → encode_utf8_all (value_text column (listed first)) ≡ encode_utf8_all (value_text column (listed second))
 list_same column first second same =
-    let behind = codes "," ++ (line_at column ++ codes "]") in
+    let behind = line_at column ++ codes "]" in
     let front = codes "!!seq [" ++ line_at (column + 2) in
     ap encode_utf8_all (regroup (line_at (column + 2)) (value_text (column + 2) first) behind)
-    ∙ within front (value_text (column + 2) first) (value_text (column + 2) second) behind same
+    ∙ within front (value_text (column + 2) first) (value_text (column + 2) second) (codes "," ++ behind) same
     ∙ ap encode_utf8_all (sym (regroup (line_at (column + 2)) (value_text (column + 2) second) behind))
   where
     regroup : (line text behind : Text)
-        → codes "!!seq" ++ ((codes " [" ++ (line ++ text)) ++ behind) ≡ (codes "!!seq [" ++ line) ++ (text ++ behind)
+        → codes "!!seq [" ++ ((line ++ (text ++ codes ",")) ++ behind) ≡ (codes "!!seq [" ++ line) ++ (text ++ (codes "," ++ behind))
     regroup line text behind = simp append_assoc
 
 -- values at a depth whose texts there have equal bytes are equal
@@ -107,17 +97,5 @@ key_between whole outer pairs key start rest before after =
     let written = value_text column key ++ (line_at column ++ codes ": ") in
     append_cancel_left (encode_utf8_all front) start (key_bytes column key ++ rest)
     (sym before.text ∙ after.text
-    ∙ ap (λ t. encode_utf8_all t ++ rest) (regroup outer pairs key)
+    ∙ ap (λ t. encode_utf8_all t ++ rest) (sym (append_assoc (opened_text outer) (map_begun (column_in outer) pairs) written))
     ∙ ap (λ t. t ++ rest) (encodes-append front written) ∙ append_assoc (encode_utf8_all front) (encode_utf8_all written) rest)
-  where
-    assoc : (o p e l k : Text)
-        → o ++ (codes "!!map" ++ (p ++ (e ++ (l ++ (codes "? " ++ (k ++ (l ++ codes ": ")))))))
-        ≡ (o ++ (codes "!!map" ++ (p ++ (e ++ (l ++ codes "? "))))) ++ (k ++ (l ++ codes ": "))
-    assoc o p e l k = simp append_assoc
-
-    regroup : (outer : List OpenLevel) (pairs : TypedPairs) (key : TypedValue)
-        → opened_text (value_due pairs key ∷ outer)
-        ≡ opened_text (pairs_open pairs ∷ outer) ++ (value_text (column_in outer + 2) key ++ (line_at (column_in outer + 2) ++ codes ": "))
-    regroup outer pairs key =
-        assoc (opened_text outer) (pairs_text (column_in outer + 2) pairs) (entry_lead (codes "{") (has_no_value_pairs pairs))
-        (line_at (column_in outer + 2)) (value_text (column_in outer + 2) key)

@@ -1,3 +1,4 @@
+pub mod Common
 pub mod Words
 pub mod Encoded
 pub mod Escapes
@@ -18,7 +19,6 @@ pub mod DigitsRead
 pub mod HeadsRead
 pub mod Stepping
 pub mod Taken
-pub mod Begun
 pub mod WrittenValues
 pub mod KeyTexts
 pub mod HeldKeys
@@ -31,6 +31,8 @@ pub mod BreakingNodes
 pub mod Placing
 pub mod TextWords
 pub mod WordTexts
+pub mod WordSteps
+pub mod UniqueWays
 pub mod WordsBehind
 pub mod PlaceBegins
 pub mod RunScalars

@@ -1,12 +1,9 @@
 -- Where names end: no name goes on after a name, an event and a run that were read.
-use Rattle.yaml_base.proofs.Common.{ℕ, ◌+◌, ◌<◌, [], ◌∷◌, ◌++◌, ◌≡◌, ◌∙◌, Bool, true, false, cond, not, None, Some, Option, List, refl, ap, subst, sym, arith}
-use Rattle.yaml_base.proofs.Common.{false≢true, and_parts, append-nil, codes, length, length-append, list_all, Text, is_alpha, alias_fault, Event}
-use Rattle.yaml_base.specs.{graphs.Meetings.Held, values.ValueText.in_quotes}
-use Rattle.std.specs.List.{prefix_len}
-use Rattle.yaml_read.specs.EventTexts.{Pending, BeginsNode, IsOver, closing_text, ends_in_name, ends_name, is_alias, is_mapping, is_scalar, is_sequence}
-use Rattle.yaml_read.specs.EventTexts.{item_awaited, key_awaited, opening_text, trail_text, value_awaited, outside}
-use Rattle.yaml_read.specs.{Awaits.can_end, EventSteps.trail_behind_opening, declared.leads.Await.Await}
-use Rattle.yaml_read.specs.WrittenTags.{HasHeldText, mapping_opened, sequence_opened, value_quoted}
+use Rattle.yaml_read.proofs.Common.{ℕ, ◌+◌, ◌<◌, [], ◌∷◌, ◌++◌, ◌≡◌, ◌∙◌, true, false, cond, not, None, Some, Option, List, refl, ap, subst, sym, arith}
+use Rattle.yaml_read.proofs.Common.{false≢true, and_parts, append-nil, codes, length, length-append, list_all, Text, is_alpha, alias_fault, Event, Held}
+use Rattle.yaml_read.proofs.Common.{in_quotes, prefix_len, Pending, BeginsNode, IsOver, closing_text, ends_in_name, ends_name, item_awaited, key_awaited}
+use Rattle.yaml_read.proofs.Common.{opening_text, trail_text, value_awaited, outside, can_end, trail_behind_opening, Await, HasHeldText, mapping_opened}
+use Rattle.yaml_read.proofs.Common.{sequence_opened, value_quoted}
 use Rattle.yaml_read.proofs.NameTexts.{name_letters}
 
 -- ---- the last character
@@ -41,11 +38,7 @@ alias_ends (c ∷ name) named = letters_last c name (name_letters (c ∷ name) n
 -- what follows as many characters as a name may have begins with none
 pub name_ends : (name behind : List ℕ) → list_all is_alpha name ≡ true → length name ≡ prefix_len is_alpha (name ++ behind) → ends_name behind ≡ true
 name_ends [] [] letters run = refl
-name_ends [] (b ∷ behind) letters run = by (is_alpha b) run
-  where
-    by : (t : Bool) → 0 ≡ cond t (1 + prefix_len is_alpha behind) 0 → not t ≡ true
-    by true e = absurd (omega (arith, e))
-    by false e = refl
+name_ends [] (b ∷ behind) letters run = grind (arith, is_alpha, cond, prefix_len, not, true, false)
 name_ends (c ∷ name) behind letters run =
     let both = and_parts (is_alpha c) (list_all is_alpha name) letters in
     let more : length (c ∷ name) ≡ 1 + prefix_len is_alpha (name ++ behind) = run ∙ ap (λ b. cond b (1 + prefix_len is_alpha (name ++ behind)) 0) both.0 in
@@ -64,10 +57,7 @@ some_behind : (front back : List ℕ) → 0 < length back → 0 < length (front 
 some_behind front back some = omega (arith, some, length-append front back)
 
 pub opening_some : (event : Event) → BeginsNode event → 0 < length (opening_text event)
-opening_some _ (is_alias name named) = omega arith
-opening_some _ (is_scalar anchor tag value parts) = some_behind _ (in_quotes value) (omega arith)
-opening_some _ (is_sequence anchor tag parts) = some_behind _ (codes "[") (omega arith)
-opening_some _ (is_mapping anchor tag parts) = some_behind _ (codes "{") (omega arith)
+opening_some event h1 = grind (arith, some_behind, in_quotes, codes)
 
 -- after a comma, or without one
 same_over : (text : Text) (middle rest : List ℕ) → middle ≡ rest → IsOver text middle → IsOver (text ++ []) rest

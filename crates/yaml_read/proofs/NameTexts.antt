@@ -1,15 +1,13 @@
 -- Names, and the anchors in front of nodes.
-use Rattle.yaml_base.proofs.Common.{ℕ, ◌+◌, ◌<◌, ◌==◌, [], ◌∷◌, ◌++◌, ◌≡◌, ◌∙◌, true≢false, if◌then◌else◌, ◌&&◌, suc, Bool, true, false, cond, Option}
-use Rattle.yaml_base.proofs.Common.{None, Some, List, refl, ap, subst, sym, arith, nat_tests, eqb-true, not-true, and_parts, and_from, append_assoc, length}
-use Rattle.yaml_base.proofs.Common.{list_all-append, list_all, take, drop, chars, chars-IsAscii, codes, nat_lt, ltb-true, Text, encode_utf8_all}
-use Rattle.yaml_base.specs.declared.errors.yaml_error_t.TheVariants.{AliasAlphabet, AnchorAlphabet}
-use Rattle.yaml_base.{proofs.Common.encode_utf8, proofs.Common.is_alpha, proofs.Common.alias_fault, proofs.Common.space, proofs.AllPass.all_pass}
-use Rattle.yaml_base.{proofs.AsciiWords.ascii_of, specs.Seen.seen_text, specs.declared.errors.yaml_error_t.yaml_error_t, specs.graphs.DumpedText.anchor_text}
-use Rattle.std.proofs.lemmas.Str.{IsCharBoundary-from_take, IsUtf8-from_ascii, char_from_byte}
-use Rattle.std.{proofs.lemmas.List.take-append-drop, proofs.lemmas.List.append_cancel_left, proofs.lemmas.List.Sums.prefix_len-le-length, specs.List.prefix_len}
-use Rattle.std.{specs.Str.IsCharBoundary, specs.Str.IsUtf8, specs.Prelude.String, specs.String.string_bytes}
+use Rattle.yaml_read.proofs.Common.{ℕ, ◌+◌, ◌<◌, ◌==◌, [], ◌∷◌, ◌++◌, ◌≡◌, ◌∙◌, true≢false, if◌then◌else◌, ◌&&◌, Bool, true, false, cond, Option, None, Some}
+use Rattle.yaml_read.proofs.Common.{List, refl, ap, subst, sym, arith, nat_tests, eqb-true, not-true, and_parts, and_from, append_assoc, length}
+use Rattle.yaml_read.proofs.Common.{list_all-append, list_all, take, drop, chars, chars-IsAscii, codes, nat_lt, ltb-true, Text, encode_utf8_all, AliasAlphabet}
+use Rattle.yaml_read.proofs.Common.{AnchorAlphabet, encode_utf8, is_alpha, alias_fault, space, all_pass, ascii_of, seen_text, yaml_error_t, anchor_text}
+use Rattle.yaml_read.proofs.Common.{IsUtf8-from_ascii, append_cancel_left, prefix_len, IsCharBoundary, IsUtf8, String, string_bytes, IsAnchor, ends_name}
+use Rattle.yaml_read.proofs.Common.{past_word}
+use Rattle.std.{proofs.lemmas.Str.IsCharBoundary-from_take, proofs.lemmas.Str.char_from_byte, proofs.lemmas.List.take-append-drop}
+use Rattle.std.{proofs.lemmas.List.Sums.prefix_len-le-length}
 use Rattle.yaml_read.proofs.{Encoded.are_ascii, Encoded.word_encoded, HeadsRead.word_bytes, Words.no_word}
-use Rattle.yaml_read.specs.{EventTexts.IsAnchor, EventTexts.ends_name, Words.past_word}
 
 -- ---- the alphabet
 
@@ -22,17 +20,11 @@ name_ascii name h = all_pass is_alpha (λ c. nat_lt c 128) alpha_is_ascii name h
 
 -- a name's characters are of the alphabet
 pub name_letters : (name : Text) → alias_fault name ≡ None → list_all is_alpha name ≡ true
-name_letters [] h = refl
-name_letters (c ∷ name) h = by (list_all is_alpha (c ∷ name)) h
-  where
-    by : (b : Bool) → ◌≡◌ {A = Option yaml_error_t} (if b then None else Some AliasAlphabet) None → b ≡ true
-    by true e = refl
-    by false e = cc
+name_letters name h1 = grind (arith, list_all, is_alpha, yaml_error_t, true, false)
 
 -- characters of the alphabet are a name
 pub letters_name : (name : Text) → list_all is_alpha name ≡ true → (length name == 0) ≡ false → alias_fault name ≡ None
-letters_name [] h some = absurd (true≢false some)
-letters_name (c ∷ name) h some = rw h refl
+letters_name name h1 h2 = grind (arith, true≢false)
 
 -- ---- the run of characters that a name may have
 
@@ -65,8 +57,7 @@ no_letter (b ∷ bytes) c rest is plain = by (is_alpha b) refl
         absurd (true≢false (sym e ∙ ap is_alpha (sym (char_from_byte (b ∷ bytes) rest c is low (omega arith))) ∙ plain))
 
 name_over : (rest : Text) → ends_name rest ≡ true → prefix_len is_alpha (encode_utf8_all rest) ≡ 0
-name_over [] h = refl
-name_over (c ∷ rest) h = no_letter (encode_utf8_all (c ∷ rest)) c (encode_utf8_all rest) refl (not-true (is_alpha c) h)
+name_over rest h1 = grind (arith, no_letter, encode_utf8_all, not-true, is_alpha)
 
 run_is : (name behind : List ℕ) → list_all is_alpha name ≡ true → prefix_len is_alpha behind ≡ 0 → prefix_len is_alpha (name ++ behind) ≡ length name
 run_is [] behind h none = none

@@ -1,14 +1,15 @@
 -- The events of a dump's node, without their styles, are such as are read.
-use Rattle.yaml_base.proofs.Common.{ℕ, suc, zero, numbers_in, All, Bool, true, false, Option, None, Some, List, [], ◌∷◌, ◌++◌, refl, ◌≡◌, ap, subst, ◌∙◌, map}
-use Rattle.yaml_base.proofs.Common.{arith, flat_map, list_all, Contains, if◌then◌else◌, option_and_then, option_or, unwrap_or, is_alpha, Text, Event, alias}
-use Rattle.yaml_base.proofs.Common.{document_start, document_end, sequence_end, mapping_end, Held, scalar_held, sequence_held, mapping_held, GraphNode, Graph}
-use Rattle.yaml_base.proofs.Common.{node_numbered, Step, enters, leaves, meets_again, anchor_of, opening_event_of, opening_events, closing_event_of}
-use Rattle.yaml_base.proofs.Common.{closing_events, step_events, document_event_list, IsWholeGraph, name_fault, anchor_fault, tag_fault, All-tail}
+use Rattle.yaml_base.proofs.Common.{ℕ, numbers_in, All, true, false, Option, None, Some, List, [], ◌∷◌, ◌++◌, refl, ◌≡◌, ap, subst, ◌∙◌, map, arith, flat_map}
+use Rattle.yaml_base.proofs.Common.{list_all, Contains, if◌then◌else◌, option_and_then, option_or, unwrap_or, is_alpha, Text, Event, alias, document_start}
+use Rattle.yaml_base.proofs.Common.{document_end, sequence_end, mapping_end, Held, scalar_held, sequence_held, mapping_held, GraphNode, Graph, node_numbered}
+use Rattle.yaml_base.proofs.Common.{Step, enters, leaves, meets_again, anchor_of, opening_event_of, opening_events, closing_event_of, closing_events}
+use Rattle.yaml_base.proofs.Common.{step_events, document_event_list, IsWholeGraph, name_fault, anchor_fault, tag_fault, All-tail}
 use Rattle.yaml_base.specs.declared.errors.yaml_error_t.TheVariants.{AliasAlphabet, AliasEmpty, AnchorAlphabet, AnchorEmpty, TagEmpty}
-use Rattle.yaml_base.{proofs.Twins.contained_in, proofs.Unstyled.unstyled, specs.declared.errors.yaml_error_t.yaml_error_t, specs.graphs.Meetings.graph_steps}
 use Rattle.std.proofs.lemmas.List.Elements.{All-append, All-cons, All-contains_itself, All-map, All-nil, All-pop, All-weaker}
 use Rattle.yaml_read.specs.EventTexts.{IsAnchor, IsInNode, begins_node, ends_mapping, ends_sequence, is_alias, is_mapping, is_scalar, is_sequence}
-use Rattle.yaml_read.{proofs.ChildWalks.walks_same, specs.DocumentTexts.IsWritable, specs.RunPlaces.bare_start}
+use Rattle.yaml_base.{proofs.Twins.contained_in, proofs.Unstyled.unstyled, specs.declared.errors.yaml_error_t.yaml_error_t, specs.graphs.Meetings.graph_steps}
+use Rattle.yaml_read.proofs.ChildWalks.{walks_same}
+use Rattle.yaml_read.{specs.DocumentTexts.IsWritable, specs.RunPlaces.bare_start}
 use Rattle.yaml_base.proofs.GraphRefusals.{IsWritable as HasNoFault, document_writable}
 
 -- ---- the events of a walk
@@ -51,13 +52,7 @@ steps_of_walk graph walk (step ∷ part) =
 
 no_name_fault : (if_empty if_other : yaml_error_t) (name : Text) → (if_empty ≡ TagEmpty → ⊥) → (if_other ≡ TagEmpty → ⊥)
     → ((error : yaml_error_t) → name_fault if_empty if_other name ≡ Some error → error ≡ TagEmpty) → name_fault if_empty if_other name ≡ None
-no_name_fault if_empty if_other [] empty other only = absurd (empty (only if_empty refl))
-no_name_fault if_empty if_other (c ∷ rest) empty other only = by (list_all is_alpha (c ∷ rest)) only
-  where
-    by : (all : Bool) → ((error : yaml_error_t) → (if all then None else Some if_other) ≡ Some error → error ≡ TagEmpty)
-        → (if all then None else Some if_other) ≡ None
-    by true only_so = refl
-    by false only_so = absurd (other (only_so if_other refl))
+no_name_fault if_empty if_other name h1 h2 error = grind (arith, list_all, is_alpha, yaml_error_t, true, false)
 
 -- an anchor before a tag
 anchor_stands : (anchor : Option Text) (tag : Text)
@@ -101,8 +96,7 @@ root_events graph = flat_map (step_events graph (graph_steps graph)) (graph_step
 -- a whole graph's events are those of its root, between those of the document
 pub root_between : (graph : Graph) → IsWholeGraph graph
     → document_event_list graph ≡ document_start graph.start ∷ (root_events graph ++ document_end graph.end_implicit ∷ [])
-root_between graph is =
-    ap (λ (none : Bool). if none then [] else document_start graph.start ∷ (root_events graph ++ document_end graph.end_implicit ∷ [])) is.has_nodes
+root_between graph is = grind (arith, document_start, root_events, document_end)
 
 -- a fact about each event of a document is one about those of its root
 inside_all : (P : Event → Type 0) (graph : Graph) → IsWholeGraph graph → All P (document_event_list graph) → All P (root_events graph)
@@ -117,8 +111,7 @@ abbrev bare_graph : Graph → Graph
 bare_graph graph = record { start = bare_start; nodes = graph.nodes; end_implicit = graph.end_implicit }
 
 node_bare : (graph : Graph) (number : ℕ) → node_numbered (bare_graph graph) number ≡ node_numbered graph number
-node_bare graph zero = refl
-node_bare graph (suc before) = refl
+node_bare graph number = grind arith
 
 step_bare : (graph : Graph) (walk : List Step) (step : Step) → step_events (bare_graph graph) walk step ≡ step_events graph walk step
 step_bare graph walk (enters number) = ap (opening_events (anchor_of walk number)) (node_bare graph number)

@@ -1,19 +1,16 @@
 -- How the nodes of a document begin.
-use Rattle.yaml_base.proofs.Common.{ℕ, true, false, Option, None, Some, List, [], ◌∷◌, ◌++◌, refl, ◌≡◌, ap, subst, sym, ◌∙◌, arith, append_assoc, codes, Text}
-use Rattle.yaml_base.proofs.Common.{encode_utf8_all, all_scalars, tag_fault, alias_fault, Event, alias, any_style, any_layout, opening_event_of, Held}
-use Rattle.yaml_base.proofs.Common.{scalar_held, sequence_held, mapping_held, ◌==◌, nat_tests, true≢false, flat_map, character_text, space, percent_escaped}
-use Rattle.yaml_base.specs.{scalars.DoubleQuoted.quote, values.ValueText.in_quotes, graphs.DumpedText.anchor_text, graphs.DumpedText.tag_text, Seen.seen_text}
-use Rattle.std.{specs.Prelude.Result, specs.Prelude.Ok, specs.Prelude.Err, specs.Prelude.String, proofs.lemmas.List.append_cancel_left}
-use Rattle.std.{proofs.lemmas.Str.encodes-append, proofs.lemmas.Str.IsUtf8-string_bytes, proofs.lemmas.Str.scalars-chars, specs.String.string_bytes}
+use Rattle.yaml_read.proofs.Common.{ℕ, true, false, Option, None, Some, List, [], ◌∷◌, ◌++◌, refl, ◌≡◌, ap, subst, sym, ◌∙◌, arith, append_assoc, codes, Text}
+use Rattle.yaml_read.proofs.Common.{encode_utf8_all, all_scalars, tag_fault, alias_fault, Event, alias, any_layout, opening_event_of, Held, scalar_held}
+use Rattle.yaml_read.proofs.Common.{sequence_held, mapping_held, ◌==◌, nat_tests, true≢false, flat_map, character_text, space, percent_escaped, quote}
+use Rattle.yaml_read.proofs.Common.{in_quotes, anchor_text, tag_text, seen_text, Result, Ok, Err, String, append_cancel_left, encodes-append}
+use Rattle.yaml_read.proofs.Common.{IsUtf8-string_bytes, scalars-chars, string_bytes, IsWholeWord, IsMemory, past_word, BeginsNode, IsAnchor, IsOver, ends_name}
+use Rattle.yaml_read.proofs.Common.{is_alias, is_mapping, is_scalar, is_sequence, opening_text, HasHeldText, mapping_opened, sequence_opened, value_quoted}
+use Rattle.yaml_read.proofs.Common.{IsOpeningRead, ReadOr, Stop}
 use Rattle.yaml_read.proofs.TagTexts.{IsSpelled, is_spelled, of_document, of_type, whole}
-use Rattle.yaml_read.specs.{Places.IsWholeWord, Words.IsMemory, Words.past_word}
-use Rattle.yaml_read.specs.EventTexts.{BeginsNode, IsAnchor, IsOver, ends_name, is_alias, is_mapping, is_scalar, is_sequence, opening_text}
-use Rattle.yaml_read.specs.WrittenTags.{HasHeldText, mapping_opened, sequence_opened, value_quoted}
-use Rattle.yaml_read.specs.Beginnings.{IsHeldRead, IsOpeningRead, IsScalarRead, IsTaggedRead, ReadOr}
-use Rattle.yaml_read.proofs.NameEnds.{held_over}
-use Rattle.yaml_read.proofs.NameTexts.{anchor_absent, anchor_there, space_there}
-use Rattle.yaml_read.proofs.{Encoded.word_encoded, TagBytes.same_first, Turns.cut_is, Words.memory_only, Words.no_word}
-use Rattle.yaml_read.specs.declared.errors.Stop.{Stop}
+use Rattle.yaml_base.proofs.Common.{any_style}
+use Rattle.yaml_read.specs.Beginnings.{IsHeldRead, IsScalarRead, IsTaggedRead}
+use Rattle.yaml_read.proofs.{NameEnds.held_over, NameTexts.anchor_absent, NameTexts.anchor_there, NameTexts.space_there, Encoded.word_encoded}
+use Rattle.yaml_read.proofs.{TagBytes.same_first, Turns.cut_is, Words.memory_only, Words.no_word}
 use Rattle.yaml_read.specs.declared.errors.Stop.TheVariants as stop
 
 -- an anchor, a tag, and the text after them
@@ -26,23 +23,7 @@ pub data HasOpening : Event → Text → Type 0 where
   of_parts : (anchor : Option Text) (tag : Text) (held : Held) (written : Text) → IsAnchor anchor → tag_fault tag ≡ None → all_scalars tag ≡ true
       → HasHeldText held written → HasOpening (opening_event_of anchor tag held) (node_opening anchor tag written)
 
-pub opening_of : (event : Event) → BeginsNode event → HasOpening event (opening_text event)
-opening_of _ (is_alias name named) = of_alias name named
-opening_of _ (is_scalar anchor tag value parts) =
-    subst (λ (t : Text). HasOpening (opening_event_of anchor tag (scalar_held value any_style)) t)
-    (sym (append_assoc (anchor_text anchor) (tag_text (Some tag) false) (in_quotes value)))
-    (of_parts anchor tag (scalar_held value any_style) (in_quotes value) parts.anchor_sound parts.tag_sound parts.tag_scalars
-    (value_quoted value parts.value_scalars))
-opening_of _ (is_sequence anchor tag parts) =
-    subst (λ (t : Text). HasOpening (opening_event_of anchor tag (sequence_held [] any_layout)) t)
-    (sym (append_assoc (anchor_text anchor) (tag_text (Some tag) false) (codes "[")))
-    (of_parts anchor tag (sequence_held [] any_layout) (codes "[") parts.anchor_sound parts.tag_sound parts.tag_scalars sequence_opened)
-opening_of _ (is_mapping anchor tag parts) =
-    subst (λ (t : Text). HasOpening (opening_event_of anchor tag (mapping_held [] any_layout)) t)
-    (sym (append_assoc (anchor_text anchor) (tag_text (Some tag) false) (codes "{")))
-    (of_parts anchor tag (mapping_held [] any_layout) (codes "{") parts.anchor_sound parts.tag_sound parts.tag_scalars mapping_opened)
-
--- and an event with these parts begins a node so
+-- an event with these parts begins a node so
 pub begins_by : (anchor : Option Text) (tag : Text) (held : Held) (written : Text) → IsAnchor anchor → tag_fault tag ≡ None → all_scalars tag ≡ true
     → HasHeldText held written
     → BeginsNode (opening_event_of anchor tag held) × (opening_text (opening_event_of anchor tag held) ≡ node_opening anchor tag written)
@@ -59,13 +40,25 @@ begins_by anchor tag _ _ named sound scalars mapping_opened = (
   append_assoc (anchor_text anchor) (tag_text (Some tag) false) (codes "{"),
 )
 
+opening_by : (anchor : Option Text) (tag : Text) (held : Held) (written : Text) → IsAnchor anchor → tag_fault tag ≡ None → all_scalars tag ≡ true
+    → HasHeldText held written → HasOpening (opening_event_of anchor tag held) (opening_text (opening_event_of anchor tag held))
+opening_by anchor tag held written named sound scalars has =
+    subst (HasOpening (opening_event_of anchor tag held)) (sym (begins_by anchor tag held written named sound scalars has).1)
+    (of_parts anchor tag held written named sound scalars has)
+
+pub opening_of : (event : Event) → BeginsNode event → HasOpening event (opening_text event)
+opening_of _ (is_alias name named) = of_alias name named
+opening_of _ (is_scalar anchor tag value parts) =
+    opening_by anchor tag _ _ parts.anchor_sound parts.tag_sound parts.tag_scalars (value_quoted value parts.value_scalars)
+opening_of _ (is_sequence anchor tag parts) =
+    opening_by anchor tag _ _ parts.anchor_sound parts.tag_sound parts.tag_scalars sequence_opened
+opening_of _ (is_mapping anchor tag parts) =
+    opening_by anchor tag _ _ parts.anchor_sound parts.tag_sound parts.tag_scalars mapping_opened
+
 -- ---- after a tag
 
 first_differs : (a b : ℕ) (x y : List ℕ) → (a == b) ≡ false → a ∷ x ≡ b ∷ y → ⊥
-first_differs a b x y other is = true≢false (sym (ap (λ n. n == b) (same_first a b x y is).0 ∙ same b) ∙ other)
-  where
-    same : (n : ℕ) → (n == n) ≡ true
-    same n = grind (arith, nat_tests)
+first_differs a b x y other is = grind (arith, true≢false, same_first, true, nat_tests)
 
 quoted_bytes : (value rest : Text)
     → encode_utf8_all (in_quotes value ++ rest) ≡ 0x22 ∷ encode_utf8_all ((flat_map (character_text true) value ++ quote ∷ []) ++ rest)

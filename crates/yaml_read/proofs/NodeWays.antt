@@ -1,14 +1,10 @@
 -- Nodes, and what follows them, can be read in one way only.
-use Rattle.yaml_base.proofs.Common.{ℕ, suc, None, Some, Option, List, [], ◌∷◌, ◌++◌, refl, ◌≡◌, ap, subst, sym, ◌∙◌, codes, length}
-use Rattle.yaml_read.specs.Grammar.{behind_tag, behind_value, levels_then, line_then, node, nothing, these_or_those, unless_deep, word_then}
-use Rattle.yaml_read.specs.Heads.{tag_word}
-use Rattle.yaml_read.specs.Words.{past_word}
-use Rattle.yaml_read.specs.declared.heads.Kind.{Kind}
-use Rattle.yaml_read.specs.declared.heads.Kind.TheVariants as kind
-use Rattle.yaml_read.proofs.CharacterWays.{integer_way, quoted_way}
+use Rattle.yaml_read.proofs.Common.{ℕ, suc, None, Some, Option, List, [], ◌∷◌, ◌++◌, refl, ◌≡◌, ap, subst, sym, ◌∙◌, codes, length, behind_tag, behind_value}
+use Rattle.yaml_read.proofs.Common.{levels_then, line_then, node, nothing, these_or_those, unless_deep, word_then, tag_word, past_word, Kind, OpenLevel, arith}
+use Rattle.yaml_read.proofs.Common.{items_open, pairs_open, value_due}
 use Rattle.yaml_read.proofs.OneWays.{OneWay, entry_way, levels_way, line_way, nothing_way, two_way, unless_way, word_way}
-use Rattle.yaml_read.proofs.Words.{behind_word}
-use Rattle.yaml_value.specs.OpenLevels.{OpenLevel, items_open, pairs_open, value_due}
+use Rattle.yaml_read.proofs.{CharacterWays.integer_way, CharacterWays.quoted_way, Words.behind_word}
+use Rattle.yaml_read.specs.declared.heads.Kind.TheVariants as kind
 
 -- ---- after a tag
 

@@ -1,12 +1,11 @@
 -- Graphs of the same events are isomorphic, and so are a graph and one of its events without styles.
-use Rattle.yaml_base.proofs.Common.{ℕ, false, Option, None, Some, List, [], ◌∷◌, ◌++◌, refl, ◌≡◌, ap, subst, sym, ◌∙◌, map, option_map, Event, stream_start}
-use Rattle.yaml_base.proofs.Common.{stream_end, Node, alias_node, Document, Documents, documents_and, no_documents, Stream, Graph, GraphNode, node_numbered}
-use Rattle.yaml_base.proofs.Common.{document_event_list, Isomorphic, IsWholeGraph, Held, mapping_held, scalar_held, sequence_held, IsReached, child_reached}
-use Rattle.yaml_base.proofs.Common.{first_reached, Label, label_of, label_at, node_content, Contains}
-use Rattle.yaml_base.specs.graphs.Unfolding.{Unfolds, content_shape}
-use Rattle.yaml_base.{proofs.ContentsUnfold.content_unfolds, proofs.DocumentsUnfold.document_unfolds, proofs.SameShapes.same_shape, proofs.Trees.one_tree}
+use Rattle.yaml_read.proofs.Common.{ℕ, false, Option, None, List, [], ◌∷◌, ◌++◌, ◌≡◌, ap, subst, sym, ◌∙◌, map, option_map, Event, stream_start, stream_end}
+use Rattle.yaml_read.proofs.Common.{alias_node, Document, documents_and, no_documents, Graph, GraphNode, node_numbered, document_event_list, Isomorphic}
+use Rattle.yaml_read.proofs.Common.{IsWholeGraph, Held, node_content, Contains, Unfolds, content_shape, content_unfolds, document_unfolds, same_shape}
+use Rattle.yaml_read.proofs.Common.{unstyled_graph, unstyled_node, arith}
+use Rattle.yaml_base.proofs.Common.{Node, Documents, Stream, IsReached, child_reached, first_reached, label_of, label_at}
+use Rattle.yaml_base.proofs.Trees.{one_tree}
 use Rattle.yaml_read.proofs.UnstyledGraphs.{children_unstyled, node_unstyled}
-use Rattle.yaml_read.specs.DocumentTexts.{unstyled_graph, unstyled_node}
 
 -- ---- events
 
@@ -35,12 +34,10 @@ same_events first second whole also_whole same =
 
 held_label : (tag : List ℕ) (held : Held)
     → label_of false (unstyled_node (record { tag = tag; held = held })) ≡ label_of false (record { tag = tag; held = held })
-held_label tag (scalar_held value style) = refl
-held_label tag _ = refl
+held_label tag held = grind arith
 
 found_label : (found : Option GraphNode) → option_map (label_of false) (option_map unstyled_node found) ≡ option_map (label_of false) found
-found_label None = refl
-found_label (Some node) = ap (λ (label : Label). Some label) (held_label node.tag node.held)
+found_label found = grind (arith, held_label)
 
 label_unstyled : (graph : Graph) (number : ℕ) → label_at (unstyled_graph graph) number ≡ label_at graph number
 label_unstyled graph number = ap (option_map (label_of false)) (node_unstyled graph number) ∙ found_label (node_numbered graph number)

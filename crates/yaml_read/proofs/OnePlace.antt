@@ -1,43 +1,32 @@
 -- Bytes have one place of their fault.
-use Rattle.yaml_base.proofs.Common.{ℕ, ◌+◌, ◌*◌, ◌-◌, ◌<◌, ◌≤◌, suc, Bool, true, false, true≢false, Option, None, Some, List, [], ◌∷◌, ◌++◌, refl, ◌≡◌, ap}
-use Rattle.yaml_base.proofs.Common.{subst, sym, ◌∙◌, ◌⊎◌, inl, inr, append_assoc, append-nil, arith, codes, encode, encode_utf8_all, length, line_feed, Text, utf8}
-use Rattle.yaml_base.specs.values.TypedValues.{TypedPairs, TypedValue, most_nested}
-use Rattle.yaml_base.specs.Positions.{IsPositionOf}
-use Rattle.yaml_base.specs.values.LinesAndColumns.{column_of, line_of}
-use Rattle.yaml_base.specs.declared.places.Position.{Position}
-use Rattle.yaml_base.specs.values.ValueText.{document_text, entry_lead, has_no_value_pairs, line_at, pairs_text, value_text}
-use Rattle.std.proofs.Common.{ap₂}
-use Rattle.std.proofs.lemmas.List.{append_cancel_left}
-use Rattle.std.proofs.lemmas.Str.{utf8_valid_len-IsValidUpTo}
-use Rattle.std.specs.Str.{IsUtf8}
-use Rattle.yaml_value.specs.OpenLevels.{OpenLevel, items_open, pairs_open, value_due}
-use Rattle.yaml_read.specs.Grammar.{behind_value, entry_end, line_then, node, nothing, word_then}
-use Rattle.yaml_read.specs.Opened.{HasRead, IsOpen, OpenCanBeRead, opened_text}
-use Rattle.yaml_read.specs.Places.{BreaksInValue, BreaksOff, CannotStand, IsBehindMarker, IsDepthPlace, IsWordPlace, OpensPastDepth, behind_all, behind_node, in_node}
-use Rattle.yaml_read.specs.Readable.{AllCanBeReadAt, CanBeRead, CanBeReadAt, PairsCanBeReadAt}
-use Rattle.yaml_read.specs.Remaining.{column_in}
-use Rattle.yaml_read.specs.RepeatedKeys.{IsPlacedBy}
+use Rattle.yaml_read.proofs.Common.{ℕ, ◌+◌, ◌*◌, ◌-◌, ◌<◌, ◌≤◌, suc, Bool, true, false, true≢false, Option, None, Some, List, [], ◌∷◌, ◌++◌, refl, ◌≡◌, ap}
+use Rattle.yaml_read.proofs.Common.{subst, sym, ◌∙◌, ◌⊎◌, inl, inr, append_assoc, append-nil, arith, codes, encode, encode_utf8_all, length, line_feed, Text}
+use Rattle.yaml_read.proofs.Common.{utf8, TypedValue, most_nested, Position, document_text, line_at, list_begun, map_begun}
+use Rattle.yaml_read.proofs.Common.{value_text, append_cancel_left, IsUtf8, OpenLevel, items_open, pairs_open, value_due, behind_value, entry_end, line_then}
+use Rattle.yaml_read.proofs.Common.{node, nothing, word_then, HasRead, IsOpen, OpenCanBeRead, opened_text, BreaksInValue, BreaksOff, CannotStand, IsWordPlace}
+use Rattle.yaml_read.proofs.Common.{OpensPastDepth, behind_all, behind_node, in_node, AllCanBeReadAt, CanBeRead, CanBeReadAt, PairsCanBeReadAt, column_in}
+use Rattle.yaml_read.proofs.Common.{IsPlacedBy, ReadError, text_bytes-utf8}
+use Rattle.yaml_read.proofs.OneWays.{nothing_more, nothing_way, place_same, whole_breaks, word_way, words_same}
+use Rattle.yaml_read.proofs.TextWalks.{LeadsTo, items_lead, key_leads, pairs_lead, then_leads, value_leads, words_lead}
+use Rattle.yaml_read.proofs.Walks.{Halts, Spot, Walk, a_key, a_list, a_map, at_node, after_node, broken_halts, mark, next_spot, one_halt, one_walk, at_end}
+use Rattle.yaml_read.proofs.Walks.{past_halts, stays, walk_on, way_at, words_at}
+use Rattle.yaml_base.{specs.Positions.IsPositionOf, specs.values.LinesAndColumns.column_of, specs.values.LinesAndColumns.line_of}
+use Rattle.std.{proofs.Common.ap₂, proofs.lemmas.Str.utf8_valid_len-IsValidUpTo}
+use Rattle.yaml_read.specs.Places.{IsBehindMarker, IsDepthPlace}
+use Rattle.yaml_read.proofs.{Encoded.word_encoded, HeadsRead.word_bytes, Remaining.readable_root, Scalars.document_utf8, Turns.column_is, WordTexts.flat}
 use Rattle.yaml_value.specs.declared.keys.Keys.TheVariants as keys
-use Rattle.yaml_read.specs.declared.errors.ReadError.{ReadError}
 use Rattle.yaml_read.specs.declared.errors.ReadError.TheVariants as told
 use Rattle.yaml_read.specs.declared.heads.Kind.TheVariants as kind
-use Rattle.yaml_read.proofs.OneWays.{nothing_more, nothing_way, place_same, whole_breaks, word_way, words_same}
-use Rattle.yaml_read.proofs.TextWalks.{LeadsTo, items_lead, key_leads, list_begun, map_begun, pairs_lead, same_leads, then_leads, value_leads, words_lead}
-use Rattle.yaml_read.proofs.Walks.{Halts, Spot, Walk, a_key, a_list, a_map, at_node, after_node, broken_halts, mark, next_spot, one_halt, one_walk, at_end, past_halts}
-use Rattle.yaml_read.proofs.Walks.{stays, walk_on, way_at, words_at}
-use Rattle.yaml_base.proofs.Decoding.{text_bytes-utf8}
-use Rattle.yaml_read.proofs.{Encoded.word_encoded, HeadsRead.word_bytes, Remaining.readable_root, Scalars.document_utf8}
-use Rattle.yaml_read.proofs.{Turns.column_is, WordTexts.flat}
 
 -- ---- lists and maps that are open, without what they hold
 
-abbrev bare : List OpenLevel → List OpenLevel
+abbrev pub bare : List OpenLevel → List OpenLevel
 bare [] = []
 bare (items_open items ∷ levels) = a_list ∷ bare levels
 bare (pairs_open pairs ∷ levels) = a_map ∷ bare levels
 bare (value_due pairs key ∷ levels) = a_key ∷ bare levels
 
-bare_length : (levels : List OpenLevel) → length levels ≡ length (bare levels)
+pub bare_length : (levels : List OpenLevel) → length levels ≡ length (bare levels)
 bare_length [] = refl
 bare_length (items_open items ∷ levels) = ap (λ n. suc n) (bare_length levels)
 bare_length (pairs_open pairs ∷ levels) = ap (λ n. suc n) (bare_length levels)
@@ -50,29 +39,6 @@ few_bare : (levels : List OpenLevel) → length levels < most_nested → length 
 few_bare levels room = subst (λ n. n < most_nested) (bare_length levels) room
 
 -- ---- the text that was read
-
--- a key in a map that is open
-key_opened : (levels : List OpenLevel) (column : ℕ) (pairs : TypedPairs) (key : TypedValue) (outer : Text) → column ≡ length levels * 2
-    → LeadsTo (at_node []) outer (at_node levels) → length levels < most_nested → PairsCanBeReadAt (suc (length levels)) pairs
-    → CanBeReadAt (suc (length levels)) key
-    → LeadsTo (at_node [])
-    (outer ++ (codes "!!map" ++ (pairs_text (column + 2) pairs ++ (entry_lead (codes "{") (has_no_value_pairs pairs)
-    ++ (line_at (column + 2) ++ (codes "? " ++ (value_text (column + 2) key ++ (line_at (column + 2) ++ codes ": "))))))))
-    (at_node (a_key ∷ levels))
-key_opened levels column pairs key outer same leads room readable also =
-    let begun = map_begun column pairs in
-    let text = value_text (column + 2) key in
-    let line = line_at (column + 2) in
-    same_leads (at_node []) (at_node (a_key ∷ levels)) (outer ++ ((begun ++ text) ++ (line ++ codes ": "))) _
-    (regroup outer (pairs_text (column + 2) pairs) (entry_lead (codes "{") (has_no_value_pairs pairs)) line text)
-    (then_leads (at_node []) (at_node levels) (at_node (a_key ∷ levels)) outer ((begun ++ text) ++ (line ++ codes ": ")) leads
-    (key_leads levels column same begun text (pairs_lead pairs levels column same room readable)
-    (value_leads key (a_map ∷ levels) (column + 2) (omega (arith, same)) also)))
-  where
-    regroup : (o p l n k : Text)
-        → o ++ (codes "!!map" ++ (p ++ (l ++ (n ++ (codes "? " ++ (k ++ (n ++ codes ": ")))))))
-        ≡ o ++ (((codes "!!map" ++ (p ++ (l ++ (n ++ codes "? ")))) ++ k) ++ (n ++ codes ": "))
-    regroup o p l n k = simp append_assoc
 
 opened_leads : (levels : List OpenLevel) → OpenCanBeRead levels → LeadsTo (at_node []) (opened_text levels) (at_node (bare levels))
 opened_leads [] readable = record { walk = λ rest. stays (at_node []) rest }
@@ -87,11 +53,18 @@ opened_leads (pairs_open pairs ∷ levels) readable =
     (pairs_lead pairs (bare levels) (column_in levels) (bare_column levels) (few_bare levels readable.1.0)
     (subst (λ n. PairsCanBeReadAt (suc n) pairs) (bare_length levels) readable.1.1))
 opened_leads (value_due pairs key ∷ levels) readable =
-    key_opened (bare levels) (column_in levels) pairs key (opened_text levels) (bare_column levels) (opened_leads levels readable.0)
-    (few_bare levels readable.1.0) (subst (λ n. PairsCanBeReadAt (suc n) pairs) (bare_length levels) readable.1.1.0)
-    (subst (λ n. CanBeReadAt (suc n) key) (bare_length levels) readable.1.1.1)
+    let column = column_in levels in
+    let text = value_text (column + 2) key in
+    let same = bare_column levels in
+    then_leads (at_node []) (at_node (bare levels)) (at_node (a_key ∷ bare levels)) (opened_text levels)
+    (map_begun column pairs ++ (text ++ (line_at (column + 2) ++ codes ": "))) (opened_leads levels readable.0)
+    (key_leads (bare levels) column same (map_begun column pairs) text
+    (pairs_lead pairs (bare levels) column same (few_bare levels readable.1.0)
+    (subst (λ n. PairsCanBeReadAt (suc n) pairs) (bare_length levels) readable.1.1.0))
+    (value_leads key (a_map ∷ bare levels) (column + 2) (omega (arith, same))
+    (subst (λ n. CanBeReadAt (suc n) key) (bare_length levels) readable.1.1.1)))
 
-opened_walk : (whole bytes : List ℕ) (levels : List OpenLevel) → IsOpen whole levels bytes → Walk (at_node []) whole (at_node (bare levels)) bytes
+pub opened_walk : (whole bytes : List ℕ) (levels : List OpenLevel) → IsOpen whole levels bytes → Walk (at_node []) whole (at_node (bare levels)) bytes
 opened_walk whole bytes levels opened =
     subst (λ (t : List ℕ). Walk (at_node []) t (at_node (bare levels)) bytes) (sym opened.text) ((opened_leads levels opened.readable).walk bytes)
 
@@ -154,15 +127,11 @@ found_once whole deep dark left other one two =
     (subst (λ (s : Spot). Stops s one.bytes dark other) (sym same.spot)
     (subst (λ (b : List ℕ). Stops two.spot b dark other) (sym same.bytes) two.stops))
 
-behind_bare : (levels : List OpenLevel) (bytes : List ℕ) (left : ℕ) → BreaksOff (behind_value levels) bytes left
-    → BreaksOff (behind_value (bare levels)) bytes left
-behind_bare [] bytes left breaks_off = breaks_off
-behind_bare (items_open items ∷ levels) bytes left breaks_off =
-    subst (λ n. BreaksOff (entry_end n (codes "  ") (codes "]")) bytes left) (bare_length levels) breaks_off
-behind_bare (value_due pairs key ∷ levels) bytes left breaks_off =
-    subst (λ n. BreaksOff (entry_end n (codes "  ? ") (codes "}")) bytes left) (bare_length levels) breaks_off
-behind_bare (pairs_open pairs ∷ levels) bytes left breaks_off =
-    subst (λ n. BreaksOff (line_then n (word_then (codes "  : ") nothing)) bytes left) (bare_length levels) breaks_off
+pub behind_bare : (Holds : (List (List ℕ) → Type 0) → Type 0) (levels : List OpenLevel) → Holds (behind_value levels) → Holds (behind_value (bare levels))
+behind_bare Holds [] holds = holds
+behind_bare Holds (items_open items ∷ levels) holds = subst (λ n. Holds (entry_end n (codes "  ") (codes "]"))) (bare_length levels) holds
+behind_bare Holds (value_due pairs key ∷ levels) holds = subst (λ n. Holds (entry_end n (codes "  ? ") (codes "}"))) (bare_length levels) holds
+behind_bare Holds (pairs_open pairs ∷ levels) holds = subst (λ n. Holds (line_then n (word_then (codes "  : ") nothing))) (bare_length levels) holds
 
 breaks_found : (whole : List ℕ) (left : ℕ) → BreaksInValue keys.MayRepeat whole left → Found whole false left
 breaks_found whole left (in_node levels bytes opened allowed breaks_off) =
@@ -177,7 +146,7 @@ breaks_found whole left (behind_node levels value bytes read levels_allowed valu
       spot = after_node (bare levels);
       bytes = bytes;
       walk = read_walk whole bytes levels value read;
-      stops = breaks (after_node (bare levels)) bytes left (behind_bare levels bytes left breaks_off);
+      stops = breaks (after_node (bare levels)) bytes left (behind_bare (λ These. BreaksOff These bytes left) levels breaks_off);
     }
 breaks_found whole left (behind_all value bytes rest read allowed is some place) =
     record {
@@ -286,7 +255,7 @@ one_place bytes (told.TooDeep one) (told.TooDeep other) first second =
 -- ---- the bytes of a value
 
 -- a reader comes to their end
-value_walk : (value : TypedValue) → CanBeReadAt 0 value
+pub value_walk : (value : TypedValue) → CanBeReadAt 0 value
     → Walk (at_node []) (encode_utf8_all (value_text 0 value ++ line_feed ∷ []) ++ []) at_end []
 value_walk value readable =
     (then_leads (at_node []) (after_node []) at_end (value_text 0 value) (line_feed ∷ []) (value_leads value [] 0 refl readable)

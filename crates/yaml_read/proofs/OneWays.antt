@@ -1,9 +1,8 @@
 -- Words that can be read in one way only.
-use Rattle.yaml_base.proofs.Common.{ℕ, zero, suc, None, List, [], ◌∷◌, ◌++◌, refl, ◌≡◌, ap, subst, sym, ◌∙◌, inl, inr, append_assoc, append-nil}
-use Rattle.yaml_base.proofs.Common.{arith, codes, length}
-use Rattle.std.proofs.lemmas.List.{append_cancel_left}
-use Rattle.yaml_read.specs.Grammar.{entry_end, levels_then, line_then, nothing, these_or_those, unless_deep, word_then}
-use Rattle.yaml_read.{specs.Places.BreaksOff, specs.Words.past_word, proofs.WordTexts.flat, proofs.Words.no_word}
+use Rattle.yaml_read.proofs.Common.{ℕ, zero, suc, None, List, [], ◌∷◌, ◌++◌, refl, ◌≡◌, ap, subst, sym, ◌∙◌, inl, inr, append_assoc, append-nil, arith, codes}
+use Rattle.yaml_read.proofs.Common.{length, append_cancel_left, entry_end, levels_then, line_then, nothing, these_or_those, unless_deep, word_then, BreaksOff}
+use Rattle.yaml_read.proofs.Common.{past_word}
+use Rattle.yaml_read.proofs.{WordTexts.flat, Words.no_word}
 
 -- at most one of the words that may come next begins some bytes, and none comes after the last one
 pub record OneWay (These : List (List ℕ) → Type 0) : Type 0 where
@@ -79,12 +78,9 @@ lacks_of These bytes left breaks = record { due = breaks.due; more = breaks.more
 -- they don't break off within words that are there
 whole_by : (These : List (List ℕ) → Type 0) → OneWay These → (before read words : List (List ℕ)) (rest after : List ℕ) → Lacks These before read rest
     → These (before ++ words) → flat read ++ rest ≡ flat words ++ after → ⊥
-whole_by These way before [] [] rest after lacks are is =
-    way.ends before lacks.due lacks.more (subst These (append-nil before) are) lacks.begins
-whole_by These way before [] (word ∷ words) rest after lacks are is =
-    no_word word rest (flat words ++ after) (lacks.none word words are) (is ∙ append_assoc word (flat words) after)
-whole_by These way before (first ∷ read) [] rest after lacks are is =
-    way.ends before first (read ++ lacks.due ∷ lacks.more) (subst These (append-nil before) are) lacks.begins
+whole_by These way before [] [] rest after lacks are is = grind (arith, append-nil)
+whole_by These way before [] (word ∷ words) rest after lacks are is = grind (arith, no_word, flat, append_assoc)
+whole_by These way before (first ∷ read) [] rest after lacks are is = grind (arith, append-nil)
 whole_by These way before (first ∷ read) (word ∷ words) rest after lacks are is =
     let both = together These way before first word (read ++ lacks.due ∷ lacks.more) words (flat read ++ rest) (flat words ++ after) lacks.begins are
     (sym (append_assoc first (flat read) rest) ∙ is ∙ append_assoc word (flat words) after) in
@@ -98,10 +94,8 @@ whole_breaks These bytes left words after way breaks are is =
 place_by : (These : List (List ℕ) → Type 0) → OneWay These → (before one other : List (List ℕ)) (a b : List ℕ) → Lacks These before one a
     → Lacks These before other b → flat one ++ a ≡ flat other ++ b → a ≡ b
 place_by These way before [] [] a b lacks also is = is
-place_by These way before [] (word ∷ other) a b lacks also is =
-    absurd (no_word word a (flat other ++ b) (lacks.none word (other ++ also.due ∷ also.more) also.begins) (is ∙ append_assoc word (flat other) b))
-place_by These way before (word ∷ one) [] a b lacks also is =
-    absurd (no_word word b (flat one ++ a) (also.none word (one ++ lacks.due ∷ lacks.more) lacks.begins) (sym is ∙ append_assoc word (flat one) a))
+place_by These way before [] (word ∷ other) a b lacks also is = grind (arith, no_word, flat, append_assoc)
+place_by These way before (word ∷ one) [] a b lacks also is = grind (arith, no_word, flat, append_assoc)
 place_by These way before (word ∷ one) (second ∷ other) a b lacks also is =
     let both = together These way before word second (one ++ lacks.due ∷ lacks.more) (other ++ also.due ∷ also.more) (flat one ++ a) (flat other ++ b)
     lacks.begins also.begins (sym (append_assoc word (flat one) a) ∙ is ∙ append_assoc second (flat other) b) in

@@ -1,54 +1,35 @@
 -- The part of a text that was read grows with each word.
-use Rattle.yaml_base.proofs.Common.{ℕ, ◌+◌, ◌*◌, ◌<◌, Bool, true, false, true≢false, List, [], ◌∷◌, ◌++◌, refl, ◌≡◌, ap, subst, sym, ◌∙◌, append_assoc}
-use Rattle.yaml_base.proofs.Common.{append-nil, arith, length, codes, line_feed, Text, encode_utf8_all, eqb-true, ◌==◌}
-use Rattle.yaml_base.specs.values.TypedValues.{TypedValue, TypedValues, no_values, values_and, TypedPairs, no_value_pairs, value_pairs_and, list_value}
-use Rattle.yaml_base.specs.values.TypedValues.{map_value, most_nested}
-use Rattle.yaml_base.specs.values.ValueText.{line_at, value_text, items_text, pairs_text, entry_lead, has_no_values, has_no_value_pairs, document_text}
-use Rattle.std.proofs.lemmas.Str.{encodes-append}
-use Rattle.yaml_value.specs.OpenLevels.{OpenLevel, items_open, pairs_open, seen_level, seen_levels, value_due}
-use Rattle.yaml_value.specs.declared.levels.Level.{Level}
-use Rattle.yaml_value.proofs.SeenLevels.{level_more}
-use Rattle.yaml_read.specs.Remaining.{Completes, IsRead, text_ends, column_in}
-use Rattle.yaml_read.specs.{Opened.opened_text, Opened.IsOpen, Opened.HasRead, Readable.CanBeReadAt}
-use Rattle.yaml_read.specs.{Places.LacksEnd, Places.more_follows, Places.no_end, declared.errors.Stop.Stop}
-use Rattle.yaml_read.proofs.{Encoded.are_ascii, Encoded.word_encoded, Encoded.line_encoded, Turns.column_is, Turns.line_deeper}
-use Rattle.yaml_read.proofs.{Turns.cut_is, Words.no_word}
+use Rattle.yaml_read.proofs.Common.{ℕ, ◌+◌, ◌*◌, ◌<◌, Bool, true, false, true≢false, List, [], ◌∷◌, ◌++◌, refl, ◌≡◌, ap, subst, sym, ◌∙◌, append_assoc}
+use Rattle.yaml_read.proofs.Common.{append-nil, arith, length, codes, line_feed, Text, encode_utf8_all, eqb-true, ◌==◌, TypedValue, TypedValues, no_values}
+use Rattle.yaml_read.proofs.Common.{values_and, TypedPairs, no_value_pairs, value_pairs_and, list_value, map_value, most_nested, value_nodes, value_pairs}
+use Rattle.yaml_read.proofs.Common.{line_at, value_text, node_pairs_text, nodes_text, document_text, encodes-append, OpenLevel, items_open, pairs_open}
+use Rattle.yaml_read.proofs.Common.{seen_level, seen_levels, value_due, Level, level_more, column_in, map_begun, opened_text, IsOpen, HasRead, CanBeReadAt}
+use Rattle.yaml_read.proofs.Turns.{column_is, comma_deeper, comma_line, key_line}
+use Rattle.yaml_read.proofs.{HeadsRead.word_bytes, Encoded.word_encoded, Encoded.line_encoded}
 
 -- a word that is its own bytes is read
-word_read : (whole bytes rest word written : List ℕ) (text : Text) → whole ≡ encode_utf8_all text ++ bytes → bytes ≡ word ++ rest
+pub word_read : (whole bytes rest word written : List ℕ) (text : Text) → whole ≡ encode_utf8_all text ++ bytes → bytes ≡ word ++ rest
     → encode_utf8_all written ≡ word → whole ≡ encode_utf8_all (text ++ written) ++ rest
 word_read whole bytes rest word written text is cut ascii = grind (arith, encode_utf8_all, append_assoc, encodes-append)
 
--- the bytes of a comma and of a line at the column of the levels
-line_bytes : (levels : List OpenLevel) (word : Text) → encode_utf8_all word ≡ word
-    → encode_utf8_all (line_at (column_in levels) ++ word) ≡ line_at (length levels * 2) ++ word
-line_bytes levels word ascii =
-    line_encoded (column_in levels) word ∙ ap (λ t. line_at (column_in levels) ++ t) ascii ∙ ap (λ n. line_at n ++ word) (column_is levels)
-
 deeper_bytes : (levels : List OpenLevel) (word : Text) → encode_utf8_all word ≡ word
     → encode_utf8_all (line_at (column_in levels + 2) ++ word) ≡ line_at (length levels * 2 + 2) ++ word
-deeper_bytes levels word ascii =
-    line_encoded (column_in levels + 2) word ∙ ap (λ t. line_at (column_in levels + 2) ++ t) ascii ∙ ap (λ n. line_at (n + 2) ++ word) (column_is levels)
+deeper_bytes levels word ascii = grind (arith, line_encoded, column_in, line_at, column_is)
 
--- a word of ASCII
-ascii_all : (word : Text) → are_ascii word ≡ true → encode_utf8_all word ≡ word
-ascii_all word h = ap encode_utf8_all (sym (append-nil word)) ∙ word_encoded word [] h ∙ append-nil word
+-- a comma, a line and a word in it
+entry_word : (line word rest : List ℕ) → codes "," ++ (line ++ (word ++ rest)) ≡ (codes "," ++ (line ++ word)) ++ rest
+entry_word line word rest = ap (λ t. codes "," ++ t) (sym (append_assoc line word rest))
 
--- after a comma a line of the levels, and a word
-comma_line : (levels : List OpenLevel) (word : Text) → are_ascii word ≡ true
-    → encode_utf8_all (codes "," ++ (line_at (column_in levels) ++ word)) ≡ codes "," ++ (line_at (length levels * 2) ++ word)
-comma_line levels word h =
-    word_encoded (codes ",") (line_at (column_in levels) ++ word) refl ∙ ap (λ t. codes "," ++ t) (line_bytes levels word (ascii_all word h))
+-- an item, and a pair, of a list or a map that began before them, and what follows
+regroup : (outer items line value end : Text)
+    → ((outer ++ (codes "!!seq [" ++ (items ++ line))) ++ value) ++ (codes "," ++ end)
+    ≡ outer ++ (codes "!!seq [" ++ ((items ++ (line ++ (value ++ codes ","))) ++ end))
+regroup outer items line value end = simp append_assoc
 
--- the same, two columns deeper
-comma_deeper : (levels : List OpenLevel) (word : Text) → are_ascii word ≡ true
-    → encode_utf8_all (codes "," ++ (line_at (column_in levels + 2) ++ word)) ≡ codes "," ++ (line_at (length levels * 2) ++ (codes "  " ++ word))
-comma_deeper levels word h =
-    ap encode_utf8_all (ap (λ t. codes "," ++ t) (line_deeper (column_in levels) word)) ∙ comma_line levels (codes "  " ++ word) h
-
-line_deep : (levels : List OpenLevel) (word : Text) → are_ascii word ≡ true
-    → encode_utf8_all (line_at (column_in levels + 2) ++ word) ≡ line_at (length levels * 2) ++ (codes "  " ++ word)
-line_deep levels word h = ap encode_utf8_all (line_deeper (column_in levels) word) ∙ line_bytes levels (codes "  " ++ word) (ascii_all (codes "  " ++ word) h)
+regroup_pair : (outer pairs line key value end : Text)
+    → ((outer ++ ((codes "!!map {" ++ (pairs ++ (line ++ codes "? "))) ++ (key ++ (line ++ codes ": ")))) ++ value) ++ (codes "," ++ end)
+    ≡ outer ++ (codes "!!map {" ++ ((pairs ++ (line ++ (codes "? " ++ (key ++ (line ++ (codes ": " ++ (value ++ codes ","))))))) ++ end))
+regroup_pair outer pairs line key value end = simp append_assoc
 
 -- an item, and another one
 pub item_on : (whole : List ℕ) (levels : List OpenLevel) (items : TypedValues) (value : TypedValue) (bytes rest : List ℕ)
@@ -57,22 +38,15 @@ pub item_on : (whole : List ℕ) (levels : List OpenLevel) (items : TypedValues)
 item_on whole levels items value bytes rest read cut =
     let column = column_in levels + 2 in
     let line = line_at column in
-    let first = entry_lead (codes "[") (has_no_values items) in
     record {
       text =
           word_read whole bytes rest (codes "," ++ (line_at (length levels * 2) ++ codes "  ")) (codes "," ++ line)
-          (opened_text (items_open items ∷ levels) ++ value_text column value) read.text (cut ∙ parts (line_at (length levels * 2)) rest)
-          (ap encode_utf8_all (ap (λ t. codes "," ++ t) (sym (append-nil line))) ∙ comma_deeper levels [] refl)
-          ∙ ap (λ t. encode_utf8_all t ++ rest) (regroup (opened_text levels) (items_text column items) first line (value_text column value));
+          (opened_text (items_open items ∷ levels) ++ value_text column value) read.text (cut ∙ entry_word (line_at (length levels * 2)) (codes "  ") rest)
+          (ap encode_utf8_all (ap (λ t. codes "," ++ t) (sym (append-nil line))) ∙ comma_deeper levels [])
+          ∙ ap (λ t. encode_utf8_all t ++ rest)
+          (regroup (opened_text levels) (nodes_text column (value_nodes items)) line (value_text column value) line);
       readable = (read.outer.0, (read.outer.1.0, (read.outer.1.1, read.readable)));
     }
-  where
-    parts : (line rest : List ℕ) → codes "," ++ (line ++ (codes "  " ++ rest)) ≡ (codes "," ++ (line ++ codes "  ")) ++ rest
-    parts line rest = simp append_assoc
-
-    regroup : (o i l c v : Text)
-        → ((o ++ (codes "!!seq" ++ (i ++ (l ++ c)))) ++ v) ++ (codes "," ++ c) ≡ o ++ (codes "!!seq" ++ ((i ++ (l ++ (c ++ v))) ++ (codes "," ++ c)))
-    regroup o i l c v = simp append_assoc
 
 -- the last item
 pub item_out : (whole : List ℕ) (levels : List OpenLevel) (items : TypedValues) (value : TypedValue) (bytes rest : List ℕ)
@@ -80,26 +54,17 @@ pub item_out : (whole : List ℕ) (levels : List OpenLevel) (items : TypedValues
     → HasRead whole levels (list_value (values_and items value)) rest
 item_out whole levels items value bytes rest read cut =
     let column = column_in levels + 2 in
-    let line = line_at column in
-    let first = entry_lead (codes "[") (has_no_values items) in
+    let end = line_at (column_in levels) ++ codes "]" in
     record {
       text =
-          word_read whole bytes rest (codes "," ++ (line_at (length levels * 2) ++ codes "]")) (codes "," ++ (line_at (column_in levels) ++ codes "]"))
-          (opened_text (items_open items ∷ levels) ++ value_text column value) read.text (cut ∙ parts (line_at (length levels * 2)) rest)
-          (comma_line levels (codes "]") refl)
+          word_read whole bytes rest (codes "," ++ (line_at (length levels * 2) ++ codes "]")) (codes "," ++ end)
+          (opened_text (items_open items ∷ levels) ++ value_text column value) read.text (cut ∙ entry_word (line_at (length levels * 2)) (codes "]") rest)
+          (comma_line levels (codes "]") ∙ ap (λ t. codes "," ++ (line_at (length levels * 2) ++ t)) (word_bytes (codes "]") refl))
           ∙ ap (λ t. encode_utf8_all t ++ rest)
-          (regroup (opened_text levels) (items_text column items) first line (value_text column value) (line_at (column_in levels)));
+          (regroup (opened_text levels) (nodes_text column (value_nodes items)) (line_at column) (value_text column value) end);
       outer = read.outer.0;
       readable = (read.outer.1.0, (read.outer.1.1, read.readable));
     }
-  where
-    parts : (line rest : List ℕ) → codes "," ++ (line ++ (codes "]" ++ rest)) ≡ (codes "," ++ (line ++ codes "]")) ++ rest
-    parts line rest = simp append_assoc
-
-    regroup : (o i l c v d : Text)
-        → ((o ++ (codes "!!seq" ++ (i ++ (l ++ c)))) ++ v) ++ (codes "," ++ (d ++ codes "]"))
-        ≡ o ++ (codes "!!seq" ++ ((i ++ (l ++ (c ++ v))) ++ (codes "," ++ (d ++ codes "]"))))
-    regroup o i l c v d = simp append_assoc
 
 -- a key, and its value is due
 pub key_on : (whole : List ℕ) (levels : List OpenLevel) (pairs : TypedPairs) (key : TypedValue) (bytes rest : List ℕ)
@@ -107,21 +72,17 @@ pub key_on : (whole : List ℕ) (levels : List OpenLevel) (pairs : TypedPairs) (
     → IsOpen whole (value_due pairs key ∷ levels) rest
 key_on whole levels pairs key bytes rest read cut =
     let column = column_in levels + 2 in
-    let line = line_at column in
-    let first = entry_lead (codes "{") (has_no_value_pairs pairs) in
+    let text = value_text column key in
+    let written = line_at column ++ codes ": " in
+    let begun = map_begun (column_in levels) pairs in
     record {
       text =
-          word_read whole bytes rest (line_at (length levels * 2) ++ codes "  : ") (line ++ codes ": ")
-          (opened_text (pairs_open pairs ∷ levels) ++ value_text column key) read.text
-          (cut ∙ sym (append_assoc (line_at (length levels * 2)) (codes "  : ") rest)) (line_deep levels (codes ": ") refl)
-          ∙ ap (λ t. encode_utf8_all t ++ rest) (regroup (opened_text levels) (pairs_text column pairs) first line (value_text column key));
+          word_read whole bytes rest (line_at (length levels * 2) ++ codes "  : ") written (opened_text (pairs_open pairs ∷ levels) ++ text) read.text
+          (cut ∙ sym (append_assoc (line_at (length levels * 2)) (codes "  : ") rest)) (key_line levels [])
+          ∙ ap (λ t. encode_utf8_all t ++ rest)
+          (append_assoc (opened_text levels ++ begun) text written ∙ append_assoc (opened_text levels) begun (text ++ written));
       readable = (read.outer.0, (read.outer.1.0, (read.outer.1.1, read.readable)));
     }
-  where
-    regroup : (o p l c k : Text)
-        → ((o ++ (codes "!!map" ++ (p ++ (l ++ (c ++ codes "? "))))) ++ k) ++ (c ++ codes ": ")
-        ≡ o ++ (codes "!!map" ++ (p ++ (l ++ (c ++ (codes "? " ++ (k ++ (c ++ codes ": ")))))))
-    regroup o p l c k = simp append_assoc
 
 -- a pair, and another one
 pub pair_on : (whole : List ℕ) (levels : List OpenLevel) (pairs : TypedPairs) (key value : TypedValue) (bytes rest : List ℕ)
@@ -129,25 +90,18 @@ pub pair_on : (whole : List ℕ) (levels : List OpenLevel) (pairs : TypedPairs) 
     → IsOpen whole (pairs_open (value_pairs_and pairs key value) ∷ levels) rest
 pair_on whole levels pairs key value bytes rest read cut =
     let column = column_in levels + 2 in
-    let line = line_at column in
-    let first = entry_lead (codes "{") (has_no_value_pairs pairs) in
+    let end = line_at column ++ codes "? " in
     record {
       text =
-          word_read whole bytes rest (codes "," ++ (line_at (length levels * 2) ++ codes "  ? ")) (codes "," ++ (line ++ codes "? "))
-          (opened_text (value_due pairs key ∷ levels) ++ value_text column value) read.text (cut ∙ parts (line_at (length levels * 2)) rest)
-          (comma_deeper levels (codes "? ") refl)
+          word_read whole bytes rest (codes "," ++ (line_at (length levels * 2) ++ codes "  ? ")) (codes "," ++ end)
+          (opened_text (value_due pairs key ∷ levels) ++ value_text column value) read.text
+          (cut ∙ entry_word (line_at (length levels * 2)) (codes "  ? ") rest)
+          (comma_deeper levels (codes "? ") ∙ ap (λ t. codes "," ++ (line_at (length levels * 2) ++ (codes "  " ++ t))) (word_bytes (codes "? ") refl))
           ∙ ap (λ t. encode_utf8_all t ++ rest)
-          (regroup (opened_text levels) (pairs_text column pairs) first line (value_text column key) (value_text column value));
+          (regroup_pair (opened_text levels) (node_pairs_text column (value_pairs pairs)) (line_at column) (value_text column key)
+          (value_text column value) end);
       readable = (read.outer.0, (read.outer.1.0, (read.outer.1.1.0, (read.outer.1.1.1, read.readable))));
     }
-  where
-    parts : (line rest : List ℕ) → codes "," ++ (line ++ (codes "  ? " ++ rest)) ≡ (codes "," ++ (line ++ codes "  ? ")) ++ rest
-    parts line rest = simp append_assoc
-
-    regroup : (o p l c k v : Text)
-        → ((o ++ (codes "!!map" ++ (p ++ (l ++ (c ++ (codes "? " ++ (k ++ (c ++ codes ": ")))))))) ++ v) ++ (codes "," ++ (c ++ codes "? "))
-        ≡ o ++ (codes "!!map" ++ ((p ++ (l ++ (c ++ (codes "? " ++ (k ++ (c ++ (codes ": " ++ v))))))) ++ (codes "," ++ (c ++ codes "? "))))
-    regroup o p l c k v = simp append_assoc
 
 -- the last pair
 pub pair_out : (whole : List ℕ) (levels : List OpenLevel) (pairs : TypedPairs) (key value : TypedValue) (bytes rest : List ℕ)
@@ -155,26 +109,19 @@ pub pair_out : (whole : List ℕ) (levels : List OpenLevel) (pairs : TypedPairs)
     → HasRead whole levels (map_value (value_pairs_and pairs key value)) rest
 pair_out whole levels pairs key value bytes rest read cut =
     let column = column_in levels + 2 in
-    let line = line_at column in
-    let first = entry_lead (codes "{") (has_no_value_pairs pairs) in
+    let end = line_at (column_in levels) ++ codes "}" in
     record {
       text =
-          word_read whole bytes rest (codes "," ++ (line_at (length levels * 2) ++ codes "}")) (codes "," ++ (line_at (column_in levels) ++ codes "}"))
-          (opened_text (value_due pairs key ∷ levels) ++ value_text column value) read.text (cut ∙ parts (line_at (length levels * 2)) rest)
-          (comma_line levels (codes "}") refl)
+          word_read whole bytes rest (codes "," ++ (line_at (length levels * 2) ++ codes "}")) (codes "," ++ end)
+          (opened_text (value_due pairs key ∷ levels) ++ value_text column value) read.text
+          (cut ∙ entry_word (line_at (length levels * 2)) (codes "}") rest)
+          (comma_line levels (codes "}") ∙ ap (λ t. codes "," ++ (line_at (length levels * 2) ++ t)) (word_bytes (codes "}") refl))
           ∙ ap (λ t. encode_utf8_all t ++ rest)
-          (regroup (opened_text levels) (pairs_text column pairs) first line (value_text column key) (value_text column value) (line_at (column_in levels)));
+          (regroup_pair (opened_text levels) (node_pairs_text column (value_pairs pairs)) (line_at column) (value_text column key)
+          (value_text column value) end);
       outer = read.outer.0;
       readable = (read.outer.1.0, (read.outer.1.1.0, (read.outer.1.1.1, read.readable)));
     }
-  where
-    parts : (line rest : List ℕ) → codes "," ++ (line ++ (codes "}" ++ rest)) ≡ (codes "," ++ (line ++ codes "}")) ++ rest
-    parts line rest = simp append_assoc
-
-    regroup : (o p l c k v d : Text)
-        → ((o ++ (codes "!!map" ++ (p ++ (l ++ (c ++ (codes "? " ++ (k ++ (c ++ codes ": ")))))))) ++ v) ++ (codes "," ++ (d ++ codes "}"))
-        ≡ o ++ (codes "!!map" ++ ((p ++ (l ++ (c ++ (codes "? " ++ (k ++ (c ++ (codes ": " ++ v))))))) ++ (codes "," ++ (d ++ codes "}"))))
-    regroup o p l c k v d = simp append_assoc
 
 -- into a list
 pub list_in : (whole : List ℕ) (levels : List OpenLevel) (bytes rest : List ℕ) → IsOpen whole levels bytes → length levels < most_nested
@@ -201,7 +148,7 @@ map_in whole levels bytes rest opened deep cut =
           (codes "!!map {" ++ (line_at (column_in levels + 2) ++ codes "? ")) (opened_text levels) opened.text
           (cut ∙ sym (append_assoc (codes "!!map {") (line_at (length levels * 2 + 2) ++ codes "? ") rest))
           (word_encoded (codes "!!map {") (line_at (column_in levels + 2) ++ codes "? ") refl
-          ∙ ap (λ t. codes "!!map {" ++ t) (deeper_bytes levels (codes "? ") (ascii_all (codes "? ") refl)));
+          ∙ ap (λ t. codes "!!map {" ++ t) (deeper_bytes levels (codes "? ") (word_bytes (codes "? ") refl)));
       readable = (opened.readable, (deep, tt));
     }
 
@@ -220,7 +167,7 @@ value_in whole levels value bytes rest opened cut readable =
 pub value_out : (whole : List ℕ) (value : TypedValue) (bytes : List ℕ) → HasRead whole [] value bytes → bytes ≡ codes "\n" ++ []
     → whole ≡ encode_utf8_all (value_text 0 value ++ line_feed ∷ [])
 value_out whole value bytes read cut =
-    word_read whole bytes [] (codes "\n") (line_feed ∷ []) (value_text 0 value) read.text cut (ascii_all (codes "\n") refl)
+    word_read whole bytes [] (codes "\n") (line_feed ∷ []) (value_text 0 value) read.text cut (word_bytes (codes "\n") refl)
     ∙ append-nil (encode_utf8_all (value_text 0 value ++ line_feed ∷ []))
 
 -- if some text has been read up to a value, it has been read up to the value of the list or map that ended with it
@@ -241,24 +188,9 @@ nothing_left (c ∷ bytes) empty is on = absurd (omega (arith, eqb-true (length 
 
 -- and one that isn't
 pub some_left : (bytes : List ℕ) (empty : Bool) → empty ≡ (length bytes == 0) → empty ≡ false → 0 < length bytes
-some_left [] empty is off = absurd (true≢false (sym is ∙ off))
-some_left (c ∷ bytes) empty is off = omega arith
-
--- if a line's end is all that is left, it isn't missing
-pub end_there : (bytes : List ℕ) (error : Stop) → LacksEnd bytes error → bytes ≡ codes "\n" → ⊥
-end_there bytes error (no_end none place) is = no_word (codes "\n") bytes [] none is
-end_there bytes error (more_follows rest cut some place) is = absurd (omega (arith, some, ap length (cut_is (codes "\n") bytes rest [] cut is)))
+some_left bytes empty h1 h2 = grind (arith, true≢false)
 
 pub text_read : (value : TypedValue) (text whole : List ℕ) → text ≡ codes "---\n" ++ whole
     → whole ≡ encode_utf8_all (value_text 0 value ++ line_feed ∷ []) → text ≡ encode_utf8_all (document_text value)
 text_read value text whole is read =
     is ∙ ap (λ t. codes "---\n" ++ t) read ∙ sym (word_encoded (codes "---\n") (value_text 0 value ++ line_feed ∷ []) refl)
-
--- a line's end follows the outermost value
-pub root_ends : (root value : TypedValue) (bytes : List ℕ) → IsRead root [] value bytes → (value ≡ root) × (bytes ≡ codes "\n")
-root_ends root value bytes read =
-    let ends = by value read.rest read.completes in
-    (ends.0, read.text ∙ ap encode_utf8_all ends.1 ∙ ascii_all (codes "\n") refl)
-  where
-    by : (value : TypedValue) (text : Text) → Completes root [] value text → (value ≡ root) × (text ≡ line_feed ∷ [])
-    by _ _ (text_ends value text is line) = (is, line)

@@ -1,16 +1,13 @@
 -- Up to the place of an error the bytes begin a canonical text.
-use Rattle.yaml_base.proofs.Common.{ℕ, ◌-◌, ◌+◌, ◌*◌, ◌<◌, List, [], ◌∷◌, ◌++◌, refl, ◌≡◌, ap, subst, sym, ◌∙◌, append_assoc, arith, codes, flat_map-append}
-use Rattle.yaml_base.proofs.Common.{length, line_feed, encode_utf8_all, Text}
-use Rattle.yaml_base.specs.values.TypedValues.{TypedValue, list_value, map_value, most_nested, value_pairs_and, values_and}
-use Rattle.yaml_base.specs.values.ValueText.{line_at, value_text}
-use Rattle.std.{proofs.Math.Seq.take-append_seam, proofs.lemmas.List.length-append, proofs.lemmas.Str.encodes-append, specs.Prelude.take}
-use Rattle.yaml_value.specs.OpenLevels.{OpenLevel, items_open, pairs_open, value_due}
-use Rattle.yaml_read.specs.Remaining.{Completes, column_in, item_follows, list_ends, map_ends, pair_follows, text_ends}
+use Rattle.yaml_read.proofs.Common.{ℕ, ◌-◌, ◌+◌, ◌*◌, ◌<◌, List, [], ◌∷◌, ◌++◌, refl, ◌≡◌, ap, subst, sym, ◌∙◌, append_assoc, arith, codes, flat_map-append}
+use Rattle.yaml_read.proofs.Common.{length, line_feed, encode_utf8_all, Text, TypedValue, list_value, map_value, most_nested, value_pairs_and, values_and}
+use Rattle.yaml_read.proofs.Common.{line_at, value_text, take-append_seam, length-append, encodes-append, take, OpenLevel, items_open, pairs_open, value_due}
+use Rattle.yaml_read.proofs.Common.{Completes, column_in, item_follows, list_ends, map_ends, pair_follows, text_ends, behind_value, opened_text, CanBeReadAt}
+use Rattle.yaml_read.proofs.Common.{node, HasRead, IsOpen, BreaksOff, value_follows}
 use Rattle.yaml_read.proofs.Opening.{item_on, item_out, key_on, pair_on, pair_out, value_in, value_out}
-use Rattle.yaml_read.proofs.Turns.{comma_deeper, comma_line, key_line}
-use Rattle.yaml_read.{specs.Grammar.behind_value, specs.Opened.opened_text, specs.Readable.CanBeReadAt, proofs.WordTexts.node_words, proofs.WordsBehind.closing}
-use Rattle.yaml_read.{specs.Grammar.node, specs.Opened.HasRead, specs.Opened.IsOpen, specs.Places.BreaksOff, proofs.WordTexts.flat}
-use Rattle.yaml_read.{specs.Remaining.value_follows, specs.TextsAndWords.BeginsValue, proofs.Encoded.word_encoded, proofs.WordsBehind.behind_words}
+use Rattle.yaml_read.proofs.{Turns.comma_deeper, Turns.comma_line, Turns.key_line, WordSteps.node_words, WordsBehind.closing, WordsBehind.behind_words}
+use Rattle.yaml_read.proofs.{WordTexts.flat, Encoded.word_encoded}
+use Rattle.yaml_read.specs.TextsAndWords.{BeginsValue}
 
 -- ---- a text that was read and the text that completes it are a value's text
 
@@ -28,8 +25,7 @@ value_next whole levels value rest opened readable =
 closing_bytes : (levels : List OpenLevel) (bracket rest text : Text) → encode_utf8_all (bracket ++ rest) ≡ bracket ++ encode_utf8_all rest
     → text ≡ codes "," ++ (line_at (column_in levels) ++ (bracket ++ rest))
     → encode_utf8_all text ≡ codes "," ++ (line_at (length levels * 2) ++ (bracket ++ encode_utf8_all rest))
-closing_bytes levels bracket rest text ascii is =
-    ap encode_utf8_all is ∙ comma_line levels (bracket ++ rest) ∙ ap (λ t. codes "," ++ (line_at (length levels * 2) ++ t)) ascii
+closing_bytes levels bracket rest text ascii is = grind (arith, encode_utf8_all, comma_line, codes, line_at, length)
 
 completed : (whole : List ℕ) (root : TypedValue) (levels : List OpenLevel) (value : TypedValue) (text : Text) → Completes root levels value text
     → HasRead whole levels value (encode_utf8_all text) → IsText whole root
@@ -78,8 +74,7 @@ shared front whole text read rest more left is place also =
 
 -- the bytes of words that were read, of those that may come, and of what follows them
 words_apart : (read after : List (List ℕ)) (bytes rest : List ℕ) → bytes ≡ flat (read ++ after) ++ rest → bytes ≡ flat read ++ (flat after ++ rest)
-words_apart read after bytes rest is =
-    is ∙ ap (λ t. t ++ rest) (flat_map-append (λ (word : List ℕ). word) read after) ∙ append_assoc (flat read) (flat after) rest
+words_apart read after bytes rest is = grind (arith, flat_map-append, append_assoc, flat)
 
 -- if a word is missing in a node, and a list or a map may still be opened
 pub node_place : (whole : List ℕ) (levels : List OpenLevel) (bytes : List ℕ) (left : ℕ) → IsOpen whole levels bytes → length levels < most_nested

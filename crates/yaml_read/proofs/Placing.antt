@@ -1,10 +1,6 @@
 -- From the place at which the bytes break off to the position of the error.
-use Rattle.yaml_base.proofs.Common.{ℕ, None, List, [], ◌++◌, refl, ◌≡◌, subst, sym, inl, inr, codes}
-use Rattle.std.specs.Str.{IsUtf8}
-use Rattle.yaml_value.specs.declared.keys.Keys.{Keys}
-use Rattle.yaml_read.specs.Places.{IsHere, StopsAt, StopsIn}
-use Rattle.yaml_read.specs.RepeatedKeys.{IsPlacedBy}
-use Rattle.yaml_read.{specs.Errors.Tells, specs.Words.past_word, specs.declared.errors.ReadError.ReadError, specs.declared.errors.Stop.Stop}
+use Rattle.yaml_read.proofs.Common.{ℕ, None, List, [], ◌++◌, refl, ◌≡◌, subst, sym, inl, inr, codes, IsUtf8, Keys, IsHere, StopsAt, StopsIn, IsPlacedBy, Tells}
+use Rattle.yaml_read.proofs.Common.{past_word, ReadError, Stop}
 use Rattle.yaml_read.specs.declared.errors.Stop.TheVariants as stop
 
 -- a document's first line is missing

@@ -1,12 +1,10 @@
 -- Texts between quotes, a character at a time.
-use Rattle.yaml_base.proofs.Common.{ℕ, ◌==◌, Bool, true, Option, None, Some, List, [], ◌∷◌, ◌++◌, refl, ◌≡◌, ap, sym, ◌∙◌, arith, append_assoc, append-nil}
-use Rattle.yaml_base.proofs.Common.{codes, Text, encode_utf8_all, encode_utf8, all_scalars, and_parts, character_text, true≢false, chars, chars-encodes}
-use Rattle.yaml_base.proofs.Common.{flat_map, ◌&&◌}
-use Rattle.yaml_base.specs.{Seen.seen_text, scalars.DoubleQuoted.needs_escape, scalars.DoubleQuoted.quote, values.ValueText.in_quotes, Characters.backslash}
-use Rattle.std.proofs.lemmas.Str.{encode_same, encodes-append, encode_ascii}
-use Rattle.std.{specs.Prelude.MatchOption, specs.Prelude.String, specs.String.string_bytes, specs.Borrow.Bor, proofs.lemmas.List.append_cancel_left}
+use Rattle.yaml_read.proofs.Common.{ℕ, ◌==◌, true, Option, None, Some, List, [], ◌∷◌, ◌++◌, refl, ◌≡◌, ap, sym, ◌∙◌, arith, append_assoc, append-nil, codes}
+use Rattle.yaml_read.proofs.Common.{Text, encode_utf8_all, encode_utf8, all_scalars, and_parts, character_text, true≢false, chars, chars-encodes, flat_map}
+use Rattle.yaml_read.proofs.Common.{◌&&◌, seen_text, needs_escape, quote, in_quotes, backslash, encode_same, encodes-append, encode_ascii, MatchOption, String}
+use Rattle.yaml_read.proofs.Common.{string_bytes, Bor, append_cancel_left, ReadsCharacter, past_word}
 use Rattle.yaml_read.proofs.Escapes.{Stands, as_itself, as_escape, stands}
-use Rattle.yaml_read.{proofs.Encoded.word_encoded, proofs.Words.no_word, specs.Heads.ReadsCharacter, specs.Words.past_word}
+use Rattle.yaml_read.proofs.{Encoded.word_encoded, Words.no_word}
 
 -- the characters between quotes, the closing quote, and a rest
 abbrev pub to_quote : Text → Text → Text
@@ -79,10 +77,7 @@ scalars_behind [] b h = h
 scalars_behind (c ∷ a) b h = scalars_behind a b (and_parts _ _ h).1
 
 scalar_first : (c : ℕ) (b : Text) → all_scalars (c ∷ b) ≡ true → all_scalars (c ∷ []) ≡ true
-scalar_first c b h = and_true _ (and_parts _ _ h).0
-  where
-    and_true : (x : Bool) → x ≡ true → (x && true) ≡ true
-    and_true x is = ap (λ y. y && true) is
+scalar_first c b h = grind (arith, and_parts, true)
 
 -- a character is read if the text doesn't end
 pub left_next : (text rest : Text) (value bytes : List ℕ) (found : Option (ℕ × Bor (List ℕ))) → Left text rest value bytes

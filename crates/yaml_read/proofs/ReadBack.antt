@@ -1,15 +1,9 @@
 -- A value that was written is read back.
-use Rattle.yaml_base.proofs.Common.{ℕ, ◌<◌, ◌≤◌, ◌≡◌, List, Some, arith, encode, inl, inr, sym, utf8}
-use Rattle.std.specs.Prelude.{Err, IfErr, IfOk, Ok, Result, Vec}
-use Rattle.yaml_base.specs.values.TypedValues.{TypedValue, WritesValue, most_nested, nesting}
-use Rattle.yaml_base.specs.values.ValueText.{document_text}
-use Rattle.yaml_value.proofs.TextLemmas.{text_written}
-use Rattle.yaml_value.specs.SeenValues.{seen_value}
-use Rattle.yaml_value.specs.declared.value.Value.{Value}
+use Rattle.yaml_read.proofs.Common.{ℕ, ◌<◌, ◌≤◌, ◌≡◌, List, Some, arith, encode, utf8, Err, IfErr, IfOk, Ok, Result, Vec, TypedValue, WritesValue, most_nested}
+use Rattle.yaml_read.proofs.Common.{nesting, document_text, seen_value, Value, IsJust, CanBeRead, ReadError}
+use Rattle.yaml_value.proofs.WritingLemmas.{text_written}
 use Rattle.yaml_read.proofs.Texts.{texts_of}
-use Rattle.yaml_read.specs.ReadBack.{IsAnswerTo, IsJust}
-use Rattle.yaml_read.specs.Readable.{CanBeRead}
-use Rattle.yaml_read.specs.declared.errors.ReadError.{ReadError}
+use Rattle.yaml_read.specs.ReadBack.{IsAnswerTo}
 use Rattle.yaml_read.specs.declared.errors.ReadError.TheVariants as told
 
 -- a value that was written, and doesn't nest too deep, is readable
@@ -24,8 +18,7 @@ written_readable A value bytes written never =
 -- bytes of a readable value are refused for want of memory alone
 for_memory : (value : TypedValue) (bytes : List ℕ) (error : ReadError) → CanBeRead value → bytes ≡ encode (Some utf8) (document_text value)
     → IsJust bytes error → error ≡ told.Memory
-for_memory value bytes error readable is (inl memory) = memory
-for_memory value bytes error readable is (inr none) = absurd (none value readable (sym is))
+for_memory value bytes error h1 h2 h3 = grind arith
 
 -- they are read as this value, or memory gave out
 pub read_back : {A : Type 0} (value : TypedValue) (bytes : Vec ℕ A) (answer : Result (Value A) ReadError) → CanBeRead value

@@ -1,12 +1,9 @@
 -- The rest of a value's text while it is read.
-use Rattle.yaml_base.proofs.Common.{ℕ, ◌+◌, ◌≤◌, suc, List, ◌∷◌, ◌++◌, refl, ◌≡◌, ◌∙◌, arith, append_assoc, length, codes, space, line_feed, Text, replicate}
-use Rattle.yaml_base.specs.values.TypedValues.{TypedValue, null_value, bool_value, int_value, text_value, list_value, map_value, TypedValues, no_values}
-use Rattle.yaml_base.specs.values.TypedValues.{values_and, TypedPairs, no_value_pairs, value_pairs_and, Has64Bits, Have64Bits, PairsHave64Bits}
-use Rattle.yaml_base.specs.values.TypedValues.{nesting, values_nesting, value_pairs_nesting, most_nested}
-use Rattle.yaml_base.specs.values.ValueText.{line_at, value_text, items_text, pairs_text}
-use Rattle.yaml_read.specs.Readable.{HasScalarTexts, HaveScalarTexts, PairsHaveScalarTexts, CanBeRead, CanBeReadAt, AllCanBeReadAt, PairsCanBeReadAt}
-use Rattle.yaml_value.specs.OpenLevels.{OpenLevel, items_open, pairs_open, value_due}
-use Rattle.yaml_read.specs.Remaining.{column_in, Completes, item_follows, value_follows, pair_follows}
+use Rattle.yaml_read.proofs.Common.{ℕ, ◌+◌, ◌≤◌, suc, ◌∷◌, ◌++◌, ◌≡◌, ◌∙◌, arith, append_assoc, codes, Text, node_pairs_text, nodes_text, TypedValue, int_value}
+use Rattle.yaml_read.proofs.Common.{text_value, list_value, map_value, TypedValues, no_values, values_and, TypedPairs, no_value_pairs, value_pairs_and}
+use Rattle.yaml_read.proofs.Common.{Has64Bits, Have64Bits, PairsHave64Bits, nesting, values_nesting, value_pairs_nesting, most_nested, line_at, value_text}
+use Rattle.yaml_read.proofs.Common.{value_nodes, value_pairs, HasScalarTexts, HaveScalarTexts, PairsHaveScalarTexts, CanBeRead, CanBeReadAt, AllCanBeReadAt}
+use Rattle.yaml_read.proofs.Common.{PairsCanBeReadAt}
 
 -- ---- readable values
 
@@ -52,63 +49,32 @@ pairs_behind column (value_pairs_and pairs first second) key value rest =
     (codes "," ++ (line_at column ++ (codes "? " ++ (value_text column key ++ (line_at column ++ (codes ": " ++ (value_text column value ++ rest)))))))
 
 pub items_open_text : (column : ℕ) (items : TypedValues) (item : TypedValue) (rest : Text)
-    → items_text column (values_and items item) ++ rest ≡ codes " [" ++ (line_at column ++ items_behind column items item rest)
-items_open_text column no_values item rest = first (replicate column space) (value_text column item) rest
+    → nodes_text column (value_nodes (values_and items item)) ++ rest ≡ line_at column ++ items_behind column items item (codes "," ++ rest)
+items_open_text column no_values item rest = one (line_at column) (value_text column item) rest
   where
-    first : (a b c : Text) → (codes " [" ++ ((line_feed ∷ a) ++ b)) ++ c ≡ codes " [" ++ ((line_feed ∷ a) ++ (b ++ c))
-    first a b c = simp append_assoc
+    one : (line text rest : Text) → (line ++ (text ++ codes ",")) ++ rest ≡ line ++ (text ++ (codes "," ++ rest))
+    one line text rest = simp append_assoc
 items_open_text column (values_and items last) item rest =
-    more (items_text column (values_and items last)) (replicate column space) (value_text column item) rest
-    ∙ items_open_text column items last (codes "," ++ (line_at column ++ (value_text column item ++ rest)))
+    more (nodes_text column (value_nodes (values_and items last))) (line_at column) (value_text column item) rest
+    ∙ items_open_text column items last (line_at column ++ (value_text column item ++ (codes "," ++ rest)))
   where
-    more : (a b c d : Text) → (a ++ (codes "," ++ ((line_feed ∷ b) ++ c))) ++ d ≡ a ++ (codes "," ++ ((line_feed ∷ b) ++ (c ++ d)))
-    more a b c d = simp append_assoc
+    more : (items line text rest : Text) → (items ++ (line ++ (text ++ codes ","))) ++ rest ≡ items ++ (line ++ (text ++ (codes "," ++ rest)))
+    more items line text rest = simp append_assoc
 
 pub pairs_open_text : (column : ℕ) (pairs : TypedPairs) (key value : TypedValue) (rest : Text)
-    → pairs_text column (value_pairs_and pairs key value) ++ rest ≡ codes " {" ++ (line_at column ++ (codes "? " ++ pairs_behind column pairs key value rest))
-pairs_open_text column no_value_pairs key value rest = first (replicate column space) (value_text column key) (value_text column value) rest
+    → node_pairs_text column (value_pairs (value_pairs_and pairs key value)) ++ rest
+    ≡ line_at column ++ (codes "? " ++ pairs_behind column pairs key value (codes "," ++ rest))
+pairs_open_text column no_value_pairs key value rest = one (line_at column) (value_text column key) (value_text column value) rest
   where
-    first : (a b c d : Text)
-        → (codes " {" ++ ((line_feed ∷ a) ++ (codes "? " ++ (b ++ ((line_feed ∷ a) ++ (codes ": " ++ c)))))) ++ d
-        ≡ codes " {" ++ ((line_feed ∷ a) ++ (codes "? " ++ (b ++ ((line_feed ∷ a) ++ (codes ": " ++ (c ++ d))))))
-    first a b c d = simp append_assoc
+    one : (line key value rest : Text)
+        → (line ++ (codes "? " ++ (key ++ (line ++ (codes ": " ++ (value ++ codes ",")))))) ++ rest
+        ≡ line ++ (codes "? " ++ (key ++ (line ++ (codes ": " ++ (value ++ (codes "," ++ rest))))))
+    one line key value rest = simp append_assoc
 pairs_open_text column (value_pairs_and pairs first second) key value rest =
-    more (pairs_text column (value_pairs_and pairs first second)) (replicate column space) (value_text column key) (value_text column value) rest
+    more (node_pairs_text column (value_pairs (value_pairs_and pairs first second))) (line_at column) (value_text column key) (value_text column value) rest
     ∙ pairs_open_text column pairs first second _
   where
-    more : (p a b c d : Text)
-        → (p ++ (codes "," ++ ((line_feed ∷ a) ++ (codes "? " ++ (b ++ ((line_feed ∷ a) ++ (codes ": " ++ c))))))) ++ d
-        ≡ p ++ (codes "," ++ ((line_feed ∷ a) ++ (codes "? " ++ (b ++ ((line_feed ∷ a) ++ (codes ": " ++ (c ++ d)))))))
-    more p a b c d = simp append_assoc
-
--- a value that has its place begins the text
-pub record Begins (root : TypedValue) (levels : List OpenLevel) (text : Text) : Type 0 where
-  pub value : TypedValue
-  pub rest : Text
-  pub readable : CanBeReadAt (length levels) value
-  pub text_is : text ≡ value_text (column_in levels) value ++ rest
-  pub completes : Completes root levels value rest
-
-pub items_begin : (root : TypedValue) (levels : List OpenLevel) (items : TypedValues) (item : TypedValue) (rest : Text)
-    → AllCanBeReadAt (suc (length levels)) (values_and items item) → Completes root (items_open items ∷ levels) item rest
-    → Begins root (items_open no_values ∷ levels) (items_behind (column_in levels + 2) items item rest)
-items_begin root levels no_values item rest readable completes =
-    record { value = item; rest = rest; readable = readable.1; text_is = refl; completes = completes }
-items_begin root levels (values_and items last) item rest readable completes =
-    items_begin root levels items last _ readable.0 (item_follows levels items last item rest _ readable.1 refl completes)
-
-pub pairs_begin : (root : TypedValue) (levels : List OpenLevel) (pairs : TypedPairs) (key value : TypedValue) (rest : Text)
-    → PairsCanBeReadAt (suc (length levels)) (value_pairs_and pairs key value) → Completes root (value_due pairs key ∷ levels) value rest
-    → Begins root (pairs_open no_value_pairs ∷ levels) (pairs_behind (column_in levels + 2) pairs key value rest)
-pairs_begin root levels no_value_pairs key value rest readable completes =
-    record {
-      value = key;
-      rest = line_at (column_in levels + 2) ++ (codes ": " ++ (value_text (column_in levels + 2) value ++ rest));
-      readable = readable.1.0;
-      text_is = refl;
-      completes = value_follows levels no_value_pairs key value rest _ readable.1.1 refl completes;
-    }
-pairs_begin root levels (value_pairs_and pairs first second) key value rest readable completes =
-    pairs_begin root levels pairs first second _ readable.0
-    (pair_follows levels pairs first second key _ _ readable.1.0 refl
-    (value_follows levels (value_pairs_and pairs first second) key value rest _ readable.1.1 refl completes))
+    more : (pairs line key value rest : Text)
+        → (pairs ++ (line ++ (codes "? " ++ (key ++ (line ++ (codes ": " ++ (value ++ codes ","))))))) ++ rest
+        ≡ pairs ++ (line ++ (codes "? " ++ (key ++ (line ++ (codes ": " ++ (value ++ (codes "," ++ rest)))))))
+    more pairs line key value rest = simp append_assoc

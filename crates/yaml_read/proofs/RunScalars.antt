@@ -1,16 +1,15 @@
 -- The text of a node's events consists of Unicode scalar values, so its bytes are UTF-8.
-use Rattle.yaml_base.proofs.Common.{ℕ, ◌*◌, Bool, true, false, not, Option, None, Some, List, [], ◌∷◌, ◌++◌, refl, ◌≡◌, ap, sym, ◌∙◌, All, All-head, All-tail}
-use Rattle.yaml_base.proofs.Common.{if◌then◌else◌, agree_below_at, arith, bytes_eq, codes, length, list_all, ltb-true, nat_lt, nat_tests, all_scalars, is_alpha}
-use Rattle.yaml_base.proofs.Common.{line_feed, space, Text, percent_escaped, suffix_escaped, name_fault, spelled, spelling, verbatim, Event, string_tag}
-use Rattle.yaml_base.specs.{Tags.default_directives, Tags.spelling_by, Tags.behind, declared.errors.yaml_error_t.yaml_error_t, graphs.DumpedText.anchor_text}
-use Rattle.yaml_base.specs.{graphs.DumpedText.closing_line, graphs.DumpedText.tag_text, values.ValueText.in_quotes, values.ValueText.line_at}
-use Rattle.yaml_base.proofs.{AllPass.all_pass, PercentLaws.escaped_stands, PercentLaws.stands_written, PercentLaws.suffix_stands}
-use Rattle.std.specs.Str.{IsUtf8}
+use Rattle.yaml_read.proofs.Common.{ℕ, ◌*◌, Bool, true, false, not, Option, None, Some, List, [], ◌∷◌, ◌++◌, refl, ◌≡◌, ap, sym, ◌∙◌, All, All-head, All-tail}
+use Rattle.yaml_read.proofs.Common.{if◌then◌else◌, agree_below_at, arith, bytes_eq, codes, length, list_all, ltb-true, nat_lt, nat_tests, all_scalars, is_alpha}
+use Rattle.yaml_read.proofs.Common.{line_feed, space, Text, percent_escaped, name_fault, spelled, verbatim, Event, spelling_by, behind, yaml_error_t}
+use Rattle.yaml_read.proofs.Common.{anchor_text, closing_line, tag_text, in_quotes, line_at, all_pass, escaped_stands, stands_written, IsUtf8, Pending}
+use Rattle.yaml_read.proofs.Common.{item_awaited, key_awaited, value_awaited, BeginsNode, is_alias, is_scalar, is_sequence, is_mapping, IsInNode, begins_node}
+use Rattle.yaml_read.proofs.Common.{HasRunText, root_ends, more_come, IsAnchor, closing_text, event_text, lead_text, outside, trail_text, AreRunBytes}
 use lib.Utf8.{scalar}
-use Rattle.yaml_read.specs.EventTexts.{Pending, item_awaited, key_awaited, value_awaited, BeginsNode, is_alias, is_scalar, is_sequence, is_mapping, IsInNode}
-use Rattle.yaml_read.specs.EventTexts.{begins_node, ends_sequence, ends_mapping, HasRunText, root_ends, more_come, IsAnchor, closing_text, event_text}
-use Rattle.yaml_read.{specs.EventTexts.lead_text, specs.EventTexts.outside, specs.EventTexts.trail_text, specs.DocumentPlaces.AreRunBytes}
-use Rattle.yaml_read.{proofs.Encoded.word_encoded, proofs.Scalars.joined_scalars, proofs.Scalars.quotes_scalars, proofs.Scalars.spaces_scalars}
+use Rattle.yaml_base.{proofs.Common.suffix_escaped, proofs.Common.spelling, proofs.Common.string_tag, specs.Tags.default_directives}
+use Rattle.yaml_base.{proofs.PercentLaws.suffix_stands}
+use Rattle.yaml_read.proofs.Scalars.{end_scalars, joined_scalars, line_scalars, quotes_scalars, spaces_scalars}
+use Rattle.yaml_read.proofs.Encoded.{word_encoded}
 
 -- characters of ASCII are Unicode scalar values
 ascii_scalar : (c : ℕ) → nat_lt c 128 ≡ true → scalar c ≡ true
@@ -33,8 +32,7 @@ name_scalars empty other (c ∷ rest) sound = by (list_all is_alpha (c ∷ rest)
     by false letters is = cc
 
 anchor_scalars : (anchor : Option Text) → IsAnchor anchor → all_scalars (anchor_text anchor) ≡ true
-anchor_scalars None is = refl
-anchor_scalars (Some name) is = joined_scalars name (space ∷ []) (name_scalars _ _ name is) refl
+anchor_scalars anchor h1 = grind (arith, joined_scalars, space, name_scalars)
 
 suffix_scalars : (text : Text) → all_scalars (suffix_escaped false text) ≡ true
 suffix_scalars text = all_pass stands_written scalar written_scalar (suffix_escaped false text) (suffix_stands false text)
@@ -60,33 +58,17 @@ properties_scalars anchor tag bare is = joined_scalars (anchor_text anchor) (tag
 
 -- ---- the text around a node
 
-line_scalars : (column : ℕ) (rest : Text) → all_scalars rest ≡ true → all_scalars (line_at column ++ rest) ≡ true
-line_scalars column rest h = joined_scalars (line_at column) rest (spaces_scalars column) h
-
 lead_scalars : (levels : List Pending) → all_scalars (lead_text levels) ≡ true
-lead_scalars [] = refl
-lead_scalars (item_awaited empty ∷ outer) = spaces_scalars (length (item_awaited empty ∷ outer) * 2)
-lead_scalars (key_awaited empty ∷ outer) = line_scalars (length (key_awaited empty ∷ outer) * 2) (codes "? ") refl
-lead_scalars (value_awaited ∷ outer) = line_scalars (length (value_awaited ∷ outer) * 2) (codes ": ") refl
+lead_scalars levels = grind (arith, spaces_scalars, length, item_awaited, line_scalars, key_awaited, codes, value_awaited)
 
 trail_scalars : (levels : List Pending) → all_scalars (trail_text levels) ≡ true
-trail_scalars [] = refl
-trail_scalars (item_awaited empty ∷ outer) = refl
-trail_scalars (key_awaited empty ∷ outer) = refl
-trail_scalars (value_awaited ∷ outer) = refl
-
-end_scalars : (column : ℕ) (empty : Bool) (bracket : Text) → all_scalars bracket ≡ true → all_scalars (closing_line column empty ++ bracket) ≡ true
-end_scalars column true bracket h = h
-end_scalars column false bracket h = line_scalars column bracket h
+trail_scalars levels = grind arith
 
 closing_scalars : (levels : List Pending) → all_scalars (closing_text levels) ≡ true
-closing_scalars (item_awaited empty ∷ outer) = end_scalars (length outer * 2) empty (codes "]") refl
-closing_scalars (key_awaited empty ∷ outer) = end_scalars (length outer * 2) empty (codes "}") refl
-closing_scalars _ = refl
+closing_scalars levels = grind (arith, end_scalars, length, codes)
 
 between : (levels : List Pending) (text : Text) → all_scalars text ≡ true → all_scalars (lead_text levels ++ (text ++ trail_text levels)) ≡ true
-between levels text h =
-    joined_scalars (lead_text levels) (text ++ trail_text levels) (lead_scalars levels) (joined_scalars text (trail_text levels) h (trail_scalars levels))
+between levels text h = grind (arith, joined_scalars, lead_text, trail_text, lead_scalars, trail_scalars)
 
 behind_end : (levels : List Pending) → all_scalars (closing_text levels ++ trail_text (outside levels)) ≡ true
 behind_end levels = joined_scalars (closing_text levels) (trail_text (outside levels)) (closing_scalars levels) (trail_scalars (outside levels))

@@ -1,7 +1,6 @@
 -- A run has one text, and goes by no style.
-use Rattle.yaml_base.proofs.Common.{Option, List, [], ◌∷◌, ◌++◌, ◌≡◌, append-nil, ap, sym, ◌∙◌, arith, map, unwrap_or, Text, Event}
-use Rattle.yaml_base.proofs.Unstyled.{unstyled}
-use Rattle.yaml_read.specs.EventTexts.{Pending, HasRunText, event_text, may_come, more_come, next_open, root_ends}
+use Rattle.yaml_read.proofs.Common.{List, [], ◌∷◌, ◌++◌, ◌≡◌, append-nil, ap, sym, ◌∙◌, arith, map, unwrap_or, Text, Event, unstyled, Pending, HasRunText}
+use Rattle.yaml_read.proofs.Common.{event_text, may_come, more_come, next_open, root_ends}
 
 -- ---- one text
 

@@ -1,20 +1,18 @@
 -- A readable value's text consists of Unicode scalar values, so its bytes are UTF-8.
-use Rattle.yaml_base.proofs.Common.{ℕ, ◌+◌, ◌%◌, ◌/◌, ◌<◌, ◌==◌, suc, zero, Bool, true, false, Some, List, [], ◌∷◌, ◌++◌, refl, ◌≡◌, ap, sym, ◌∙◌, arith, codes}
-use Rattle.yaml_base.proofs.Common.{space, line_feed, Text, replicate, all_scalars, encode_utf8_all, and_parts, and_from, agree_below_at, hex_digit, hex_digits}
-use Rattle.yaml_base.proofs.Common.{character_text, flat_map, if◌then◌else◌, chars-IsAscii, eqb-true}
-use Rattle.yaml_base.specs.values.TypedValues.{TypedValue, null_value, bool_value, int_value, text_value, list_value, map_value, TypedValues, no_values}
-use Rattle.yaml_base.specs.values.TypedValues.{values_and, TypedPairs, no_value_pairs, value_pairs_and}
-use Rattle.yaml_base.specs.values.ValueText.{line_at, value_text, items_text, pairs_text, entry_lead, entries_end, has_no_values, has_no_value_pairs}
-use Rattle.yaml_base.specs.values.ValueText.{document_text, in_quotes}
-use Rattle.yaml_base.{specs.Seen.seen_text, specs.reading.ReadDouble.meaning_among, specs.scalars.DoubleQuoted.quote}
-use Rattle.std.specs.Prelude.{ℤ, ◌^◌, Result, Ok, Err, String}
-use Rattle.std.proofs.lemmas.Str.{scalars-chars, IsUtf8-from_ascii, encodes-chars, encodes-IsAscii, IsUtf8-string_bytes}
-use Rattle.std.{specs.Fmt.signed_decimal, specs.Int.Signed.mag, specs.Str.IsUtf8, proofs.lemmas.Fmt.IsAscii-signed, proofs.lemmas.Fmt.parse-signed_decimal}
-use Rattle.std.{proofs.Common.FitsSigned, proofs.Common.w64, proofs.Common.pos, proofs.Common.negsuc, specs.Str.Parse.ParsesSigned, specs.String.string_bytes}
+use Rattle.yaml_read.proofs.Common.{ℕ, ◌+◌, ◌%◌, ◌/◌, ◌<◌, ◌==◌, suc, zero, Bool, true, false, Some, List, [], ◌∷◌, ◌++◌, refl, ◌≡◌, ap, sym, ◌∙◌, arith, codes}
+use Rattle.yaml_read.proofs.Common.{space, line_feed, Text, replicate, all_scalars, encode_utf8_all, and_parts, and_from, agree_below_at, hex_digit, hex_digits}
+use Rattle.yaml_read.proofs.Common.{character_text, flat_map, if◌then◌else◌, chars-IsAscii, eqb-true, TypedValue, null_value, bool_value, int_value, text_value}
+use Rattle.yaml_read.proofs.Common.{list_value, map_value, TypedValues, no_values, values_and, TypedPairs, no_value_pairs, value_pairs_and, line_at, value_text}
+use Rattle.yaml_read.proofs.Common.{closing_line, node_pairs_text, nodes_text, value_nodes, value_pairs, document_text, in_quotes, seen_text, meaning_among}
+use Rattle.yaml_read.proofs.Common.{quote, ℤ, ◌^◌, Result, Ok, Err, String, scalars-chars, IsUtf8-from_ascii, encodes-chars, IsUtf8-string_bytes}
+use Rattle.yaml_read.proofs.Common.{signed_decimal, mag, IsUtf8, IsAscii-signed, parse-signed_decimal, FitsSigned, w64, pos, negsuc, ParsesSigned, string_bytes}
+use Rattle.yaml_read.proofs.Common.{CanBeRead, CanBeReadAt, AllCanBeReadAt, PairsCanBeReadAt}
 use lib.Utf8.{scalar}
-use Rattle.yaml_read.specs.Readable.{CanBeRead, CanBeReadAt, AllCanBeReadAt, PairsCanBeReadAt}
 use Rattle.yaml_read.proofs.Firsts.{AfterBackslash, by_letter, by_two, by_four, after_backslash}
-use Rattle.yaml_read.{proofs.Escapes.Stands, proofs.Escapes.as_itself, proofs.Escapes.as_escape, proofs.Escapes.stands, proofs.Remaining.readable_root}
+use Rattle.yaml_read.proofs.Escapes.{Stands, as_itself, as_escape, stands}
+use Rattle.yaml_base.proofs.Common.{has_no_nodes, has_no_pairs}
+use Rattle.std.proofs.lemmas.Str.{encodes-IsAscii}
+use Rattle.yaml_read.proofs.Remaining.{readable_root}
 
 pub joined_scalars : (a b : Text) → all_scalars a ≡ true → all_scalars b ≡ true → all_scalars (a ++ b) ≡ true
 joined_scalars [] b ha hb = hb
@@ -36,8 +34,6 @@ digits_scalars (suc count) n = grind (arith, joined_scalars, hex_digits, hex_dig
 
 meaning_scalar : (letters meanings : Text) (c meaning : ℕ) → all_scalars letters ≡ true → meaning_among letters meanings c ≡ Some meaning
     → scalar c ≡ true
-meaning_scalar [] meanings c meaning h is = cc
-meaning_scalar (letter ∷ letters) [] c meaning h is = cc
 meaning_scalar (letter ∷ letters) (m ∷ meanings) c meaning h is =
     let parts : (scalar letter ≡ true) × (all_scalars letters ≡ true) = and_parts (scalar letter) (all_scalars letters) h in
     first letter letters meanings c m meaning parts.0 (meaning_scalar letters meanings c meaning parts.1) (c == letter) refl is
@@ -47,6 +43,7 @@ meaning_scalar (letter ∷ letters) (m ∷ meanings) c meaning h is =
         → (if b then Some m else meaning_among letters meanings c) ≡ Some meaning → scalar c ≡ true
     first letter letters meanings c m meaning fits more true same found = ap scalar (eqb-true c letter same) ∙ fits
     first letter letters meanings c m meaning fits more false other found = more found
+meaning_scalar _ _ c meaning h is = cc
 
 escape_scalars : (c : ℕ) (text : Text) → AfterBackslash c text → all_scalars text ≡ true
 escape_scalars c text (by_letter letter means) = one letter (meaning_scalar (codes "0abtnvfre\"\\N_LP ")
@@ -76,14 +73,12 @@ int_scalars n few =
     let ascii = IsAscii-signed n few in
     ap all_scalars (sym (chars-IsAscii (signed_decimal n) ascii)) ∙ scalars-chars (signed_decimal n) (IsUtf8-from_ascii (signed_decimal n) ascii)
 
-lead_scalars : (bracket : Text) (first : Bool) → all_scalars bracket ≡ true → all_scalars (entry_lead bracket first) ≡ true
-lead_scalars bracket true h = h
-lead_scalars bracket false h = refl
+-- a line, and the end of a list or a map
+pub line_scalars : (column : ℕ) (rest : Text) → all_scalars rest ≡ true → all_scalars (line_at column ++ rest) ≡ true
+line_scalars column rest h = joined_scalars (line_at column) rest (spaces_scalars column) h
 
-end_scalars : (opens closes : Text) (column : ℕ) (empty : Bool) → all_scalars opens ≡ true → all_scalars closes ≡ true
-    → all_scalars (entries_end opens closes column empty) ≡ true
-end_scalars opens closes column true ho hc = joined_scalars opens closes ho hc
-end_scalars opens closes column false ho hc = joined_scalars (line_at column) closes (spaces_scalars column) hc
+pub end_scalars : (column : ℕ) (empty : Bool) (bracket : Text) → all_scalars bracket ≡ true → all_scalars (closing_line column empty ++ bracket) ≡ true
+end_scalars column empty bracket h1 = grind (arith, line_scalars)
 
 mutual
   value_scalars : (value : TypedValue) (column depth : ℕ) → CanBeReadAt depth value → all_scalars (value_text column value) ≡ true
@@ -93,29 +88,29 @@ mutual
   value_scalars (int_value n) column depth readable = quotes_scalars (signed_decimal n) (int_scalars n readable)
   value_scalars (text_value text) column depth readable = quotes_scalars text readable
   value_scalars (list_value items) column depth readable =
-      joined_scalars (items_text (column + 2) items) _ (items_scalars items (column + 2) (suc depth) readable.1)
-      (end_scalars (codes "[") (codes "]") column (has_no_values items) refl refl)
+      joined_scalars (nodes_text (column + 2) (value_nodes items)) _ (items_scalars items (column + 2) (suc depth) readable.1)
+      (end_scalars column (has_no_nodes (value_nodes items)) (codes "]") refl)
   value_scalars (map_value pairs) column depth readable =
-      joined_scalars (pairs_text (column + 2) pairs) _ (pairs_scalars pairs (column + 2) (suc depth) readable.1)
-      (end_scalars (codes "{") (codes "}") column (has_no_value_pairs pairs) refl refl)
+      joined_scalars (node_pairs_text (column + 2) (value_pairs pairs)) _ (pairs_scalars pairs (column + 2) (suc depth) readable.1)
+      (end_scalars column (has_no_pairs (value_pairs pairs)) (codes "}") refl)
 
-  items_scalars : (items : TypedValues) (column depth : ℕ) → AllCanBeReadAt depth items → all_scalars (items_text column items) ≡ true
+  items_scalars : (items : TypedValues) (column depth : ℕ) → AllCanBeReadAt depth items → all_scalars (nodes_text column (value_nodes items)) ≡ true
   items_scalars no_values column depth readable = refl
   items_scalars (values_and items item) column depth readable =
-      joined_scalars (items_text column items) _ (items_scalars items column depth readable.0)
-      (joined_scalars (entry_lead (codes "[") (has_no_values items)) _ (lead_scalars (codes "[") (has_no_values items) refl)
-      (joined_scalars (line_at column) (value_text column item) (spaces_scalars column) (value_scalars item column depth readable.1)))
+      joined_scalars (nodes_text column (value_nodes items)) _ (items_scalars items column depth readable.0)
+      (line_scalars column (value_text column item ++ codes ",")
+      (joined_scalars (value_text column item) (codes ",") (value_scalars item column depth readable.1) refl))
 
-  pairs_scalars : (pairs : TypedPairs) (column depth : ℕ) → PairsCanBeReadAt depth pairs → all_scalars (pairs_text column pairs) ≡ true
+  pairs_scalars : (pairs : TypedPairs) (column depth : ℕ) → PairsCanBeReadAt depth pairs → all_scalars (node_pairs_text column (value_pairs pairs)) ≡ true
   pairs_scalars no_value_pairs column depth readable = refl
   pairs_scalars (value_pairs_and pairs key value) column depth readable =
-      joined_scalars (pairs_text column pairs) _ (pairs_scalars pairs column depth readable.0)
-      (joined_scalars (entry_lead (codes "{") (has_no_value_pairs pairs)) _ (lead_scalars (codes "{") (has_no_value_pairs pairs) refl)
-      (joined_scalars (line_at column) _ (spaces_scalars column)
-      (joined_scalars (codes "? ") (value_text column key ++ (line_at column ++ (codes ": " ++ value_text column value))) refl
-      (joined_scalars (value_text column key) (line_at column ++ (codes ": " ++ value_text column value)) (value_scalars key column depth readable.1.0)
-      (joined_scalars (line_at column) (codes ": " ++ value_text column value) (spaces_scalars column)
-      (joined_scalars (codes ": ") (value_text column value) refl (value_scalars value column depth readable.1.1)))))))
+      let of_value = value_text column value ++ codes "," in
+      let of_key = value_text column key ++ (line_at column ++ (codes ": " ++ of_value)) in
+      joined_scalars (node_pairs_text column (value_pairs pairs)) _ (pairs_scalars pairs column depth readable.0)
+      (line_scalars column (codes "? " ++ of_key)
+      (joined_scalars (value_text column key) _ (value_scalars key column depth readable.1.0)
+      (line_scalars column (codes ": " ++ of_value)
+      (joined_scalars (value_text column value) (codes ",") (value_scalars value column depth readable.1.1) refl))))
 
 -- a document's bytes are UTF-8
 pub document_utf8 : (value : TypedValue) → CanBeRead value → IsUtf8 (encode_utf8_all (document_text value))
@@ -130,13 +125,7 @@ digits_are digits n few is =
     ∙ encodes-IsAscii (signed_decimal n) (IsAscii-signed n few)
 
 pub fits_signed : (n : ℤ) → mag n < 2 ^ 63 → FitsSigned w64 n
-fits_signed (pos n) few = omega (arith, few)
-fits_signed (negsuc n) few = omega (arith, few)
-
-pub parsed : {A E : Type 0} (digits : String A) (n value : ℤ) (bytes : List ℕ) (answer : Result ℤ E) → mag n < 2 ^ 63
-    → seen_text digits ≡ signed_decimal n → bytes ≡ string_bytes digits → ParsesSigned w64 10 bytes answer → answer ≡ Ok n
-parsed digits n value bytes answer few is read parses =
-    parse-signed_decimal w64 n bytes answer (fits_signed n few) few (read ∙ digits_are digits n few is) parses
+fits_signed _ few = omega (arith, few)
 
 pub not_parsed : {E : Type 0} (n : ℤ) (error : E) (answer : Result ℤ E) → answer ≡ Ok n → answer ≡ Err error → ⊥
 not_parsed n error answer is also = cc

@@ -1,21 +1,14 @@
 -- Levels of a program as they are seen.
-use Rattle.yaml_base.proofs.Common.{ℕ, ◌+◌, suc, List, [], ◌∷◌, ◌++◌, ◌≡◌, ap, ◌∙◌, arith, length, length-append}
-use Rattle.yaml_value.specs.OpenLevels.{OpenLevel, onto, seen_level, seen_levels}
-use Rattle.yaml_value.specs.declared.levels.Level.{Level}
-use Rattle.yaml_value.proofs.SeenLevels.{level_more}
+use Rattle.yaml_read.proofs.Common.{ℕ, ◌+◌, suc, List, [], ◌∷◌, ◌++◌, ◌≡◌, ap, ◌∙◌, arith, length, length-append, OpenLevel, seen_level, seen_levels, Level}
+use Rattle.yaml_read.proofs.Common.{level_more}
+use Rattle.yaml_value.specs.OpenLevels.{onto}
 
 onto_length : {A : Type 0} (outer : List OpenLevel) (levels : List (Level A)) → length (onto outer levels) ≡ length outer + length levels
 onto_length outer [] = omega arith
-onto_length outer (first ∷ levels) = onto_length (seen_level first ∷ outer) levels ∙ one (length outer) (length levels)
-  where
-    one : (a b : ℕ) → suc a + b ≡ a + suc b
-    one a b = omega arith
+onto_length outer (first ∷ levels) = grind (arith, seen_level, length, suc, onto_length (seen_level first ∷ outer) levels)
 
 pub levels_length : {A : Type 0} (levels : List (Level A)) → length (seen_levels levels) ≡ length levels
-levels_length levels = onto_length [] levels ∙ zero_add (length levels)
-  where
-    zero_add : (n : ℕ) → 0 + n ≡ n
-    zero_add n = omega arith
+levels_length levels = grind (arith, onto_length, length)
 
 -- a level was pushed
 pub pushed_on : {A : Type 0} (level : Level A) (old new : List (Level A)) → new ≡ old ++ level ∷ []

@@ -1,10 +1,7 @@
 -- The levels that a value ends, as a program takes them off its list.
-use Rattle.yaml_base.proofs.Common.{List, [], ◌∷◌, ◌++◌, ◌≡◌, ◌∙◌, ap, subst}
-use Rattle.yaml_base.specs.values.TypedValues.{TypedValue}
-use Rattle.yaml_value.specs.OpenLevels.{OpenLevel, seen_level, seen_levels, with_value}
-use Rattle.yaml_value.specs.declared.levels.Level.{Level}
-use Rattle.yaml_value.proofs.SeenLevels.{level_more}
-use Rattle.yaml_read.specs.Settled.{Ended, Took, closed_value, one_ended}
+use Rattle.yaml_read.proofs.Common.{List, [], ◌∷◌, ◌++◌, ◌≡◌, ◌∙◌, ap, subst, TypedValue, OpenLevel, seen_level, seen_levels, with_value, Level, level_more}
+use Rattle.yaml_read.proofs.Common.{Ended, closed_value, one_ended}
+use Rattle.yaml_read.specs.Settled.{Took}
 
 -- the innermost was taken off
 pub off : {A : Type 0} (before : List OpenLevel) (first value : TypedValue) (old new : List (Level A)) (level : Level A)

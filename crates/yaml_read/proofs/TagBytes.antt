@@ -1,15 +1,14 @@
 -- The bytes of written tags.
-use Rattle.yaml_base.proofs.Common.{ℕ, false, nat_tests, and_parts, and_from, append-nil, not-true, ltb-true, flat_map, or_parts, hex_digit, hex_digits, length}
-use Rattle.yaml_base.proofs.Common.{◌%◌, ◌/◌, ◌<◌, ◌==◌, Bool, true, ◌&&◌, ◌||◌, List, [], ◌∷◌, ◌++◌, refl, ◌≡◌, ap, sym, ◌∙◌, arith, chars, Text}
-use Rattle.yaml_base.proofs.Common.{true≢false, append_assoc, chars-encodes, scalar_cases, encode_utf8, all_scalars, byte_escaped, percent_sign, length-append}
-use Rattle.yaml_base.proofs.Common.{agree_below_at, if◌then◌else◌, nat_lt, list_all-append, encode_utf8_all, is_tag_character, percent_escaped, flat_map-append}
-use Rattle.yaml_base.proofs.PercentLaws.{are_bytes, encode_is_bytes, escaped_stands, stands_written}
-use Rattle.yaml_base.{proofs.AllPass.all_pass, specs.reading.ReadDouble.digit_meaning}
-use Rattle.std.proofs.Common.{⊎_elim, String, Vec, string_bytes, IsUtf8}
-use Rattle.std.{proofs.lemmas.Option.same_Some, proofs.lemmas.Str.encode_same, proofs.lemmas.Str.encode_ascii, specs.String.string_vec}
+use Rattle.yaml_read.proofs.Common.{ℕ, false, nat_tests, and_parts, and_from, append-nil, not-true, ltb-true, flat_map, or_parts, hex_digit, hex_digits, length}
+use Rattle.yaml_read.proofs.Common.{◌%◌, ◌/◌, ◌<◌, ◌==◌, Bool, true, ◌&&◌, ◌||◌, List, [], ◌∷◌, ◌++◌, refl, ◌≡◌, ap, sym, ◌∙◌, arith, chars, Text, true≢false}
+use Rattle.yaml_read.proofs.Common.{append_assoc, chars-encodes, scalar_cases, encode_utf8, all_scalars, length-append, agree_below_at, if◌then◌else◌, nat_lt}
+use Rattle.yaml_read.proofs.Common.{list_all-append, encode_utf8_all, is_tag_character, percent_escaped, flat_map-append, are_bytes, escaped_stands}
+use Rattle.yaml_read.proofs.Common.{stands_written, all_pass, digit_meaning, String, Vec, string_bytes, IsUtf8, same_Some, encode_same, encode_ascii}
+use Rattle.yaml_read.proofs.Common.{string_vec, byte_in_tag, ends_tag}
 use lib.Utf8.{scalar}
+use Rattle.yaml_base.{proofs.Common.byte_escaped, proofs.Common.percent_sign, proofs.PercentLaws.encode_is_bytes}
+use Rattle.std.proofs.Common.{⊎_elim}
 use Rattle.yaml_mark.proofs.EscapingLemmas.{escaped_by_bytes}
-use Rattle.yaml_read.specs.WrittenTags.{byte_in_tag, ends_tag}
 use Rattle.yaml_read.proofs.{HeadsRead.word_bytes, Encoded.are_ascii, Encoded.word_encoded, Escapes.digit_reads, Firsts.first_is, Firsts.not_empty}
 
 -- ---- ASCII
@@ -18,11 +17,7 @@ pub tag_character_is_ascii : (c : ℕ) → is_tag_character c ≡ true → nat_l
 tag_character_is_ascii c h = grind (arith, nat_tests)
 
 stands_is_ascii : (c : ℕ) → stands_written c ≡ true → nat_lt c 128 ≡ true
-stands_is_ascii c h = by (is_tag_character c) refl h
-  where
-    by : (b : Bool) → is_tag_character c ≡ b → (b || c == percent_sign) ≡ true → nat_lt c 128 ≡ true
-    by true e h = tag_character_is_ascii c e
-    by false e h = grind (arith, nat_tests)
+stands_is_ascii c h = grind (arith, is_tag_character, percent_sign, true, nat_lt, tag_character_is_ascii, false, nat_tests)
 
 -- percent forms are ASCII
 pub escaped_ascii : (text : Text) → are_ascii (percent_escaped text) ≡ true
@@ -41,8 +36,7 @@ byte_ascii b = by (is_tag_character b) refl
 
 pub bytes_ascii : (bs : List ℕ) → are_ascii (flat_map byte_in_tag bs) ≡ true
 bytes_ascii [] = refl
-bytes_ascii (b ∷ bs) =
-    list_all-append (λ c. nat_lt c 128) (byte_in_tag b) (flat_map byte_in_tag bs) ∙ and_from _ _ (byte_ascii b) (bytes_ascii bs)
+bytes_ascii (b ∷ bs) = grind (arith, list_all-append, nat_lt, byte_in_tag, flat_map, and_from, byte_ascii, bytes_ascii bs)
 
 -- ---- a text's bytes
 
@@ -67,14 +61,12 @@ pub byte_more : (text now after bytes more : List ℕ) (byte : ℕ) → more ≡
 byte_more text now after bytes more byte are is next = grind (arith, flat_map, append_assoc, flat_map-append, append-nil)
 
 pub bytes_more : (bytes more : List ℕ) (byte : ℕ) → more ≡ bytes ++ byte ∷ [] → are_bytes bytes ≡ true → byte < 256 → are_bytes more ≡ true
-bytes_more bytes more byte are small below =
-    ap are_bytes are ∙ list_all-append (λ b. nat_lt b 256) bytes (byte ∷ []) ∙ and_from _ _ small (and_from _ _ (grind (arith, nat_tests)) refl)
+bytes_more bytes more byte are small below = grind (arith, are_bytes, list_all-append, nat_lt, and_from, nat_tests)
 
 -- ---- one byte is written in one way
 
 same_digit : (n m : ℕ) → hex_digit (n % 16) ≡ hex_digit (m % 16) → n % 16 ≡ m % 16
-same_digit n m is =
-    same_Some (n % 16) (m % 16) (sym (digit_reads (n % 16) (omega arith)) ∙ ap digit_meaning is ∙ digit_reads (m % 16) (omega arith))
+same_digit n m is = grind (arith, same_Some, digit_reads, digit_meaning)
 
 -- lists that are the same begin alike
 pub same_first : (a b : ℕ) (x y : List ℕ) → a ∷ x ≡ b ∷ y → (a ≡ b) × (x ≡ y)
@@ -102,11 +94,7 @@ byte_first b d x y few also is = by (is_tag_character b) (is_tag_character d) re
 
 -- none begins what ends a tag
 pub over : (rest : Text) (b : ℕ) (x : List ℕ) → ends_tag rest ≡ true → encode_utf8_all rest ≡ byte_in_tag b ++ x → ⊥
-over [] b x ends is = by (is_tag_character b) is
-  where
-    by : (s : Bool) → [] ≡ (if s then b ∷ [] else byte_escaped b) ++ x → ⊥
-    by true is = cc
-    by false is = cc
+over [] b x ends is = grind (arith, is_tag_character, byte_escaped, true, false)
 over (c ∷ rest) b x ends is = by (is_tag_character b) refl is
   where
     neither : ((is_tag_character c ≡ false) × ((c == percent_sign) ≡ false))

@@ -1,12 +1,10 @@
 -- Bytes of a tag after its prefix, as they are read.
-use Rattle.yaml_base.proofs.Common.{ℕ, ◌<◌, true, List, [], ◌∷◌, ◌++◌, refl, ◌≡◌, ap, subst, sym, ◌∙◌, append-nil, append_assoc, chars, chars-encodes}
-use Rattle.yaml_base.proofs.Common.{flat_map, Text, encode_utf8_all, all_scalars, percent_escaped}
-use Rattle.yaml_base.{proofs.PercentLaws.are_bytes, proofs.AsciiWords.ascii_of, specs.Seen.seen_text}
-use Rattle.std.proofs.lemmas.Str.{IsUtf8-from_ascii, IsUtf8-string_bytes, IsUtf8-append}
-use Rattle.std.{specs.Prelude.String, specs.Prelude.Vec, specs.Str.IsUtf8, specs.String.string_vec}
+use Rattle.yaml_read.proofs.Common.{ℕ, ◌<◌, true, List, [], ◌∷◌, ◌++◌, refl, ◌≡◌, ap, subst, sym, ◌∙◌, append-nil, append_assoc, chars, chars-encodes, flat_map}
+use Rattle.yaml_read.proofs.Common.{Text, encode_utf8_all, all_scalars, percent_escaped, are_bytes, ascii_of, seen_text, IsUtf8-from_ascii, IsUtf8-string_bytes}
+use Rattle.yaml_read.proofs.Common.{String, Vec, IsUtf8, string_vec, byte_in_tag, ends_tag, arith}
 use Rattle.yaml_read.proofs.TagBytes.{all_unread, byte_more, bytes_escaped, bytes_more, bytes_of}
-use Rattle.yaml_read.{proofs.Encoded.are_ascii, proofs.TagTexts.chars_behind, proofs.TagTexts.utf8_behind, specs.WrittenTags.byte_in_tag}
-use Rattle.yaml_read.{specs.WrittenTags.ends_tag}
+use Rattle.std.proofs.lemmas.Str.{IsUtf8-append}
+use Rattle.yaml_read.proofs.{Encoded.are_ascii, TagTexts.chars_behind, TagTexts.utf8_behind}
 
 pub record WordSoFar (prefix text items rest : List ℕ) : Type 0 where
   pub word : List ℕ
@@ -41,8 +39,7 @@ word_utf8 prefix items word ascii scalars is =
 
 pub word_seen : {A : Type 0} (found : String A) (bytes : Vec ℕ A) (prefix : List ℕ) (word : Text) → are_ascii prefix ≡ true → all_scalars word ≡ true
     → string_vec found ≡ bytes → bytes.items ≡ prefix ++ encode_utf8_all word → seen_text found ≡ prefix ++ word
-word_seen found bytes prefix word ascii scalars same is =
-    ap chars (bytes_of found bytes same ∙ is) ∙ chars_behind prefix (encode_utf8_all word) ascii ∙ ap (λ t. prefix ++ t) (chars-encodes word scalars)
+word_seen found bytes prefix word ascii scalars same is = grind (arith, chars, bytes_of, chars_behind, encode_utf8_all, chars-encodes)
 
 pub word_sound : {A : Type 0} (found : String A) (bytes : Vec ℕ A) (prefix text rest : List ℕ) → are_ascii prefix ≡ true → string_vec found ≡ bytes
     → WordSoFar prefix text bytes.items rest → (word : Text) × (seen_text found ≡ prefix ++ word) × (text ≡ percent_escaped word ++ rest)

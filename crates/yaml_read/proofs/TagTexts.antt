@@ -46,8 +46,7 @@ is_spelled (c ∷ tail) sound = by (behind (codes "!") (c ∷ tail)) (behind typ
 -- ---- a tag that was read is written so
 
 none_is : (o : Option Text) → not (is_some o) ≡ true → o ≡ None
-none_is None h = refl
-none_is (Some t) h = absurd (true≢false (sym h))
+none_is o h1 = grind (arith, true≢false)
 
 pub verbatim_is : (tag : Text) → stays_verbatim tag ≡ true → (tag_fault tag ≡ None) × (tag_text (Some tag) false ≡ verbatim_text tag)
 verbatim_is [] h = absurd (true≢false (sym h))
@@ -74,8 +73,7 @@ document_is (c ∷ suffix) some = (refl, refl)
 
 -- a tag's text ends in ASCII
 ends_ascii : (suffix end : Text) → are_ascii end ≡ true → are_ascii (percent_escaped suffix ++ end) ≡ true
-ends_ascii suffix end h =
-    list_all-append (λ c. nat_lt c 128) (percent_escaped suffix) end ∙ and_from _ _ (escaped_ascii suffix) h
+ends_ascii suffix end h = grind (arith, list_all-append, nat_lt, percent_escaped, and_from, escaped_ascii)
 
 pub verbatim_bytes : (tag : Text) → encode_utf8_all (verbatim_text tag) ≡ verbatim_text tag
 verbatim_bytes tag = word_bytes (verbatim_text tag) (ends_ascii tag (codes "> ") refl)
@@ -255,12 +253,10 @@ stays_not text none utf8 = by (chars text) (some_text text utf8)
 
 -- by whether there is a prefix
 pub spelled_whole : (prefix tag : Text) → (length prefix == 0) ≡ true → is_spelled_by prefix tag ≡ stays_verbatim tag
-spelled_whole [] tag none = refl
-spelled_whole (p ∷ prefix) tag none = absurd (omega (arith, eqb-true (length (p ∷ prefix)) 0 none))
+spelled_whole prefix tag h1 = grind (arith, eqb-true, length)
 
 pub spelled_behind : (prefix tag : Text) → (length prefix == 0) ≡ false → is_spelled_by prefix tag ≡ is_some (behind prefix tag)
-spelled_behind [] tag some = absurd (true≢false some)
-spelled_behind (p ∷ prefix) tag some = refl
+spelled_behind prefix tag h1 = grind (arith, true≢false)
 
 -- ---- tags that were read
 
@@ -301,8 +297,7 @@ document_sound tag suffix text inside rest cut some same read =
 
 -- the facts about a handle: the word that ends its tag is ASCII, and no tag goes on with that
 pub end_ascii : (text prefix end inside : List ℕ) → OpensTag text prefix end inside → are_ascii end ≡ true
-end_ascii text _ _ inside (opens_whole _ cut) = refl
-end_ascii text _ _ inside _ = refl
+end_ascii text prefix end inside h1 = grind arith
 
 pub end_ends : (text prefix end inside rest : List ℕ) → OpensTag text prefix end inside → ends_tag (end ++ rest) ≡ true
 end_ends text _ _ inside rest (opens_whole _ cut) = refl
@@ -310,15 +305,10 @@ end_ends text _ _ inside rest _ = refl
 
 -- a tag that goes on from a prefix
 goes_behind : (prefix tag suffix : Text) → prefix ++ suffix ≡ tag → 0 < length suffix → is_some (behind prefix tag) ≡ true
-goes_behind prefix tag [] is some = absurd (omega (arith, some))
-goes_behind prefix tag (c ∷ suffix) is some = ap (λ t. is_some (behind prefix t)) (sym is) ∙ ap is_some (behind_prefix prefix (c ∷ suffix))
+goes_behind prefix tag suffix h1 h2 = grind (arith, is_some, behind, behind_prefix)
 
 suffix_some : (prefix tag suffix : Text) → tag ≡ prefix ++ suffix → is_some (behind prefix tag) ≡ true → 0 < length suffix
-suffix_some prefix tag suffix is goes = by suffix (sym (ap is_some (behind_prefix prefix suffix)) ∙ ap (λ t. is_some (behind prefix t)) (sym is) ∙ goes)
-  where
-    by : (suffix : Text) → is_some (behind [] suffix) ≡ true → 0 < length suffix
-    by [] goes = absurd (true≢false (sym goes))
-    by (c ∷ suffix) goes = omega arith
+suffix_some prefix tag suffix is goes = grind (arith, is_some, behind_prefix, behind, true, length, true≢false)
 
 -- a tag if its handle is there
 pub record IsWordAt (prefix end tag rest : Text) (inside : List ℕ) : Type 0 where

@@ -1,20 +1,10 @@
 -- The text after a value that a list or a map took.
-use Rattle.yaml_base.proofs.Common.{ℕ, ◌*◌, List, ◌∷◌, ◌++◌, ◌≡◌, ◌∙◌, ap, append_assoc, codes, subst, sym}
-use Rattle.std.specs.Prelude.{Ok, Err}
-use Rattle.std.specs.Borrow.{Bor}
-use Rattle.yaml_base.specs.values.TypedValues.{TypedValue}
-use Rattle.yaml_base.specs.values.ValueText.{line_at}
-use Rattle.yaml_value.specs.OpenLevels.{OpenLevel, items_open, pairs_open, seen_level, value_due, with_value}
-use Rattle.yaml_value.specs.{SeenValues.seen_value, declared.levels.Level.Level, declared.value.Value.Value}
-use Rattle.yaml_read.specs.Opened.{HasRead, IsOpen}
-use Rattle.yaml_read.specs.Remaining.{IsDue, IsRead}
-use Rattle.yaml_read.specs.Stepped.{BehindRead, ValueTaken, closed_value}
-use Rattle.yaml_read.specs.declared.errors.Stop.{Stop}
-use Rattle.yaml_read.specs.declared.levels.Entry.TheVariants.{Another, End}
-use Rattle.yaml_read.specs.declared.levels.Turn.TheVariants.{Continues, Ends}
+use Rattle.yaml_read.proofs.Common.{ℕ, ◌*◌, List, ◌∷◌, ◌++◌, ◌≡◌, ◌∙◌, ap, append_assoc, codes, subst, sym, Ok, Err, Bor, TypedValue, line_at, OpenLevel}
+use Rattle.yaml_read.proofs.Common.{items_open, pairs_open, seen_level, value_due, with_value, seen_value, Level, Value, HasRead, IsOpen, BehindRead}
+use Rattle.yaml_read.proofs.Common.{closed_value, Stop, Another, End}
 use Rattle.yaml_read.proofs.Opening.{item_on, item_out, key_on, pair_on, pair_out}
-use Rattle.yaml_read.proofs.Turns.{cut_is, item_reached, key_bytes, key_ends, pair_reached}
-use Rattle.yaml_read.proofs.{Entries.lead_breaks, Words.no_word}
+use Rattle.yaml_read.{specs.Stepped.ValueTaken, specs.declared.levels.Turn.TheVariants.Continues, specs.declared.levels.Turn.TheVariants.Ends}
+use Rattle.yaml_read.proofs.Entries.{lead_breaks}
 
 -- it goes on
 taken_on : {A : Type 0} (depth : ℕ) (level : OpenLevel) (value : TypedValue) (more : Level A) (text : List ℕ) (rest : Bor (List ℕ))
@@ -22,9 +12,6 @@ taken_on : {A : Type 0} (depth : ℕ) (level : OpenLevel) (value : TypedValue) (
     → ValueTaken depth level value text (Ok (Continues more rest))
 taken_on depth (items_open items) value more text rest is found =
     record {
-      reached = λ root levels at read.
-          subst (λ (l : OpenLevel). IsDue root (l ∷ levels) rest.now) (sym is)
-          (item_reached root levels items value depth text (Ok (Another rest)) at read found.found);
       read = λ whole levels at read.
           subst (λ (l : OpenLevel). IsOpen whole (l ∷ levels) rest.now) (sym is)
           (item_on whole levels items value text rest.now read
@@ -35,9 +22,6 @@ taken_on depth (items_open items) value more text rest is found =
     }
 taken_on depth (value_due pairs key) value more text rest is found =
     record {
-      reached = λ root levels at read.
-          subst (λ (l : OpenLevel). IsDue root (l ∷ levels) rest.now) (sym is)
-          (pair_reached root levels pairs key value depth text (Ok (Another rest)) at read found.found);
       read = λ whole levels at read.
           subst (λ (l : OpenLevel). IsOpen whole (l ∷ levels) rest.now) (sym is)
           (pair_on whole levels pairs key value text rest.now read
@@ -49,11 +33,6 @@ taken_on depth (value_due pairs key) value more text rest is found =
 taken_on depth (pairs_open pairs) key more text rest is found =
     let line = line_at (depth * 2) in
     record {
-      reached = λ root levels at read.
-          let ends = key_ends root levels pairs key text read in
-          let tail = cut_is (line ++ codes "  : ") text rest.now ends.tail found.cut
-          (key_bytes root levels pairs key depth text at ends ∙ sym (append_assoc line (codes "  : ") ends.tail)) in
-          subst (λ (l : OpenLevel). IsDue root (l ∷ levels) rest.now) (sym is) (subst (IsDue root (value_due pairs key ∷ levels)) (sym tail) ends.due);
       read = λ whole levels at read.
           subst (λ (l : OpenLevel). IsOpen whole (l ∷ levels) rest.now) (sym is)
           (key_on whole levels pairs key text rest.now read
@@ -75,9 +54,6 @@ taken_out : {A : Type 0} (depth : ℕ) (level : OpenLevel) (value : TypedValue) 
     → ValueTaken depth level value text (Ok (Ends whole rest))
 taken_out depth (items_open items) value whole text rest is found =
     record {
-      reached = λ root levels at read.
-          subst (λ (v : TypedValue). IsRead root levels v rest.now) (sym is)
-          (item_reached root levels items value depth text (Ok (End rest)) at read found.found);
       read = λ all levels at read.
           subst (λ (v : TypedValue). HasRead all levels v rest.now) (sym is)
           (item_out all levels items value text rest.now read
@@ -88,9 +64,6 @@ taken_out depth (items_open items) value whole text rest is found =
     }
 taken_out depth (value_due pairs key) value whole text rest is found =
     record {
-      reached = λ root levels at read.
-          subst (λ (v : TypedValue). IsRead root levels v rest.now) (sym is)
-          (pair_reached root levels pairs key value depth text (Ok (End rest)) at read found.found);
       read = λ all levels at read.
           subst (λ (v : TypedValue). HasRead all levels v rest.now) (sym is)
           (pair_out all levels pairs key value text rest.now read
@@ -111,31 +84,18 @@ taken_ends depth level value more whole text rest is ends found =
 -- neither
 taken_nowhere : (A : Type 0) (depth : ℕ) (level : OpenLevel) (value : TypedValue) (text : List ℕ) (error : Stop)
     → BehindRead depth (with_value level value) text (Err error) → ValueTaken {A = A} depth level value text (Err error)
-taken_nowhere A depth (items_open items) value text error lacks =
-    record {
-      reached = λ root levels at read. absurd (item_reached root levels items value depth text (Err error) at read lacks.found);
-      read = λ whole levels at read. tt;
-      breaks = lacks.breaks;
-      shorter = tt;
-      took = tt;
-    }
-taken_nowhere A depth (value_due pairs key) value text error lacks =
-    record {
-      reached = λ root levels at read. absurd (pair_reached root levels pairs key value depth text (Err error) at read lacks.found);
-      read = λ whole levels at read. tt;
-      breaks = lacks.breaks;
-      shorter = tt;
-      took = tt;
-    }
 taken_nowhere A depth (pairs_open pairs) key text error lacks =
     let line = line_at (depth * 2) in
     record {
-      reached = λ root levels at read.
-          let ends = key_ends root levels pairs key text read in
-          absurd (no_word (line ++ codes "  : ") text ends.tail lacks.cut
-          (key_bytes root levels pairs key depth text at ends ∙ sym (append_assoc line (codes "  : ") ends.tail)));
       read = λ whole levels at read. tt;
       breaks = lead_breaks depth (codes "  : ") text error lacks.lacks;
+      shorter = tt;
+      took = tt;
+    }
+taken_nowhere A depth _ value text error lacks =
+    record {
+      read = λ whole levels at read. tt;
+      breaks = lacks.breaks;
       shorter = tt;
       took = tt;
     }

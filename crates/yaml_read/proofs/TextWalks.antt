@@ -1,22 +1,15 @@
 -- The text of a value leads a reader from the value's place to the place after it.
-use Rattle.yaml_base.proofs.Common.{ℕ, ◌+◌, ◌*◌, ◌<◌, zero, suc, true, false, Some, List, [], ◌∷◌, ◌++◌, refl, ◌≡◌, ap, subst, sym, ◌∙◌, inl, inr, append_assoc}
-use Rattle.yaml_base.proofs.Common.{append-nil, arith, codes, flat_map, length, replicate, space, encode_utf8_all, character_text, Text}
-use Rattle.yaml_base.specs.values.TypedValues.{TypedValue, TypedValues, TypedPairs, null_value, bool_value, int_value, text_value, list_value, map_value}
-use Rattle.yaml_base.specs.values.TypedValues.{most_nested, no_value_pairs, no_values, value_pairs_and, values_and}
-use Rattle.yaml_base.specs.values.ValueText.{entry_lead, has_no_value_pairs, has_no_values, in_quotes, items_text, line_at, pairs_text, value_text}
-use Rattle.yaml_base.specs.scalars.DoubleQuoted.{quote}
-use Rattle.std.{proofs.lemmas.Str.encodes-append, specs.Fmt.signed_decimal}
-use Rattle.yaml_read.specs.Grammar.{nothing, these_or_those, word_then}
-use Rattle.yaml_read.specs.{Heads.tag_word, Readable.AllCanBeReadAt, Readable.CanBeReadAt, Readable.PairsCanBeReadAt}
-use Rattle.yaml_read.specs.declared.heads.Kind.{Kind}
-use Rattle.yaml_read.specs.declared.heads.Kind.TheVariants as kind
-use Rattle.yaml_read.proofs.Breaking.{level_first, levels_go}
+use Rattle.yaml_read.proofs.Common.{ℕ, ◌+◌, ◌*◌, ◌<◌, zero, suc, true, false, Some, List, [], ◌∷◌, ◌++◌, refl, ◌≡◌, ap, subst, sym, ◌∙◌, inl, inr, append_assoc}
+use Rattle.yaml_read.proofs.Common.{append-nil, arith, codes, flat_map, length, replicate, space, encode_utf8_all, character_text, Text, TypedValue}
+use Rattle.yaml_read.proofs.Common.{TypedValues, TypedPairs, null_value, bool_value, int_value, text_value, list_value, map_value, most_nested, no_value_pairs}
+use Rattle.yaml_read.proofs.Common.{no_values, value_pairs_and, values_and, value_nodes, value_pairs, in_quotes, line_at, list_begun, map_begun, nodes_text}
+use Rattle.yaml_read.proofs.Common.{node_pairs_text, value_text, quote, encodes-append, signed_decimal, entry_end, nothing, these_or_those, word_then, tag_word}
+use Rattle.yaml_read.proofs.Common.{AllCanBeReadAt, CanBeReadAt, PairsCanBeReadAt, Kind, OpenLevel}
 use Rattle.yaml_read.proofs.CharacterWays.{inner_words, text_words, words_are, words_flat}
-use Rattle.yaml_read.proofs.Encoded.{are_ascii, line_encoded, word_encoded}
-use Rattle.yaml_read.proofs.HeadTexts.{value_bytes, value_tail, value_word}
 use Rattle.yaml_read.proofs.Walks.{Spot, Walk, a_key, a_list, a_map, at_node, after_node, first_of, mark, next_spot, one_walk, walk_on, words_at}
-use Rattle.yaml_read.{proofs.HeadsRead.word_bytes, proofs.Turns.line_deeper, proofs.WordTexts.flat}
-use Rattle.yaml_value.specs.OpenLevels.{OpenLevel}
+use Rattle.yaml_read.proofs.{Breaking.level_first, Breaking.levels_go, Encoded.are_ascii, Encoded.line_encoded, Encoded.word_encoded, HeadTexts.value_bytes}
+use Rattle.yaml_read.proofs.{HeadTexts.value_tail, HeadTexts.value_word, HeadsRead.word_bytes, Turns.line_deeper, WordTexts.flat}
+use Rattle.yaml_read.specs.declared.heads.Kind.TheVariants as kind
 
 -- the text leads from one place to another, whatever follows it
 pub record LeadsTo (spot : Spot) (text : Text) (last : Spot) : Type 0 where
@@ -42,17 +35,17 @@ words_lead spot last text words are to is =
 
 -- ---- scalars
 
-value_flat : (column : ℕ) (value : TypedValue) (k : Kind) (words : List (List ℕ)) → value_word value ≡ tag_word k
+pub value_flat : (column : ℕ) (value : TypedValue) (k : Kind) (words : List (List ℕ)) → value_word value ≡ tag_word k
     → encode_utf8_all (value_tail column value []) ≡ flat words → encode_utf8_all (value_text column value) ≡ flat (tag_word k ∷ words)
 value_flat column value k words same is =
     ap encode_utf8_all (sym (append-nil (value_text column value))) ∙ value_bytes column value []
     ∙ ap (λ w. w ++ encode_utf8_all (value_tail column value [])) same ∙ ap (λ t. tag_word k ++ t) is
 
-inner_mark : (word : List ℕ) (text : Text) → mark (word ∷ inner_words text) ≡ quote
+pub inner_mark : (word : List ℕ) (text : Text) → mark (word ∷ inner_words text) ≡ quote
 inner_mark word [] = refl
 inner_mark word (c ∷ text) = inner_mark (encode_utf8_all (character_text true c)) text
 
-quotes_first : (text : Text) → first_of (encode_utf8_all (in_quotes text)) ≡ quote
+pub quotes_first : (text : Text) → first_of (encode_utf8_all (in_quotes text)) ≡ quote
 quotes_first text = ap first_of (word_encoded (codes "\"") (flat_map (character_text true) text ++ quote ∷ []) refl)
 
 null_leads : (levels : List OpenLevel) (column : ℕ) → LeadsTo (at_node levels) (value_text column null_value) (after_node levels)
@@ -74,35 +67,49 @@ false_leads levels column =
 
 -- ---- lines
 
-levels_flat : (depth : ℕ) (more : List (List ℕ)) → flat (replicate depth (codes "  ") ++ more) ≡ replicate (depth * 2) space ++ flat more
+pub levels_flat : (depth : ℕ) (more : List (List ℕ)) → flat (replicate depth (codes "  ") ++ more) ≡ replicate (depth * 2) space ++ flat more
 levels_flat zero more = refl
-levels_flat (suc depth) more =
-    ap (λ t. codes "  " ++ t) (levels_flat depth more) ∙ sym (level_first depth (replicate (suc depth * 2) space ++ flat more) (flat more) refl)
+levels_flat (suc depth) more = grind (arith, codes, level_first, replicate, suc, space, flat, levels_flat depth more)
 
-levels_mark : (word last : List ℕ) (depth : ℕ) → mark (word ∷ (replicate depth (codes "  ") ++ last ∷ [])) ≡ first_of last
+pub levels_mark : (word last : List ℕ) (depth : ℕ) → mark (word ∷ (replicate depth (codes "  ") ++ last ∷ [])) ≡ first_of last
 levels_mark word last zero = refl
 levels_mark word last (suc depth) = levels_mark (codes "  ") last depth
 
-spaces_mark : (word : List ℕ) (depth : ℕ) → mark (word ∷ (replicate (suc depth) (codes "  ") ++ [])) ≡ space
+pub spaces_mark : (word : List ℕ) (depth : ℕ) → mark (word ∷ (replicate (suc depth) (codes "  ") ++ [])) ≡ space
 spaces_mark word zero = refl
 spaces_mark word (suc depth) = spaces_mark (codes "  ") depth
 
 -- a line's words, and a word in it
-line_flat : (column depth : ℕ) (word : Text) → column ≡ depth * 2 → are_ascii word ≡ true
+pub line_flat : (column depth : ℕ) (word : Text) → column ≡ depth * 2 → are_ascii word ≡ true
     → encode_utf8_all (line_at column ++ word) ≡ flat (codes "\n" ∷ (replicate depth (codes "  ") ++ word ∷ []))
 line_flat column depth word same ascii = grind (arith, line_encoded, word_bytes, append-nil, levels_flat)
 
 -- a line's words alone
-bare_flat : (column depth : ℕ) → column ≡ depth * 2
+pub bare_flat : (column depth : ℕ) → column ≡ depth * 2
     → encode_utf8_all (line_at column) ≡ flat (codes "\n" ∷ (replicate depth (codes "  ") ++ []))
 bare_flat column depth same = grind (arith, encode_utf8_all, append-nil, line_encoded, levels_flat)
 
+-- the words of an entry's end: a comma, a line, and a word in it
+abbrev pub entry_of : ℕ → List ℕ → List (List ℕ)
+entry_of depth word = codes "," ∷ codes "\n" ∷ (replicate depth (codes "  ") ++ word ∷ [])
+
 entry_flat : (column depth : ℕ) (word : Text) → column ≡ depth * 2 → are_ascii word ≡ true
-    → encode_utf8_all (codes "," ++ (line_at column ++ word)) ≡ flat (codes "," ∷ codes "\n" ∷ (replicate depth (codes "  ") ++ word ∷ []))
+    → encode_utf8_all (codes "," ++ (line_at column ++ word)) ≡ flat (entry_of depth word)
 entry_flat column depth word same ascii =
     word_encoded (codes ",") (line_at column ++ word) refl ∙ ap (λ t. codes "," ++ t) (line_flat column depth word same ascii)
 
-deeper : (column depth : ℕ) → column ≡ depth * 2 → column + 2 ≡ suc depth * 2
+-- an entry's end leads to the next entry or out of the list or the map
+entry_leads : (after last : Spot) (depth : ℕ) (lead end word : List ℕ) (text : Text)
+    → ((words : List (List ℕ)) → entry_end depth lead end words → words_at after words)
+    → these_or_those (word_then lead nothing) (word_then end nothing) (word ∷ []) → next_spot after (first_of word) ≡ Some last
+    → encode_utf8_all text ≡ flat (entry_of depth word) → LeadsTo after text last
+entry_leads after last depth lead end word text come are to is =
+    words_lead after last text (entry_of depth word)
+    (come (entry_of depth word)
+    (refl, (refl, levels_go depth (these_or_those (word_then lead nothing) (word_then end nothing)) (word ∷ []) are)))
+    (ap (next_spot after) (levels_mark (codes "\n") word depth) ∙ to) is
+
+pub deeper : (column depth : ℕ) → column ≡ depth * 2 → column + 2 ≡ suc depth * 2
 deeper column depth same = omega (arith, same)
 
 -- ---- into lists and maps, on in them, and out of them
@@ -142,40 +149,19 @@ map_in levels column same room =
     (word_encoded (codes "!!map {") (line_at (column + 2) ++ codes "? ") refl
     ∙ ap (λ t. codes "!!map {" ++ t) (line_flat (column + 2) (suc (length levels)) (codes "? ") (deeper column (length levels) same) refl))
 
--- a line two columns deeper
-deeper_line : (column : ℕ) (word : Text) → line_at (column + 2) ++ word ≡ line_at column ++ (codes "  " ++ word)
-deeper_line column word = line_deeper column word
-
 item_on : (levels : List OpenLevel) (column : ℕ) → column ≡ length levels * 2
     → LeadsTo (after_node (a_list ∷ levels)) (codes "," ++ line_at (column + 2)) (at_node (a_list ∷ levels))
 item_on levels column same =
-    words_lead (after_node (a_list ∷ levels)) (at_node (a_list ∷ levels)) (codes "," ++ line_at (column + 2))
-    (codes "," ∷ codes "\n" ∷ (replicate (length levels) (codes "  ") ++ codes "  " ∷ [])) (
-      refl,
-      (
-        refl,
-        levels_go (length levels) (these_or_those (word_then (codes "  ") nothing) (word_then (codes "]") nothing)) (codes "  " ∷ [])
-            (inl (refl, tt)),
-      ),
-    )
-    (ap (next_spot (after_node (a_list ∷ levels))) (levels_mark (codes "\n") (codes "  ") (length levels)))
-    (ap encode_utf8_all (ap (λ t. codes "," ++ t) (sym (append-nil (line_at (column + 2))) ∙ deeper_line column []))
+    entry_leads (after_node (a_list ∷ levels)) (at_node (a_list ∷ levels)) (length levels) (codes "  ") (codes "]") (codes "  ")
+    (codes "," ++ line_at (column + 2)) (λ words are. are) (inl (refl, tt)) refl
+    (ap encode_utf8_all (ap (λ t. codes "," ++ t) (sym (append-nil (line_at (column + 2))) ∙ line_deeper column []))
     ∙ entry_flat column (length levels) (codes "  ") same refl)
 
 list_out : (levels : List OpenLevel) (column : ℕ) → column ≡ length levels * 2
     → LeadsTo (after_node (a_list ∷ levels)) (codes "," ++ (line_at column ++ codes "]")) (after_node levels)
 list_out levels column same =
-    words_lead (after_node (a_list ∷ levels)) (after_node levels) (codes "," ++ (line_at column ++ codes "]"))
-    (codes "," ∷ codes "\n" ∷ (replicate (length levels) (codes "  ") ++ codes "]" ∷ [])) (
-      refl,
-      (
-        refl,
-        levels_go (length levels) (these_or_those (word_then (codes "  ") nothing) (word_then (codes "]") nothing)) (codes "]" ∷ [])
-            (inr (refl, tt)),
-      ),
-    )
-    (ap (next_spot (after_node (a_list ∷ levels))) (levels_mark (codes "\n") (codes "]") (length levels)))
-    (entry_flat column (length levels) (codes "]") same refl)
+    entry_leads (after_node (a_list ∷ levels)) (after_node levels) (length levels) (codes "  ") (codes "]") (codes "]")
+    (codes "," ++ (line_at column ++ codes "]")) (λ words are. are) (inr (refl, tt)) refl (entry_flat column (length levels) (codes "]") same refl)
 
 key_on : (levels : List OpenLevel) (column : ℕ) → column ≡ length levels * 2
     → LeadsTo (after_node (a_map ∷ levels)) (line_at (column + 2) ++ codes ": ") (at_node (a_key ∷ levels))
@@ -183,64 +169,68 @@ key_on levels column same =
     words_lead (after_node (a_map ∷ levels)) (at_node (a_key ∷ levels)) (line_at (column + 2) ++ codes ": ")
     (codes "\n" ∷ (replicate (length levels) (codes "  ") ++ codes "  : " ∷ []))
     (refl, levels_go (length levels) (word_then (codes "  : ") nothing) (codes "  : " ∷ []) (refl, tt)) refl
-    (ap encode_utf8_all (deeper_line column (codes ": ")) ∙ line_flat column (length levels) (codes "  : ") same refl)
+    (ap encode_utf8_all (line_deeper column (codes ": ")) ∙ line_flat column (length levels) (codes "  : ") same refl)
 
 pair_on : (levels : List OpenLevel) (column : ℕ) → column ≡ length levels * 2
     → LeadsTo (after_node (a_key ∷ levels)) (codes "," ++ (line_at (column + 2) ++ codes "? ")) (at_node (a_map ∷ levels))
 pair_on levels column same =
-    words_lead (after_node (a_key ∷ levels)) (at_node (a_map ∷ levels)) (codes "," ++ (line_at (column + 2) ++ codes "? "))
-    (codes "," ∷ codes "\n" ∷ (replicate (length levels) (codes "  ") ++ codes "  ? " ∷ [])) (
-      refl,
-      (
-        refl,
-        levels_go (length levels) (these_or_those (word_then (codes "  ? ") nothing) (word_then (codes "}") nothing)) (codes "  ? " ∷ [])
-            (inl (refl, tt)),
-      ),
-    )
-    (ap (next_spot (after_node (a_key ∷ levels))) (levels_mark (codes "\n") (codes "  ? ") (length levels)))
-    (ap encode_utf8_all (ap (λ t. codes "," ++ t) (deeper_line column (codes "? "))) ∙ entry_flat column (length levels) (codes "  ? ") same refl)
+    entry_leads (after_node (a_key ∷ levels)) (at_node (a_map ∷ levels)) (length levels) (codes "  ? ") (codes "}") (codes "  ? ")
+    (codes "," ++ (line_at (column + 2) ++ codes "? ")) (λ words are. are) (inl (refl, tt)) refl
+    (ap encode_utf8_all (ap (λ t. codes "," ++ t) (line_deeper column (codes "? "))) ∙ entry_flat column (length levels) (codes "  ? ") same refl)
 
 map_out : (levels : List OpenLevel) (column : ℕ) → column ≡ length levels * 2
     → LeadsTo (after_node (a_key ∷ levels)) (codes "," ++ (line_at column ++ codes "}")) (after_node levels)
 map_out levels column same =
-    words_lead (after_node (a_key ∷ levels)) (after_node levels) (codes "," ++ (line_at column ++ codes "}"))
-    (codes "," ∷ codes "\n" ∷ (replicate (length levels) (codes "  ") ++ codes "}" ∷ [])) (
-      refl,
-      (
-        refl,
-        levels_go (length levels) (these_or_those (word_then (codes "  ? ") nothing) (word_then (codes "}") nothing)) (codes "}" ∷ [])
-            (inr (refl, tt)),
-      ),
-    )
-    (ap (next_spot (after_node (a_key ∷ levels))) (levels_mark (codes "\n") (codes "}") (length levels)))
-    (entry_flat column (length levels) (codes "}") same refl)
-
--- a key, up to its value
-pub key_leads : (levels : List OpenLevel) (column : ℕ) → column ≡ length levels * 2 → (begun key : Text) → LeadsTo (at_node levels) begun (at_node (a_map ∷ levels))
-    → LeadsTo (at_node (a_map ∷ levels)) key (after_node (a_map ∷ levels))
-    → LeadsTo (at_node levels) ((begun ++ key) ++ (line_at (column + 2) ++ codes ": ")) (at_node (a_key ∷ levels))
-key_leads levels column same begun key leads goes =
-    then_leads (at_node levels) (after_node (a_map ∷ levels)) (at_node (a_key ∷ levels)) (begun ++ key) (line_at (column + 2) ++ codes ": ")
-    (then_leads (at_node levels) (at_node (a_map ∷ levels)) (after_node (a_map ∷ levels)) begun key leads goes) (key_on levels column same)
+    entry_leads (after_node (a_key ∷ levels)) (after_node levels) (length levels) (codes "  ? ") (codes "}") (codes "}")
+    (codes "," ++ (line_at column ++ codes "}")) (λ words are. are) (inr (refl, tt)) refl (entry_flat column (length levels) (codes "}") same refl)
 
 -- ---- values
 
--- the text of a list up to its next item, and of a map up to its next key
-abbrev pub list_begun : ℕ → TypedValues → Text
-list_begun column items =
-    codes "!!seq" ++ (items_text (column + 2) items ++ (entry_lead (codes "[") (has_no_values items) ++ line_at (column + 2)))
+items_regroup : (items line text end : Text)
+    → codes "!!seq [" ++ ((items ++ (line ++ (text ++ codes ","))) ++ end) ≡ ((codes "!!seq [" ++ (items ++ line)) ++ text) ++ (codes "," ++ end)
+items_regroup items line text end = simp append_assoc
 
-abbrev pub map_begun : ℕ → TypedPairs → Text
-map_begun column pairs =
-    codes "!!map" ++ (pairs_text (column + 2) pairs ++ (entry_lead (codes "{") (has_no_value_pairs pairs) ++ (line_at (column + 2) ++ codes "? ")))
+pairs_regroup : (pairs line key text end : Text)
+    → codes "!!map {" ++ ((pairs ++ (line ++ (codes "? " ++ (key ++ (line ++ (codes ": " ++ (text ++ codes ","))))))) ++ end)
+    ≡ (((codes "!!map {" ++ (pairs ++ (line ++ codes "? "))) ++ (key ++ (line ++ codes ": "))) ++ text) ++ (codes "," ++ end)
+pairs_regroup pairs line key text end = simp append_assoc
 
-items_regroup : (i l n v w : Text) → codes "!!seq" ++ ((i ++ (l ++ (n ++ v))) ++ w) ≡ ((codes "!!seq" ++ (i ++ (l ++ n))) ++ v) ++ w
-items_regroup i l n v w = simp append_assoc
+-- a list's items, the last one apart, and what follows the comma after it
+item_leads : (items : TypedValues) (item : TypedValue) (levels : List OpenLevel) (column : ℕ) (end : Text) (last : Spot)
+    → LeadsTo (at_node levels) (list_begun column items) (at_node (a_list ∷ levels))
+    → LeadsTo (at_node (a_list ∷ levels)) (value_text (column + 2) item) (after_node (a_list ∷ levels))
+    → LeadsTo (after_node (a_list ∷ levels)) (codes "," ++ end) last
+    → LeadsTo (at_node levels) (codes "!!seq [" ++ (nodes_text (column + 2) (value_nodes (values_and items item)) ++ end)) last
+item_leads items item levels column end last before leads ends =
+    let begun = list_begun column items in
+    let text = value_text (column + 2) item in
+    same_leads (at_node levels) last ((begun ++ text) ++ (codes "," ++ end)) _
+    (items_regroup (nodes_text (column + 2) (value_nodes items)) (line_at (column + 2)) text end)
+    (then_leads (at_node levels) (after_node (a_list ∷ levels)) last (begun ++ text) (codes "," ++ end)
+    (then_leads (at_node levels) (at_node (a_list ∷ levels)) (after_node (a_list ∷ levels)) begun text before leads) ends)
 
-pairs_regroup : (p l n k v w : Text)
-    → codes "!!map" ++ ((p ++ (l ++ (n ++ (codes "? " ++ (k ++ (n ++ (codes ": " ++ v))))))) ++ w)
-    ≡ ((((codes "!!map" ++ (p ++ (l ++ (n ++ codes "? ")))) ++ k) ++ (n ++ codes ": ")) ++ v) ++ w
-pairs_regroup p l n k v w = simp append_assoc
+-- a key, up to its value
+pub key_leads : (levels : List OpenLevel) (column : ℕ) → column ≡ length levels * 2 → (begun key : Text)
+    → LeadsTo (at_node levels) begun (at_node (a_map ∷ levels)) → LeadsTo (at_node (a_map ∷ levels)) key (after_node (a_map ∷ levels))
+    → LeadsTo (at_node levels) (begun ++ (key ++ (line_at (column + 2) ++ codes ": "))) (at_node (a_key ∷ levels))
+key_leads levels column same begun key before leads =
+    then_leads (at_node levels) (at_node (a_map ∷ levels)) (at_node (a_key ∷ levels)) begun (key ++ (line_at (column + 2) ++ codes ": ")) before
+    (then_leads (at_node (a_map ∷ levels)) (after_node (a_map ∷ levels)) (at_node (a_key ∷ levels)) key (line_at (column + 2) ++ codes ": ") leads
+    (key_on levels column same))
+
+-- a map's pairs in the same way
+pair_leads : (pairs : TypedPairs) (key value : TypedValue) (levels : List OpenLevel) (column : ℕ) (end : Text) (last : Spot)
+    → LeadsTo (at_node levels) (map_begun column pairs ++ (value_text (column + 2) key ++ (line_at (column + 2) ++ codes ": "))) (at_node (a_key ∷ levels))
+    → LeadsTo (at_node (a_key ∷ levels)) (value_text (column + 2) value) (after_node (a_key ∷ levels))
+    → LeadsTo (after_node (a_key ∷ levels)) (codes "," ++ end) last
+    → LeadsTo (at_node levels) (codes "!!map {" ++ (node_pairs_text (column + 2) (value_pairs (value_pairs_and pairs key value)) ++ end)) last
+pair_leads pairs key value levels column end last before leads ends =
+    let text = value_text (column + 2) value in
+    let begun = map_begun column pairs ++ (value_text (column + 2) key ++ (line_at (column + 2) ++ codes ": ")) in
+    same_leads (at_node levels) last ((begun ++ text) ++ (codes "," ++ end)) _
+    (pairs_regroup (node_pairs_text (column + 2) (value_pairs pairs)) (line_at (column + 2)) (value_text (column + 2) key) text end)
+    (then_leads (at_node levels) (after_node (a_key ∷ levels)) last (begun ++ text) (codes "," ++ end)
+    (then_leads (at_node levels) (at_node (a_key ∷ levels)) (after_node (a_key ∷ levels)) begun text before leads) ends)
 
 mutual
   pub value_leads : (value : TypedValue) (levels : List OpenLevel) (column : ℕ) → column ≡ length levels * 2 → CanBeReadAt (length levels) value
@@ -265,60 +255,30 @@ mutual
       → AllCanBeReadAt (suc (length levels)) items → LeadsTo (at_node levels) (value_text column (list_value items)) (after_node levels)
   list_leads no_values levels column same room readable = empty_list_leads levels column room
   list_leads (values_and items item) levels column same room readable =
-      let begun = list_begun column items in
-      let text = value_text (column + 2) item in
-      let end = codes "," ++ (line_at column ++ codes "]") in
-      same_leads (at_node levels) (after_node levels) ((begun ++ text) ++ end) (value_text column (list_value (values_and items item)))
-      (items_regroup (items_text (column + 2) items) (entry_lead (codes "[") (has_no_values items)) (line_at (column + 2)) text end)
-      (then_leads (at_node levels) (after_node (a_list ∷ levels)) (after_node levels) (begun ++ text) end
-      (then_leads (at_node levels) (at_node (a_list ∷ levels)) (after_node (a_list ∷ levels)) begun text (items_lead items levels column same room readable.0)
-      (value_leads item (a_list ∷ levels) (column + 2) (deeper column (length levels) same) readable.1))
-      (list_out levels column same))
+      item_leads items item levels column (line_at column ++ codes "]") (after_node levels) (items_lead items levels column same room readable.0)
+      (value_leads item (a_list ∷ levels) (column + 2) (deeper column (length levels) same) readable.1) (list_out levels column same)
 
   pub items_lead : (items : TypedValues) (levels : List OpenLevel) (column : ℕ) → column ≡ length levels * 2 → length levels < most_nested
       → AllCanBeReadAt (suc (length levels)) items → LeadsTo (at_node levels) (list_begun column items) (at_node (a_list ∷ levels))
   items_lead no_values levels column same room readable = list_in levels column same room
   items_lead (values_and items item) levels column same room readable =
-      let begun = list_begun column items in
-      let text = value_text (column + 2) item in
-      let end = codes "," ++ line_at (column + 2) in
-      same_leads (at_node levels) (at_node (a_list ∷ levels)) ((begun ++ text) ++ end) (list_begun column (values_and items item))
-      (items_regroup (items_text (column + 2) items) (entry_lead (codes "[") (has_no_values items)) (line_at (column + 2)) text end)
-      (then_leads (at_node levels) (after_node (a_list ∷ levels)) (at_node (a_list ∷ levels)) (begun ++ text) end
-      (then_leads (at_node levels) (at_node (a_list ∷ levels)) (after_node (a_list ∷ levels)) begun text (items_lead items levels column same room readable.0)
-      (value_leads item (a_list ∷ levels) (column + 2) (deeper column (length levels) same) readable.1))
-      (item_on levels column same))
+      item_leads items item levels column (line_at (column + 2)) (at_node (a_list ∷ levels)) (items_lead items levels column same room readable.0)
+      (value_leads item (a_list ∷ levels) (column + 2) (deeper column (length levels) same) readable.1) (item_on levels column same)
 
   map_leads : (pairs : TypedPairs) (levels : List OpenLevel) (column : ℕ) → column ≡ length levels * 2 → length levels < most_nested
       → PairsCanBeReadAt (suc (length levels)) pairs → LeadsTo (at_node levels) (value_text column (map_value pairs)) (after_node levels)
   map_leads no_value_pairs levels column same room readable = empty_map_leads levels column room
   map_leads (value_pairs_and pairs key value) levels column same room readable =
-      let end = codes "," ++ (line_at column ++ codes "}") in
-      let text = value_text (column + 2) value in
-      let begun = (map_begun column pairs ++ value_text (column + 2) key) ++ (line_at (column + 2) ++ codes ": ") in
-      same_leads (at_node levels) (after_node levels) ((begun ++ text) ++ end) (value_text column (map_value (value_pairs_and pairs key value)))
-      (pairs_regroup (pairs_text (column + 2) pairs) (entry_lead (codes "{") (has_no_value_pairs pairs)) (line_at (column + 2))
-      (value_text (column + 2) key) text end)
-      (then_leads (at_node levels) (after_node (a_key ∷ levels)) (after_node levels) (begun ++ text) end
-      (then_leads (at_node levels) (at_node (a_key ∷ levels)) (after_node (a_key ∷ levels)) begun text
+      pair_leads pairs key value levels column (line_at column ++ codes "}") (after_node levels)
       (key_leads levels column same (map_begun column pairs) (value_text (column + 2) key) (pairs_lead pairs levels column same room readable.0)
       (value_leads key (a_map ∷ levels) (column + 2) (deeper column (length levels) same) readable.1.0))
-      (value_leads value (a_key ∷ levels) (column + 2) (deeper column (length levels) same) readable.1.1))
-      (map_out levels column same))
+      (value_leads value (a_key ∷ levels) (column + 2) (deeper column (length levels) same) readable.1.1) (map_out levels column same)
 
   pub pairs_lead : (pairs : TypedPairs) (levels : List OpenLevel) (column : ℕ) → column ≡ length levels * 2 → length levels < most_nested
       → PairsCanBeReadAt (suc (length levels)) pairs → LeadsTo (at_node levels) (map_begun column pairs) (at_node (a_map ∷ levels))
   pairs_lead no_value_pairs levels column same room readable = map_in levels column same room
   pairs_lead (value_pairs_and pairs key value) levels column same room readable =
-      let end = codes "," ++ (line_at (column + 2) ++ codes "? ") in
-      let text = value_text (column + 2) value in
-      let begun = (map_begun column pairs ++ value_text (column + 2) key) ++ (line_at (column + 2) ++ codes ": ") in
-      same_leads (at_node levels) (at_node (a_map ∷ levels)) ((begun ++ text) ++ end) (map_begun column (value_pairs_and pairs key value))
-      (pairs_regroup (pairs_text (column + 2) pairs) (entry_lead (codes "{") (has_no_value_pairs pairs)) (line_at (column + 2))
-      (value_text (column + 2) key) text end)
-      (then_leads (at_node levels) (after_node (a_key ∷ levels)) (at_node (a_map ∷ levels)) (begun ++ text) end
-      (then_leads (at_node levels) (at_node (a_key ∷ levels)) (after_node (a_key ∷ levels)) begun text
+      pair_leads pairs key value levels column (line_at (column + 2) ++ codes "? ") (at_node (a_map ∷ levels))
       (key_leads levels column same (map_begun column pairs) (value_text (column + 2) key) (pairs_lead pairs levels column same room readable.0)
       (value_leads key (a_map ∷ levels) (column + 2) (deeper column (length levels) same) readable.1.0))
-      (value_leads value (a_key ∷ levels) (column + 2) (deeper column (length levels) same) readable.1.1))
-      (pair_on levels column same))
+      (value_leads value (a_key ∷ levels) (column + 2) (deeper column (length levels) same) readable.1.1) (pair_on levels column same)

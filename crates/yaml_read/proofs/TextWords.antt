@@ -1,19 +1,16 @@
 -- The texts of values go on with the words of the grammar.
-use Rattle.yaml_base.proofs.Common.{ℕ, ◌+◌, ◌*◌, ◌<◌, zero, suc, Bool, true, false, ◌&&◌, List, [], ◌∷◌, ◌++◌, refl, ◌≡◌, ap, subst, sym, ◌∙◌, inl, inr}
-use Rattle.yaml_base.proofs.Common.{append_assoc, codes, flat_map, length, replicate, space, and_parts, all_scalars, encode_utf8_all, character_text, Text}
-use Rattle.yaml_base.specs.values.TypedValues.{TypedValue, TypedValues, TypedPairs, null_value, bool_value, int_value, text_value, list_value, map_value}
-use Rattle.yaml_base.specs.values.TypedValues.{bool_text, most_nested, no_value_pairs, no_values, value_pairs_and, values_and}
-use Rattle.yaml_base.{specs.scalars.DoubleQuoted.quote, specs.values.ValueText.in_quotes, specs.values.ValueText.line_at, specs.values.ValueText.value_text}
-use Rattle.std.specs.Prelude.{ℤ, ◌^◌}
-use Rattle.std.{proofs.lemmas.Str.encodes-append, specs.Fmt.signed_decimal, specs.Int.Signed.mag}
-use Rattle.yaml_read.specs.Grammar.{behind_tag, behind_value, characters, these_or_those, entry_end, integer, levels_then, line_then, node, nothing}
-use Rattle.yaml_read.specs.Grammar.{quoted_text, truth, unless_deep, word_then}
-use Rattle.yaml_value.specs.OpenLevels.{OpenLevel, items_open, pairs_open, value_due}
-use Rattle.yaml_read.specs.Remaining.{IsDue, IsRead, column_in}
+use Rattle.yaml_read.proofs.Common.{ℕ, ◌+◌, ◌*◌, ◌<◌, zero, suc, Bool, true, false, ◌&&◌, List, [], ◌∷◌, ◌++◌, refl, ◌≡◌, ap, subst, sym, ◌∙◌, inl, inr}
+use Rattle.yaml_read.proofs.Common.{append-nil, append_assoc, codes, flat_map, length, replicate, space, and_parts, all_scalars, encode_utf8_all}
+use Rattle.yaml_read.proofs.Common.{character_text, Text, TypedValue, TypedValues, TypedPairs, null_value, bool_value, int_value, text_value, list_value}
+use Rattle.yaml_read.proofs.Common.{map_value, bool_text, most_nested, no_value_pairs, no_values, value_pairs_and, values_and, quote, in_quotes, line_at}
+use Rattle.yaml_read.proofs.Common.{value_text, ℤ, ◌^◌, encodes-append, signed_decimal, mag, behind_tag, behind_value, characters, these_or_those, entry_end}
+use Rattle.yaml_read.proofs.Common.{integer, levels_then, line_then, node, nothing, quoted_text, truth, unless_deep, word_then, OpenLevel, items_open}
+use Rattle.yaml_read.proofs.Common.{Completes, IsDue, column_in, item_follows, list_ends, map_ends, pair_follows, text_ends, value_follows, tag_word}
+use Rattle.yaml_read.proofs.Common.{CanBeReadAt, Kind, arith}
 use Rattle.yaml_read.proofs.HeadTexts.{list_tail, map_tail, value_bytes, value_tail, value_word}
-use Rattle.yaml_read.proofs.Turns.{EntryEnds, Leads, column_is, item_ends, key_ends, leads_on, leads_out, pair_ends, text_ended}
-use Rattle.yaml_read.{specs.Heads.tag_word, specs.Readable.CanBeReadAt, proofs.Breaking.level_first, proofs.Encoded.line_encoded, proofs.Encoded.word_encoded}
-use Rattle.yaml_read.{specs.TextsAndWords.BeginsWith, specs.declared.heads.Kind.Kind, proofs.Remaining.items_behind, proofs.Remaining.pairs_behind}
+use Rattle.yaml_read.proofs.Turns.{column_is, comma_deeper, comma_line, key_line}
+use Rattle.yaml_read.{specs.Remaining.IsRead, specs.TextsAndWords.BeginsWith}
+use Rattle.yaml_read.proofs.{Breaking.level_first, Encoded.line_encoded, Encoded.word_encoded, Remaining.items_behind, Remaining.pairs_behind}
 use Rattle.yaml_read.specs.declared.heads.Kind.TheVariants as kind
 
 -- ---- words one after another
@@ -94,8 +91,7 @@ truth_goes false rest =
 -- the line of the first entry
 pub entry_line : (levels : List OpenLevel) (rest : Text)
     → encode_utf8_all (line_at (column_in levels + 2) ++ rest) ≡ line_at (suc (length levels) * 2) ++ encode_utf8_all rest
-entry_line levels rest =
-    line_encoded (column_in levels + 2) rest ∙ ap (λ n. line_at n ++ encode_utf8_all rest) (column_is (items_open no_values ∷ levels))
+entry_line levels rest = grind (arith, line_encoded, column_in, line_at, encode_utf8_all, column_is, items_open, no_values)
 
 list_goes : (levels : List OpenLevel) (items : TypedValues) (rest : Text) → length levels < most_nested
     → BeginsWith (behind_tag (length levels) kind.List) (encode_utf8_all (list_tail (column_in levels) items rest))
@@ -174,30 +170,42 @@ due_words root levels bytes due = subst (BeginsWith (node (length levels))) (sym
 
 -- ---- after a node
 
-lead_goes : (lead end : List ℕ) (Due Read : List ℕ → Type 0) (tail : List ℕ) → Leads lead end Due Read tail
-    → BeginsWith (these_or_those (word_then lead nothing) (word_then end nothing)) tail
-lead_goes lead end Due Read tail (leads_on rest is due) =
-    goes_on (these_or_those (word_then lead nothing) (word_then end nothing)) nothing lead tail rest (λ words more. inl (refl, more)) is (nothing_goes rest)
-lead_goes lead end Due Read tail (leads_out rest is none read) =
-    goes_on (these_or_those (word_then lead nothing) (word_then end nothing)) nothing end tail rest (λ words more. inr (refl, more)) is (nothing_goes rest)
+entry_goes : (depth : ℕ) (lead end word rest bytes : List ℕ) → these_or_those (word_then lead nothing) (word_then end nothing) (word ∷ [])
+    → bytes ≡ codes "," ++ (line_at (depth * 2) ++ (word ++ rest)) → BeginsWith (entry_end depth lead end) bytes
+entry_goes depth lead end word rest bytes are is =
+    let ends = these_or_those (word_then lead nothing) (word_then end nothing) in
+    word_goes (line_then depth ends) (codes ",") bytes (line_at (depth * 2) ++ (word ++ rest)) is
+    (line_goes depth ends (line_at (depth * 2) ++ (word ++ rest)) (word ++ rest) refl
+    (record { words = word ∷ []; rest = rest; are = are; parts = ap (λ w. w ++ rest) (sym (append-nil word)) }))
 
-entry_goes : (lead end : List ℕ) (Due Read : List ℕ → Type 0) (depth : ℕ) (bytes : List ℕ) → EntryEnds lead end Due Read depth bytes
-    → BeginsWith (entry_end depth lead end) bytes
-entry_goes lead end Due Read depth bytes ends =
-    word_goes (line_then depth (these_or_those (word_then lead nothing) (word_then end nothing))) (codes ",") bytes
-    (line_at (depth * 2) ++ ends.tail) ends.bytes_are
-    (line_goes depth (these_or_those (word_then lead nothing) (word_then end nothing)) (line_at (depth * 2) ++ ends.tail) ends.tail refl
-    (lead_goes lead end Due Read ends.tail ends.leads))
+text_goes_on : (root : TypedValue) (levels : List OpenLevel) (value : TypedValue) (bytes : List ℕ) (text : Text) → bytes ≡ encode_utf8_all text
+    → Completes root levels value text → BeginsWith (behind_value levels) bytes
+text_goes_on root _ _ bytes _ at (text_ends value text same is) =
+    word_goes nothing (codes "\n") bytes [] (at ∙ ap encode_utf8_all is ∙ word_encoded (codes "\n") [] refl) (nothing_goes [])
+text_goes_on root _ _ bytes _ at (item_follows levels items value item rest text readable is more) =
+    let tail = value_text (column_in levels + 2) item ++ rest in
+    entry_goes (length levels) (codes "  ") (codes "]") (codes "  ") (encode_utf8_all tail) bytes (inl (refl, tt))
+    (at ∙ ap encode_utf8_all is ∙ comma_deeper levels tail)
+text_goes_on root _ _ bytes _ at (list_ends levels items value rest text is more) =
+    entry_goes (length levels) (codes "  ") (codes "]") (codes "]") (encode_utf8_all rest) bytes (inr (refl, tt))
+    (at ∙ ap encode_utf8_all is ∙ comma_line levels (codes "]" ++ rest)
+    ∙ ap (λ t. codes "," ++ (line_at (length levels * 2) ++ t)) (word_encoded (codes "]") rest refl))
+text_goes_on root _ _ bytes _ at (pair_follows levels pairs key value next rest text readable is more) =
+    let tail = value_text (column_in levels + 2) next ++ rest in
+    entry_goes (length levels) (codes "  ? ") (codes "}") (codes "  ? ") (encode_utf8_all tail) bytes (inl (refl, tt))
+    (at ∙ ap encode_utf8_all is ∙ comma_deeper levels (codes "? " ++ tail)
+    ∙ ap (λ t. codes "," ++ (line_at (length levels * 2) ++ (codes "  " ++ t))) (word_encoded (codes "? ") tail refl))
+text_goes_on root _ _ bytes _ at (map_ends levels pairs key value rest text is more) =
+    entry_goes (length levels) (codes "  ? ") (codes "}") (codes "}") (encode_utf8_all rest) bytes (inr (refl, tt))
+    (at ∙ ap encode_utf8_all is ∙ comma_line levels (codes "}" ++ rest)
+    ∙ ap (λ t. codes "," ++ (line_at (length levels * 2) ++ t)) (word_encoded (codes "}") rest refl))
+text_goes_on root _ _ bytes _ at (value_follows levels pairs key value rest text readable is more) =
+    let tail = encode_utf8_all (value_text (column_in levels + 2) value ++ rest) in
+    line_goes (length levels) (word_then (codes "  : ") nothing) bytes (codes "  : " ++ tail)
+    (at ∙ ap encode_utf8_all is ∙ key_line levels (value_text (column_in levels + 2) value ++ rest))
+    (word_goes nothing (codes "  : ") (codes "  : " ++ tail) tail refl (nothing_goes tail))
 
 -- if a value's text goes on after a node, it goes on with the words that may come there
 pub read_words : (root : TypedValue) (levels : List OpenLevel) (value : TypedValue) (bytes : List ℕ) → IsRead root levels value bytes
     → BeginsWith (behind_value levels) bytes
-read_words root [] value bytes read = word_goes nothing (codes "\n") bytes [] (text_ended root value bytes read).1 (nothing_goes [])
-read_words root (items_open items ∷ levels) value bytes read =
-    entry_goes (codes "  ") (codes "]") _ _ (length levels) bytes (item_ends root levels items value bytes read)
-read_words root (value_due pairs key ∷ levels) value bytes read =
-    entry_goes (codes "  ? ") (codes "}") _ _ (length levels) bytes (pair_ends root levels pairs key value bytes read)
-read_words root (pairs_open pairs ∷ levels) key bytes read =
-    let ends = key_ends root levels pairs key bytes read in
-    line_goes (length levels) (word_then (codes "  : ") nothing) bytes (codes "  : " ++ ends.tail) ends.bytes_are
-    (word_goes nothing (codes "  : ") (codes "  : " ++ ends.tail) ends.tail refl (nothing_goes ends.tail))
+read_words root levels value bytes read = text_goes_on root levels value bytes read.rest read.text read.completes

@@ -1,11 +1,9 @@
 -- The texts of a program's values are strings, so they consist of Unicode scalar values.
-use Rattle.yaml_base.proofs.Common.{List, [], ◌∷◌, subst, sym, map}
-use Rattle.yaml_base.specs.values.TypedValues.{TypedValue, TypedValues, no_values, values_and, TypedPairs, no_value_pairs, value_pairs_and}
-use Rattle.std.{specs.String.string_bytes, proofs.lemmas.Str.IsUtf8-string_bytes, proofs.lemmas.Str.scalars-chars}
-use Rattle.yaml_value.specs.SeenValues.{seen_value, seen_value_level, values_of, pairs_of}
-use Rattle.yaml_value.specs.declared.value.Value.TheFolds.{fold-roll-Value, ind-Value, map-Value}
-use Rattle.yaml_value.{specs.declared.value.Value.Value, specs.declared.value.Value.TheOpen.Value-F}
-use Rattle.yaml_read.specs.Readable.{HasScalarTexts, HaveScalarTexts, PairsHaveScalarTexts}
+use Rattle.yaml_read.proofs.Common.{List, [], ◌∷◌, subst, sym, map, TypedValue, TypedValues, no_values, values_and, TypedPairs, no_value_pairs, value_pairs_and}
+use Rattle.yaml_read.proofs.Common.{string_bytes, IsUtf8-string_bytes, scalars-chars, seen_value, Value, HasScalarTexts, HaveScalarTexts, PairsHaveScalarTexts}
+use Rattle.yaml_value.{specs.SeenValues.seen_value_level, specs.SeenValues.values_of, specs.SeenValues.pairs_of}
+use Rattle.yaml_value.{specs.declared.value.Value.TheFolds.fold-roll-Value, specs.declared.value.Value.TheFolds.ind-Value}
+use Rattle.yaml_value.{specs.declared.value.Value.TheFolds.map-Value, specs.declared.value.Value.TheOpen.Value-F}
 
 -- a value with its fact
 abbrev Held : Type 0 → Type 0

@@ -1,12 +1,11 @@
 -- The text of a tree of events is that of its events, one after another.
-use Rattle.yaml_base.proofs.Common.{ℕ, ◌*◌, ◌+◌, true, Some, List, [], ◌∷◌, ◌++◌, refl, ◌≡◌, append_assoc, append-nil, ap, sym, subst, ◌∙◌, arith, codes}
-use Rattle.yaml_base.proofs.Common.{length, Text, Event, alias, scalar, sequence_start, sequence_end, mapping_start, mapping_end, Node, alias_node, scalar_node}
-use Rattle.yaml_base.proofs.Common.{sequence_node, mapping_node, Nodes, no_nodes, nodes_and, Pairs, no_pairs, pairs_and, node_events, nodes_events}
-use Rattle.yaml_base.proofs.Common.{pairs_events, has_no_nodes, has_no_pairs}
-use Rattle.yaml_base.specs.graphs.DumpedText.{closing_line, collection_properties, node_pairs_text, node_text, nodes_text, scalar_properties}
-use Rattle.yaml_base.specs.values.ValueText.{in_quotes, line_at}
-use Rattle.yaml_read.specs.EventTexts.{Pending, HasRunText, event_text, item_awaited, key_awaited, lead_text, may_come, more_come, next_awaited, next_open}
-use Rattle.yaml_read.specs.EventTexts.{left_open, root_ends, trail_text, value_awaited}
+use Rattle.yaml_read.proofs.Common.{ℕ, ◌*◌, ◌+◌, true, Some, List, [], ◌∷◌, ◌++◌, refl, ◌≡◌, append_assoc, append-nil, ap, sym, subst, ◌∙◌, arith, codes}
+use Rattle.yaml_read.proofs.Common.{length, Text, Event, alias, sequence_start, sequence_end, mapping_start, mapping_end, alias_node, node_events, nodes_events}
+use Rattle.yaml_read.proofs.Common.{pairs_events, closing_line, node_text, in_quotes, line_at, Pending, HasRunText, event_text, item_awaited, key_awaited}
+use Rattle.yaml_read.proofs.Common.{lead_text, may_come, more_come, next_awaited, next_open, left_open, root_ends, trail_text, value_awaited}
+use Rattle.yaml_base.proofs.Common.{scalar, Node, scalar_node, sequence_node, mapping_node, Nodes, no_nodes, nodes_and, Pairs, no_pairs, pairs_and}
+use Rattle.yaml_base.proofs.Common.{has_no_nodes, has_no_pairs}
+use Rattle.yaml_base.specs.graphs.DumpedText.{collection_properties, node_pairs_text, nodes_text, scalar_properties}
 
 -- the events that may follow a node: none after the root, else a run
 abbrev pub FollowsNode : List Pending → List Event → Text → Type 0

@@ -1,14 +1,9 @@
 -- Unique keys, from what is open before a node to what is open after it, and in a value whose text is being read.
-use Rattle.yaml_base.proofs.Common.{ℕ, List, ◌∷◌, ◌≡◌, ◌∙◌, subst, sym, arith, Text}
-use Rattle.yaml_base.specs.values.TypedValues.{TypedValue, null_value, bool_value, int_value, text_value, list_value, map_value, most_nested, TypedPairs}
-use Rattle.yaml_base.specs.values.UniqueKeys.{HasUniqueKeys, IsNewKey}
-use Rattle.yaml_value.specs.OpenLevels.{OpenLevel, items_open, pairs_open, value_due, with_value}
-use Rattle.yaml_read.specs.Readable.{CanBeReadAt}
-use Rattle.yaml_read.specs.Remaining.{Completes, item_follows, list_ends, map_ends, pair_follows, text_ends, value_follows}
-use Rattle.yaml_value.specs.declared.keys.Keys.{Keys}
+use Rattle.yaml_read.proofs.Common.{ℕ, List, ◌∷◌, ◌≡◌, ◌∙◌, subst, sym, arith, TypedValue, list_value, map_value, most_nested, TypedPairs, HasUniqueKeys}
+use Rattle.yaml_read.proofs.Common.{IsNewKey, OpenLevel, items_open, pairs_open, value_due, with_value, CanBeReadAt, Keys, KeysAllow, OpenHasUniqueKeys}
+use Rattle.yaml_read.proofs.Common.{OpenKeysAllow, BeginsLevel, Ended, Moved, begins_list, begins_map, closed_value, value_given, none_ended, one_ended}
+use Rattle.yaml_read.proofs.Common.{level_opened}
 use Rattle.yaml_value.specs.declared.keys.Keys.TheVariants as keys
-use Rattle.yaml_read.specs.AllowedKeys.{KeysAllow, OpenHasUniqueKeys, OpenKeysAllow}
-use Rattle.yaml_read.specs.Settled.{BeginsLevel, Ended, Moved, begins_list, begins_map, closed_value, value_given, none_ended, one_ended, level_opened}
 
 -- a value that can be read in any depth is a scalar
 pub scalar_unique : (value : TypedValue) → ((depth : ℕ) → CanBeReadAt depth value) → HasUniqueKeys value
@@ -78,8 +73,7 @@ only_keys _ levels outer value key pairs is unique = cc
 
 none_due : (level : OpenLevel) (levels outer : List OpenLevel) (key : TypedValue) (pairs : TypedPairs) → BeginsLevel level
     → level ∷ levels ≡ value_due pairs key ∷ outer → ⊥
-none_due _ levels outer key pairs begins_list is = cc
-none_due _ levels outer key pairs begins_map is = cc
+none_due level levels outer key pairs h1 h2 = grind arith
 
 pub key_unique : (before after outer : List OpenLevel) (pairs : TypedPairs) (key : TypedValue) → Moved before after → after ≡ value_due pairs key ∷ outer
     → OpenHasUniqueKeys before → OpenHasUniqueKeys (pairs_open pairs ∷ outer)
@@ -87,24 +81,3 @@ key_unique before after outer pairs key (level_opened level begins is) due uniqu
 key_unique before after outer pairs key (value_given value also took) due unique =
     only_keys took.level took.outer outer took.value key pairs (sym took.taken ∙ due)
     (ended_unique before value (took.level ∷ took.outer) took.value took.ended unique also).0
-
--- ---- the value that the text is of
-
-pub completes_unique : (root : TypedValue) (levels : List OpenLevel) (value : TypedValue) (text : Text) → Completes root levels value text
-    → HasUniqueKeys root → OpenHasUniqueKeys levels × HasUniqueKeys value
-completes_unique root _ _ _ (text_ends value text is line) unique = (tt, subst HasUniqueKeys (sym is) unique)
-completes_unique root _ _ _ (item_follows levels items value item rest text readable is completes) unique =
-    let inner = completes_unique root _ item rest completes unique in
-    ((inner.0.0, inner.0.1.0), inner.0.1.1)
-completes_unique root _ _ _ (list_ends levels items value rest text is completes) unique =
-    let inner = completes_unique root levels _ rest completes unique in
-    ((inner.0, inner.1.0), inner.1.1)
-completes_unique root _ _ _ (value_follows levels pairs key value rest text readable is completes) unique =
-    let inner = completes_unique root _ value rest completes unique in
-    ((inner.0.0, inner.0.1.0), inner.0.1.1.1)
-completes_unique root _ _ _ (pair_follows levels pairs key value next rest text readable is completes) unique =
-    let inner = completes_unique root _ next rest completes unique in
-    ((inner.0.0, (inner.0.1.0, (inner.0.1.1.0, inner.0.1.1.1.0))), inner.0.1.1.1.1)
-completes_unique root _ _ _ (map_ends levels pairs key value rest text is completes) unique =
-    let inner = completes_unique root levels _ rest completes unique in
-    ((inner.0, (inner.1.0, (inner.1.1.0, inner.1.1.1.0))), inner.1.1.1.1)

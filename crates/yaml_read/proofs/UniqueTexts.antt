@@ -1,43 +1,19 @@
 -- A document's text from node to node, by whether keys must differ.
-use Rattle.yaml_base.proofs.Common.{ℕ, ◌+◌, List, [], ◌∷◌, ◌++◌, refl, ◌≡◌, ◌∙◌, ap, subst, sym, inl, inr, codes, encode_utf8_all}
-use Rattle.std.specs.Prelude.{Ok, Err}
-use Rattle.std.specs.Borrow.{Bor}
-use Rattle.std.specs.Str.{IsUtf8}
-use Rattle.yaml_base.proofs.Decoding.{text_bytes-utf8}
-use Rattle.yaml_base.specs.values.TypedValues.{TypedValue}
-use Rattle.yaml_base.specs.values.UniqueKeys.{HasUniqueKeys, IsNewKey}
-use Rattle.yaml_base.specs.values.ValueText.{document_text}
-use Rattle.yaml_value.specs.OpenLevels.{OpenLevel, items_open, pairs_open, seen_levels, value_due}
-use Rattle.yaml_value.specs.declared.levels.Level.{Level}
-use Rattle.yaml_value.specs.declared.keys.Keys.{Keys}
+use Rattle.yaml_read.proofs.Common.{ℕ, ◌+◌, List, [], ◌∷◌, ◌++◌, refl, ◌≡◌, ◌∙◌, subst, sym, codes, Ok, Err, Bor, IsUtf8, TypedValue, HasUniqueKeys, IsNewKey}
+use Rattle.yaml_read.proofs.Common.{OpenLevel, seen_levels, value_due, Level, Keys, FollowedBy, FollowsKeys, InnermostIsNew, KeyStopsAt, IsOpen, StopsAt, arith}
+use Rattle.yaml_read.proofs.Common.{column_in, KeysAllow, OpenKeysAllow, IsPlacedBy, Ended, Moved, NodeStepped, KeyStop, ReadError, OpenKeys, Next}
+use Rattle.yaml_read.proofs.UniqueSoFar.{HasNewKey, ended_allows, key_unique, moved_unique, unique_allows}
+use Rattle.yaml_read.{specs.Errors.TellsKey, specs.HeldKeys.HoldBy, specs.HeldKeys.KeyRepeats, specs.HeldKeys.TextRead}
+use Rattle.yaml_read.{specs.declared.levels.Next.TheVariants.Node}
+use Rattle.yaml_read.proofs.{KeyTexts.key_again, KeyTexts.new_key, Placing.stops_placed}
 use Rattle.yaml_value.specs.declared.keys.Keys.TheVariants as keys
-use Rattle.yaml_read.specs.Errors.{TellsKey}
-use Rattle.yaml_read.specs.HeldKeys.{FollowedBy, FollowsKeys, HoldBy, InnermostIsNew, KeyRepeats, KeyStopsAt, TextRead}
-use Rattle.yaml_read.specs.Opened.{IsOpen}
-use Rattle.yaml_read.specs.Places.{StopsAt}
-use Rattle.yaml_read.specs.Readable.{CanBeRead}
-use Rattle.yaml_read.specs.Remaining.{IsDue, column_in}
-use Rattle.yaml_read.specs.{AllowedKeys.KeysAllow, AllowedKeys.OpenHasUniqueKeys, AllowedKeys.OpenKeysAllow, RepeatedKeys.IsPlacedBy}
-use Rattle.yaml_read.specs.Settled.{Ended, Moved}
-use Rattle.yaml_read.specs.Stepped.{NodeStepped}
-use Rattle.yaml_read.specs.declared.errors.KeyStop.{KeyStop}
 use Rattle.yaml_read.specs.declared.errors.KeyStop.TheVariants as key
-use Rattle.yaml_read.specs.declared.errors.ReadError.{ReadError}
 use Rattle.yaml_read.specs.declared.errors.Stop.TheVariants as stop
-use Rattle.yaml_read.specs.declared.keys.OpenKeys.{OpenKeys}
-use Rattle.yaml_read.specs.declared.levels.Next.{Next}
-use Rattle.yaml_read.specs.declared.levels.Next.TheVariants.{Node}
-use Rattle.yaml_read.proofs.KeyTexts.{key_again, new_key}
-use Rattle.yaml_read.proofs.Placing.{stops_placed}
-use Rattle.yaml_read.proofs.ChosenKeys.{NoneAllowed}
-use Rattle.yaml_read.proofs.Turns.{text_due}
-use Rattle.yaml_read.proofs.UniqueSoFar.{HasNewKey, completes_unique, ended_allows, key_unique, moved_unique, unique_allows}
 
--- a document's text up to a node: the value that is due there, what is open, and the keys that are held of it
+-- a document's text up to a node: what is open, and the keys that are held of it
 pub record TextAt {A : Type 0} (mode : Keys) (text : List ℕ) (levels : List OpenLevel) (bytes : List ℕ) (held : List (OpenKeys A)) : Type 0 where
   pub whole : List ℕ
   pub text_is : text ≡ codes "---\n" ++ whole
-  pub due : (value : TypedValue) → CanBeRead value → text ≡ encode_utf8_all (document_text value) → IsDue value levels bytes
   pub opened : IsOpen whole levels bytes
   pub hold : HoldBy mode whole levels held
   pub allow : OpenKeysAllow mode levels
@@ -53,7 +29,6 @@ text_begins mode text bytes held is none =
     record {
       whole = bytes;
       text_is = is;
-      due = text_due text bytes is;
       opened = record { text = refl; readable = tt };
       hold = begun.0;
       allow = begun.1;
@@ -88,7 +63,6 @@ module _ {A : Type 0} (mode : Keys) (text : List ℕ) (before after : List OpenL
       record {
         whole = so_far.whole;
         text_is = so_far.text_is;
-        due = λ value readable is. stepped.reached value (so_far.due value readable is);
         opened = stepped.read so_far.whole so_far.opened;
         hold = held.0;
         allow = held.1;
@@ -103,33 +77,30 @@ module _ {A : Type 0} (text : List ℕ) (before after : List OpenLevel) (bytes :
       let now = subst (λ (l : List OpenLevel). IsOpen so_far.whole l rest.now) again.is (stepped.read so_far.whole so_far.opened) in
       key_again again.outer again.pairs again.key again.opened.readable.1.1 now.readable.1.1.1 again.opened.readable.1.0 again.again
 
-  none_repeats : (root : TypedValue) → IsDue root after rest.now → HasUniqueKeys root → ⊥
-  none_repeats root due unique =
-      let open_unique = (completes_unique root after due.value due.rest due.completes unique).0 in
-      known (subst OpenHasUniqueKeys again.is open_unique).1.1.0
-
   repeats : TextRead {A = A} keys.Unique text (Err (key.Repeats left))
   repeats =
       record {
-        complete = λ value readable unique is. absurd (none_repeats value (stepped.reached value (so_far.due value readable is)) unique);
         sound = tt;
         stops = (
           refl,
           (
             so_far.whole,
             so_far.text_is,
-            record {
-              pairs = again.pairs;
-              outer = again.outer;
-              text = again.text;
-              opened = again.opened;
-              unique = key_unique before after again.outer again.pairs again.key stepped.moved again.is so_far.allow;
-              place = again.place;
-              key = again.key;
-              rest = again.rest;
-              begins = again.begins;
-              again = known;
-            },
+            (
+              record {
+                pairs = again.pairs;
+                outer = again.outer;
+                text = again.text;
+                opened = again.opened;
+                unique = key_unique before after again.outer again.pairs again.key stepped.moved again.is so_far.allow;
+                place = again.place;
+                key = again.key;
+                rest = again.rest;
+                begins = again.begins;
+                again = known;
+              },
+              (subst (λ (l : List OpenLevel). IsOpen so_far.whole l rest.now) again.is (stepped.read so_far.whole so_far.opened)).readable.1.1.1,
+            ),
           ),
         );
       }
@@ -141,11 +112,7 @@ follow_stops keys.MayRepeat text before after bytes rest old new so_far stepped 
 follow_stops keys.Unique text before after bytes rest old new so_far stepped (key.Repeats left) followed =
     repeats text before after bytes rest old so_far stepped left followed
 follow_stops keys.Unique text before after bytes rest old new so_far stepped (key.Other reason) followed =
-    record {
-      complete = λ value readable unique is. ap key.Other followed;
-      sound = tt;
-      stops = subst (StopsAt keys.Unique text) (sym followed) tt;
-    }
+    record { sound = tt; stops = subst (StopsAt keys.Unique text) (sym followed) tt }
 
 -- the step to a node, with the levels after it as a slice
 pub stepped_at : {A : Type 0} (before : List OpenLevel) (bytes : List ℕ) (next : Next A) (rest : Bor (List ℕ)) (levels slice : List (Level A))
@@ -162,17 +129,9 @@ whole_allows mode before value allow gave = (ended_allows mode before gave.0 [] 
 
 -- ---- errors
 
-pub key_stopped : (mode : Keys) (bytes text : List ℕ) (why : KeyStop) (error : ReadError) → text ≡ bytes → TellsKey bytes why error
-    → ((value : TypedValue) → CanBeRead value → KeysAllow mode value → text ≡ encode_utf8_all (document_text value) → why ≡ key.Other stop.Memory)
-    → NoneAllowed mode bytes error
-key_stopped mode bytes text (key.Other stop.Memory) error same tells complete = inl tells
-key_stopped mode bytes text _ error same tells complete =
-    inr (λ value readable allow is.
-    let never = complete value readable allow (same ∙ sym is ∙ text_bytes-utf8 (document_text value)) in cc)
-
 pub key_placed : (mode : Keys) (bytes : List ℕ) (why : KeyStop) (error : ReadError) → IsUtf8 bytes → TellsKey bytes why error
     → KeyStopsAt mode bytes why → IsPlacedBy mode bytes error
 key_placed mode bytes (key.Other reason) error utf8 tells stops = stops_placed mode bytes reason error utf8 tells stops
 key_placed mode bytes (key.Repeats left) error utf8 tells stops =
     subst (IsPlacedBy mode bytes) (sym tells.2)
-    (stops.0, record { utf8 = utf8; left = left; position_is = tells.1; holds = stops.1 })
+    (stops.0, record { utf8 = utf8; left = left; position_is = tells.1; holds = (stops.1.0, stops.1.1, stops.1.2.0) })

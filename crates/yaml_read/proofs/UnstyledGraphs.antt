@@ -1,26 +1,24 @@
 -- A graph without styles has the events of the graph without theirs.
-use Rattle.yaml_base.proofs.Common.{ℕ, [], ◌∷◌, ◌++◌, ◌==◌, ◌&&◌, ◌≡◌, ◌∙◌, if◌then◌else◌, suc, zero, Bool, true, false, Option, None, Some, List, refl, ap}
-use Rattle.yaml_base.proofs.Common.{sym, map, flat_map, length, list_all, nat_le, option_map, map-append, length-map, Text, Event, document_start, document_end}
-use Rattle.yaml_base.proofs.Common.{Held, scalar_held, sequence_held, mapping_held, GraphNode, Graph, node_numbered, numbers_held, numbers_in, children, Step}
-use Rattle.yaml_base.proofs.Common.{enters, leaves, meets_again, anchor_of, opening_event_of, opening_events, closing_event_of, closing_events, step_events}
-use Rattle.yaml_base.{proofs.Common.document_event_list, proofs.Common.IsWholeGraph, proofs.Unstyled.unstyled, specs.graphs.Meetings.graph_steps}
+use Rattle.yaml_base.proofs.Common.{arith, ℕ, [], ◌∷◌, ◌++◌, ◌==◌, ◌&&◌, ◌≡◌, ◌∙◌, if◌then◌else◌, Bool, true, false, Option, None, Some, List, refl, ap, sym}
+use Rattle.yaml_base.proofs.Common.{map, flat_map, length, list_all, nat_le, option_map, map-append, length-map, Text, Event, document_start, document_end}
+use Rattle.yaml_base.proofs.Common.{Held, scalar_held, GraphNode, Graph, node_numbered, numbers_held, numbers_in, children, Step, enters, leaves, meets_again}
+use Rattle.yaml_base.proofs.Common.{anchor_of, opening_event_of, opening_events, closing_event_of, closing_events, step_events, document_event_list}
+use Rattle.yaml_base.proofs.Common.{IsWholeGraph}
+use Rattle.yaml_base.{proofs.Unstyled.unstyled, specs.graphs.Meetings.graph_steps}
 use Rattle.std.proofs.lemmas.Option.{slice_get-map}
 use Rattle.yaml_read.specs.DocumentTexts.{unstyled_graph, unstyled_held, unstyled_node}
-use Rattle.yaml_read.{proofs.ChildWalks.walks_same, proofs.NodeEvents.root_events}
+use Rattle.yaml_read.proofs.{ChildWalks.walks_same, NodeEvents.root_events}
 
 -- ---- nodes and their children
 
 pub node_unstyled : (graph : Graph) (number : ℕ) → node_numbered (unstyled_graph graph) number ≡ option_map unstyled_node (node_numbered graph number)
-node_unstyled graph zero = refl
-node_unstyled graph (suc before) = slice_get-map unstyled_node graph.nodes before
+node_unstyled graph number = grind (arith, slice_get-map, unstyled_node)
 
 held_numbers : (held : Held) → numbers_held (unstyled_held held) ≡ numbers_held held
-held_numbers (scalar_held value style) = refl
-held_numbers _ = refl
+held_numbers held = grind arith
 
 found_numbers : (found : Option GraphNode) → numbers_in (option_map unstyled_node found) ≡ numbers_in found
-found_numbers None = refl
-found_numbers (Some node) = held_numbers node.held
+found_numbers found = grind (arith, held_numbers)
 
 pub children_unstyled : (graph : Graph) (number : ℕ) → children (unstyled_graph graph) number ≡ children graph number
 children_unstyled graph number = ap numbers_in (node_unstyled graph number) ∙ found_numbers (node_numbered graph number)
@@ -32,21 +30,17 @@ steps_unstyled graph = walks_same (unstyled_graph graph) graph (length-map graph
 
 held_opens : (anchor : Option Text) (tag : Text) (held : Held)
     → opening_event_of anchor tag (unstyled_held held) ∷ [] ≡ map unstyled (opening_event_of anchor tag held ∷ [])
-held_opens anchor tag (scalar_held value style) = refl
-held_opens anchor tag _ = refl
+held_opens anchor tag held = grind arith
 
 opening_unstyled : (anchor : Option Text) (found : Option GraphNode)
     → opening_events anchor (option_map unstyled_node found) ≡ map unstyled (opening_events anchor found)
-opening_unstyled anchor None = refl
-opening_unstyled anchor (Some node) = held_opens anchor node.tag node.held
+opening_unstyled anchor found = grind (arith, held_opens)
 
 held_closes : (held : Held) → closing_event_of (unstyled_held held) ≡ map unstyled (closing_event_of held)
-held_closes (scalar_held value style) = refl
-held_closes _ = refl
+held_closes held = grind arith
 
 closing_unstyled : (found : Option GraphNode) → closing_events (option_map unstyled_node found) ≡ map unstyled (closing_events found)
-closing_unstyled None = refl
-closing_unstyled (Some node) = held_closes node.held
+closing_unstyled found = grind (arith, held_closes)
 
 step_unstyled : (graph : Graph) (walk : List Step) (step : Step)
     → step_events (unstyled_graph graph) walk step ≡ map unstyled (step_events graph walk step)

@@ -1,14 +1,9 @@
 -- The way of a reader through a text, from word to word.
-use Rattle.yaml_base.proofs.Common.{ℕ, ◌==◌, Bool, true, false, Option, None, Some, List, [], ◌∷◌, ◌++◌, refl, ◌≡◌, ap, subst, sym, ◌∙◌}
-use Rattle.yaml_base.proofs.Common.{if◌then◌else◌, length}
-use Rattle.yaml_base.specs.values.TypedValues.{no_value_pairs, no_values, null_value}
-use Rattle.std.proofs.lemmas.List.{append_cancel_left}
-use Rattle.yaml_read.specs.Grammar.{behind_value, node, nothing}
-use Rattle.yaml_read.specs.Places.{BreaksOff}
-use Rattle.yaml_read.proofs.NodeWays.{behind_value_way, node_way}
+use Rattle.yaml_read.proofs.Common.{ℕ, ◌==◌, Bool, true, false, Option, None, Some, List, [], ◌∷◌, ◌++◌, refl, ◌≡◌, ap, subst, sym, ◌∙◌, if◌then◌else◌, length}
+use Rattle.yaml_read.proofs.Common.{no_value_pairs, no_values, null_value, append_cancel_left, behind_value, node, nothing, BreaksOff, OpenLevel, items_open}
+use Rattle.yaml_read.proofs.Common.{pairs_open, value_due}
 use Rattle.yaml_read.proofs.OneWays.{OneWay, nothing_way, whole_breaks, words_same}
-use Rattle.yaml_read.proofs.WordTexts.{flat}
-use Rattle.yaml_value.specs.OpenLevels.{OpenLevel, items_open, pairs_open, value_due}
+use Rattle.yaml_read.proofs.{NodeWays.behind_value_way, NodeWays.node_way, WordTexts.flat}
 
 -- a place between nodes, by the lists and maps that are open: at a node, after one, or at the end
 pub data Spot : Type 0 where
@@ -88,20 +83,28 @@ pub record Same (one other : Spot) (a b : List ℕ) : Type 0 where
   pub spot : one ≡ other
   pub bytes : a ≡ b
 
-same_some : (a b : Spot) → ◌≡◌ {A = Option Spot} (Some a) (Some b) → a ≡ b
+pub same_some : (a b : Spot) → ◌≡◌ {A = Option Spot} (Some a) (Some b) → a ≡ b
 same_some a b is = cc
+
+-- the way to a place at which no way leads on goes through each place on the way
+pub later : (spot middle last : Spot) (bytes rest end : List ℕ) → Walk spot bytes middle rest → Walk spot bytes last end → Halts last end
+    → Walk middle rest last end
+later _ _ last _ _ end (stays spot bytes) way halts = way
+later _ _ _ _ _ _ (walks spot next middle bytes rest after words are to is goes) (stays _ _) halts = absurd (halts.none next rest words are to is)
+later _ _ _ _ _ _ (walks spot next middle bytes rest after words are to is goes) (walks _ second last _ other end others were on starts went) halts =
+    let same = words_same (words_at spot) words others rest other (way_at spot) are were (sym is ∙ starts) in
+    let there = same_some next second (sym to ∙ ap (λ ws. next_spot spot (mark ws)) same ∙ on) in
+    let left = append_cancel_left (flat words) rest other (sym is ∙ starts ∙ ap (λ ws. flat ws ++ other) (sym same)) in
+    later next middle last rest after end goes
+    (subst (λ (s : Spot). Walk s rest last end) (sym there) (subst (λ (t : List ℕ). Walk second t last end) (sym left) went)) halts
+
+halted : (spot last : Spot) (bytes end : List ℕ) → Walk spot bytes last end → Halts spot bytes → Same spot last bytes end
+halted _ _ _ _ (stays spot bytes) halts = record { spot = refl; bytes = refl }
+halted _ _ _ _ (walks spot next last bytes rest end words are to is goes) halts = absurd (halts.none next rest words are to is)
 
 pub one_halt : (spot one other : Spot) (bytes a b : List ℕ) → Walk spot bytes one a → Walk spot bytes other b → Halts one a → Halts other b
     → Same one other a b
-one_halt _ _ _ _ _ _ (stays spot bytes) (stays _ _) halts also = record { spot = refl; bytes = refl }
-one_halt _ _ _ _ _ _ (stays spot bytes) (walks _ next last _ rest end words are to is goes) halts also = absurd (halts.none next rest words are to is)
-one_halt _ _ _ _ _ _ (walks spot next last bytes rest end words are to is goes) (stays _ _) halts also = absurd (also.none next rest words are to is)
-one_halt _ _ _ _ _ _ (walks spot next last bytes rest end words are to is goes) (walks _ second other _ after more others were on starts went) halts also =
-    let same = words_same (words_at spot) words others rest after (way_at spot) are were (sym is ∙ starts) in
-    let there = same_some next second (sym to ∙ ap (λ ws. next_spot spot (mark ws)) same ∙ on) in
-    let left = append_cancel_left (flat words) rest after (sym is ∙ starts ∙ ap (λ ws. flat ws ++ after) (sym same)) in
-    one_halt next last other rest end more goes
-    (subst (λ (s : Spot). Walk s rest other more) (sym there) (subst (λ (t : List ℕ). Walk second t other more) (sym left) went)) halts also
+one_halt spot one other bytes a b way also halts halts_too = halted one other a b (later spot one other bytes a b way also halts_too) halts
 
 pub broken_halts : (spot : Spot) (bytes : List ℕ) (left : ℕ) → BreaksOff (words_at spot) bytes left → Halts spot bytes
 broken_halts spot bytes left breaks =

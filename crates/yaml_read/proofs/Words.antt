@@ -1,9 +1,7 @@
 -- Words at a text's beginning.
-use Rattle.yaml_base.proofs.Common.{ℕ, ◌==◌, ◌+◌, ◌*◌, ◌-◌, ◌<◌, Bool, true, false, Option, None, Some, List, [], ◌∷◌, ◌++◌, refl, ◌≡◌, ap, subst, sym, ◌∙◌}
-use Rattle.yaml_base.proofs.Common.{if◌then◌else◌, option_and_then, eqb-true, arith, nat_tests, append_assoc, replicate, space, codes}
-use Rattle.std.proofs.lemmas.List.{replicate-append-replicate}
-use Rattle.std.specs.{Prelude.Result, Prelude.Ok, Prelude.Err, Borrow.Bor}
-use Rattle.yaml_read.{specs.Words.past_word, specs.Words.Cuts, specs.Words.IsMemory, specs.declared.errors.Stop.Stop}
+use Rattle.yaml_read.proofs.Common.{ℕ, ◌==◌, ◌+◌, ◌*◌, ◌-◌, ◌<◌, true, false, Option, None, Some, List, [], ◌∷◌, ◌++◌, refl, ◌≡◌, ap, subst, sym, ◌∙◌}
+use Rattle.yaml_read.proofs.Common.{if◌then◌else◌, option_and_then, eqb-true, arith, nat_tests, append_assoc, replicate, space, codes}
+use Rattle.yaml_read.proofs.Common.{replicate-append-replicate, Result, Ok, Err, Bor, past_word, Cuts, IsMemory, Stop}
 use Rattle.yaml_read.specs.declared.errors.Stop.TheVariants as stop
 
 eqb-self : (n : ℕ) → (n == n) ≡ true
@@ -16,23 +14,13 @@ behind_word (w ∷ word) rest = ap (λ b. if b then past_word word (word ++ rest
 pub behind_takes : (word text rest : List ℕ) → past_word word text ≡ Some rest → text ≡ word ++ rest
 behind_takes [] text rest is = cc
 behind_takes (w ∷ word) [] rest is = cc
-behind_takes (w ∷ word) (c ∷ text) rest is = by (c == w) refl is (behind_takes word text rest)
-  where
-    by : (b : Bool) → (c == w) ≡ b → (if b then past_word word text else None) ≡ Some rest
-        → (past_word word text ≡ Some rest → text ≡ word ++ rest) → c ∷ text ≡ w ∷ (word ++ rest)
-    by true e is more = ap (λ d. d ∷ text) (eqb-true c w e) ∙ ap (λ t. w ∷ t) (more is)
-    by false e is more = cc
+behind_takes (w ∷ word) (c ∷ text) rest is = grind (arith, past_word, true, eqb-true, false, behind_takes word text rest)
 
 -- one word after another
 pub behind_both : (first second text : List ℕ) → past_word (first ++ second) text ≡ option_and_then (past_word second) (past_word first text)
 behind_both [] second text = refl
 behind_both (w ∷ first) second [] = refl
-behind_both (w ∷ first) second (c ∷ text) = by (c == w) (behind_both first second text)
-  where
-    by : (b : Bool) → past_word (first ++ second) text ≡ option_and_then (past_word second) (past_word first text)
-        → (if b then past_word (first ++ second) text else None) ≡ option_and_then (past_word second) (if b then past_word first text else None)
-    by true more = more
-    by false more = refl
+behind_both (w ∷ first) second (c ∷ text) = grind (arith, past_word, option_and_then, true, false, behind_both first second text)
 
 -- a word that isn't first isn't found
 pub absent : (word text : List ℕ) → ((rest : List ℕ) → text ≡ word ++ rest → ⊥) → past_word word text ≡ None
@@ -44,15 +32,11 @@ absent word text lacks = by (past_word word text) refl
 
 -- a word that isn't found isn't first
 pub no_word : (word text rest : List ℕ) → past_word word text ≡ None → text ≡ word ++ rest → ⊥
-no_word word text rest none is = absurd (apart (sym none ∙ ap (past_word word) is ∙ behind_word word rest))
-  where
-    apart : ◌≡◌ {A = Option (List ℕ)} None (Some rest) → ⊥
-    apart e = cc
+no_word word text rest none is = grind (arith, past_word, behind_word)
 
 -- a longer word isn't found if its rest isn't found after its beginning
 pub longer_none : (first second text rest : List ℕ) → text ≡ first ++ rest → past_word second rest ≡ None → past_word (first ++ second) text ≡ None
-longer_none first second text rest is none =
-    behind_both first second text ∙ ap (option_and_then (past_word second)) (ap (past_word first) is ∙ behind_word first rest) ∙ none
+longer_none first second text rest is none = grind (arith, behind_both, option_and_then, past_word, behind_word)
 
 pub first_none : (first second text : List ℕ) → past_word first text ≡ None → past_word (first ++ second) text ≡ None
 first_none first second text none = behind_both first second text ∙ ap (option_and_then (past_word second)) none
@@ -95,5 +79,4 @@ pub memory_is : (error : Stop) → error ≡ stop.Memory → IsMemory error
 memory_is error is = subst IsMemory (sym is) tt
 
 pub memory_only : (error : Stop) → IsMemory error → error ≡ stop.Memory
-memory_only stop.Memory is = refl
-memory_only _ is = absurd is
+memory_only error h1 = grind arith

@@ -7,7 +7,7 @@ use Rattle.yaml_base.specs.Percent.{percent_escaped}
 use Rattle.yaml_base.specs.Tags.{alias_fault, tag_fault}
 use Rattle.yaml_base.specs.graphs.DumpedText.{tag_text}
 use Rattle.yaml_base.specs.graphs.Meetings.{Held, opening_event_of, scalar_held}
-use Rattle.yaml_base.specs.values.ValueText.{in_quotes}
+use Rattle.yaml_base.specs.graphs.DumpedText.{in_quotes}
 use Rattle.yaml_read.specs.EventTexts.{BeginsNode, IsOver, ends_name, opening_text}
 use Rattle.yaml_read.specs.WrittenTags.{HasHeldText, ends_tag}
 use Rattle.yaml_read.specs.declared.errors.Stop.{Stop}

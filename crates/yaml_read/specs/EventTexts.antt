@@ -6,7 +6,7 @@ use Rattle.yaml_base.specs.Event.{Event, alias, scalar, sequence_start, sequence
 use Rattle.yaml_base.specs.Tags.{alias_fault, anchor_fault, tag_fault}
 use Rattle.yaml_base.specs.graphs.DumpedText.{closing_line, collection_properties, scalar_properties}
 use Rattle.yaml_base.specs.graphs.Meetings.{mapping_held, opening_event_of, scalar_held, sequence_held}
-use Rattle.yaml_base.specs.values.ValueText.{in_quotes, line_at}
+use Rattle.yaml_base.specs.graphs.DumpedText.{in_quotes, line_at}
 
 -- the thing that a sequence or a mapping awaits: an item or its end, a key or its end, the value of a key
 pub data Pending : Type 0 where

@@ -5,7 +5,7 @@ use Rattle.std.specs.Int.Signed.{mag}
 use Rattle.std.specs.Str.{all_scalars, encode_utf8_all}
 use Rattle.yaml_base.specs.scalars.DoubleQuoted.{character_text}
 use Rattle.yaml_base.specs.values.TypedValues.{most_nested}
-use Rattle.yaml_base.specs.values.ValueText.{in_quotes}
+use Rattle.yaml_base.specs.graphs.DumpedText.{in_quotes}
 use Rattle.yaml_read.specs.Heads.{tag_word}
 use Rattle.yaml_value.specs.OpenLevels.{OpenLevel, items_open, pairs_open, value_due}
 use Rattle.yaml_read.specs.declared.heads.Kind.{Kind}

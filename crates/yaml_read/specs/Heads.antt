@@ -4,9 +4,6 @@ use Rattle.std.specs.Borrow.{Bor}
 use Rattle.std.specs.Str.{all_scalars, encode_utf8_all}
 use Rattle.yaml_base.specs.Characters.{Text}
 use Rattle.yaml_base.specs.scalars.DoubleQuoted.{character_text}
-use Rattle.yaml_base.specs.values.TypedValues.{TypedValue}
-use Rattle.yaml_value.specs.SeenValues.{seen_value}
-use Rattle.yaml_value.specs.declared.value.Value.{Value}
 use Rattle.yaml_read.specs.declared.heads.Kind.{Kind}
 use Rattle.yaml_read.specs.declared.heads.Kind.TheVariants as kind
 
@@ -24,10 +21,6 @@ abbrev pub IsScalarKind : Kind → Type 0
 IsScalarKind kind.List = ⊥
 IsScalarKind kind.Map = ⊥
 IsScalarKind _ = Unit {0}
-
--- a value that was read, and what follows it
-abbrev pub IsWhole : {A : Type 0} → TypedValue → Text → Value A × Bor (List ℕ) → Type 0
-IsWhole value rest found = (seen_value found.0 ≡ value) × (found.1.now ≡ encode_utf8_all rest)
 
 -- bytes that begin with a character's text between quotes are read as that character
 abbrev pub ReadsCharacter : List ℕ → Option (ℕ × Bor (List ℕ)) → Type 0

@@ -1,15 +1,16 @@
 -- The keys that the reader holds of the maps that are open.
-use Rattle.std.specs.Prelude.{ℕ, ◌+◌, ◌<◌, ◌≤◌, ◌≡◌, ◌||◌, Bool, true, false, Result, Ok, Err, IfErr, IfOk, List, [], ◌∷◌, ◌++◌, String, bytes_eq, length, take}
+use Rattle.std.specs.Prelude.{ℕ, suc, ◌+◌, ◌<◌, ◌≤◌, ◌≡◌, ◌||◌, Bool, true, false, Result, Ok, Err, IfErr, IfOk, List, [], ◌∷◌, ◌++◌}
+use Rattle.std.specs.Prelude.{String, bytes_eq, length, take}
 use Rattle.std.specs.BTreeSet.{BTreeSet, contains_text}
 use Rattle.std.specs.Str.{encode_utf8_all}
 use Rattle.yaml_base.specs.values.TypedValues.{TypedPairs, TypedValue, no_value_pairs, null_value, value_pairs_and}
-use Rattle.yaml_base.specs.values.ValueText.{document_text}
+use Rattle.yaml_base.specs.graphs.DumpedText.{document_text}
 use Rattle.yaml_value.specs.OpenLevels.{OpenLevel, items_open, pairs_open, value_due}
 use Rattle.yaml_value.specs.{SeenValues.seen_value, declared.levels.Level.Level, declared.value.Value.Value}
 use Rattle.yaml_read.specs.AllowedKeys.{KeysAllow}
 use Rattle.yaml_read.specs.Opened.{IsOpen}
 use Rattle.yaml_read.specs.Places.{IsBehindMarker, StopsAt}
-use Rattle.yaml_read.specs.Readable.{CanBeRead, CanBeReadAt}
+use Rattle.yaml_read.specs.Readable.{CanBeReadAt}
 use Rattle.yaml_read.specs.Remaining.{column_in}
 use Rattle.yaml_read.specs.RepeatedKeys.{RepeatsKey, key_bytes}
 use Rattle.yaml_read.specs.Settled.{Moved}
@@ -127,15 +128,14 @@ FollowedBy keys.Unique whole after new result = KeysFollowed whole after new res
 FollowedBy keys.MayRepeat whole after new (Ok _) = Unit {0}
 FollowedBy keys.MayRepeat whole after new (Err reason) = ⊥
 
--- why reading stops
+-- why reading stops; a key that repeats is one that can be read
 abbrev pub KeyStopsAt : Keys → (bytes : List ℕ) → KeyStop → Type 0
 KeyStopsAt mode bytes (stop.Other reason) = StopsAt mode bytes reason
-KeyStopsAt mode bytes (stop.Repeats left) = (mode ≡ keys.Unique) × IsBehindMarker bytes (λ whole. RepeatsKey whole left)
+KeyStopsAt mode bytes (stop.Repeats left) =
+    (mode ≡ keys.Unique) × IsBehindMarker bytes (λ whole. (again : RepeatsKey whole left) × CanBeReadAt (suc (length again.outer)) again.key)
 
 -- a document's text was read as a value with such keys
 pub record TextRead {A : Type 0} (mode : Keys) (text : List ℕ) (result : Result (Value A) KeyStop) : Type 0 where
-  pub complete : (value : TypedValue) → CanBeRead value → KeysAllow mode value → text ≡ encode_utf8_all (document_text value)
-      → IfErr result (λ error. error ≡ stop.Other Memory)
   pub sound : IfOk result (λ value. (text ≡ encode_utf8_all (document_text (seen_value value))) × CanBeReadAt 0 (seen_value value)
       × KeysAllow mode (seen_value value))
   pub stops : IfErr result (KeyStopsAt mode text)

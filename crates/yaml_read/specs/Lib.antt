@@ -3,7 +3,6 @@ pub mod Stepped
 pub mod Words
 pub mod Readable
 pub mod ReadBack
-pub mod Entries
 pub mod Remaining
 pub mod Heads
 pub mod Errors

@@ -2,8 +2,8 @@
 use Rattle.std.specs.Prelude.{ℕ, suc, ◌+◌, ◌*◌, ◌<◌, ◌≡◌, List, [], ◌∷◌, ◌++◌, codes, length}
 use Rattle.std.specs.Str.{encode_utf8_all}
 use Rattle.yaml_base.specs.Characters.{Text, line_feed}
-use Rattle.yaml_base.specs.values.TypedValues.{TypedValue, most_nested}
-use Rattle.yaml_base.specs.values.ValueText.{line_at, value_text, items_text, pairs_text, entry_lead, has_no_values, has_no_value_pairs}
+use Rattle.yaml_base.specs.graphs.DumpedText.{line_at, node_pairs_text, nodes_text, value_text}
+use Rattle.yaml_base.specs.values.TypedValues.{TypedPairs, TypedValue, TypedValues, most_nested, value_nodes, value_pairs}
 use Rattle.yaml_value.specs.OpenLevels.{OpenLevel, items_open, pairs_open, seen_level, value_due}
 use Rattle.yaml_value.specs.SeenValues.{seen_value}
 use Rattle.yaml_read.specs.Readable.{CanBeReadAt, AllCanBeReadAt, PairsCanBeReadAt}
@@ -15,21 +15,21 @@ use Rattle.yaml_read.specs.declared.levels.Turn.TheVariants.{Continues, Ends}
 use Rattle.yaml_read.specs.declared.levels.Next.{Next}
 use Rattle.yaml_read.specs.declared.levels.Next.TheVariants.{Done, Node}
 
+-- the text of a list up to its next item, and of a map up to its next key
+abbrev pub list_begun : ℕ → TypedValues → Text
+list_begun column items = codes "!!seq [" ++ (nodes_text (column + 2) (value_nodes items) ++ line_at (column + 2))
+
+abbrev pub map_begun : ℕ → TypedPairs → Text
+map_begun column pairs = codes "!!map {" ++ (node_pairs_text (column + 2) (value_pairs pairs) ++ (line_at (column + 2) ++ codes "? "))
+
 -- the text of the lists and maps that are open, the innermost first, up to the next node
 abbrev pub opened_text : List OpenLevel → Text
 opened_text [] = []
-opened_text (items_open items ∷ levels) =
-    opened_text levels
-    ++ (codes "!!seq" ++ (items_text (column_in levels + 2) items ++ (entry_lead (codes "[") (has_no_values items) ++ line_at (column_in levels + 2))))
-opened_text (pairs_open pairs ∷ levels) =
-    opened_text levels
-    ++ (codes "!!map" ++ (pairs_text (column_in levels + 2) pairs
-    ++ (entry_lead (codes "{") (has_no_value_pairs pairs) ++ (line_at (column_in levels + 2) ++ codes "? "))))
+opened_text (items_open items ∷ levels) = opened_text levels ++ list_begun (column_in levels) items
+opened_text (pairs_open pairs ∷ levels) = opened_text levels ++ map_begun (column_in levels) pairs
 opened_text (value_due pairs key ∷ levels) =
     opened_text levels
-    ++ (codes "!!map" ++ (pairs_text (column_in levels + 2) pairs
-    ++ (entry_lead (codes "{") (has_no_value_pairs pairs)
-    ++ (line_at (column_in levels + 2) ++ (codes "? " ++ (value_text (column_in levels + 2) key ++ (line_at (column_in levels + 2) ++ codes ": ")))))))
+    ++ (map_begun (column_in levels) pairs ++ (value_text (column_in levels + 2) key ++ (line_at (column_in levels + 2) ++ codes ": ")))
 
 -- The values that they hold could be written there.
 abbrev pub OpenCanBeRead : List OpenLevel → Type 0

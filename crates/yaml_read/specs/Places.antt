@@ -7,7 +7,7 @@ use Rattle.yaml_base.specs.Characters.{space}
 use Rattle.yaml_base.specs.Positions.{IsPositionOf}
 use Rattle.yaml_base.specs.declared.places.Position.{Position}
 use Rattle.yaml_base.specs.values.TypedValues.{TypedValue, most_nested}
-use Rattle.yaml_base.specs.values.ValueText.{line_at}
+use Rattle.yaml_base.specs.graphs.DumpedText.{line_at}
 use Rattle.yaml_value.specs.declared.keys.Keys.{Keys}
 use Rattle.yaml_read.specs.AllowedKeys.{KeysAllow, OpenKeysAllow}
 use Rattle.yaml_read.specs.Grammar.{behind_value, node, nothing, word_then}

@@ -3,7 +3,7 @@ use Rattle.std.specs.Prelude.{ℕ, ◌≡◌, ◌≢◌, ◌⊎◌, IfErr, IfOk,
 use Rattle.yaml_base.specs.Encoding.{encode}
 use Rattle.yaml_base.specs.Settings.{utf8}
 use Rattle.yaml_base.specs.values.TypedValues.{TypedValue, WritesValue}
-use Rattle.yaml_base.specs.values.ValueText.{document_text}
+use Rattle.yaml_base.specs.graphs.DumpedText.{document_text}
 use Rattle.yaml_value.specs.SeenValues.{seen_value}
 use Rattle.yaml_value.specs.declared.value.Value.{Value}
 use Rattle.yaml_read.specs.Readable.{CanBeRead}

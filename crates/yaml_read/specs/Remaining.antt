@@ -1,18 +1,11 @@
 -- The rest of a value's text while it is read, by the lists and maps that are open.
-use Rattle.std.specs.Prelude.{ℕ, suc, ◌+◌, ◌≡◌, Result, Ok, Err, List, [], ◌∷◌, ◌++◌, codes, length}
+use Rattle.std.specs.Prelude.{ℕ, suc, ◌+◌, ◌≡◌, List, [], ◌∷◌, ◌++◌, codes, length}
 use Rattle.std.specs.Str.{encode_utf8_all}
 use Rattle.yaml_base.specs.Characters.{Text, line_feed}
 use Rattle.yaml_base.specs.values.TypedValues.{TypedValue, list_value, map_value, TypedValues, values_and, TypedPairs, value_pairs_and}
-use Rattle.yaml_base.specs.values.ValueText.{line_at, value_text}
-use Rattle.yaml_value.specs.OpenLevels.{OpenLevel, items_open, pairs_open, seen_level, value_due}
-use Rattle.yaml_value.specs.SeenValues.{seen_value}
+use Rattle.yaml_base.specs.graphs.DumpedText.{line_at, value_text}
+use Rattle.yaml_value.specs.OpenLevels.{OpenLevel, items_open, pairs_open, value_due}
 use Rattle.yaml_read.specs.Readable.{CanBeReadAt}
-use Rattle.yaml_read.specs.Words.{IsMemory}
-use Rattle.yaml_read.specs.declared.errors.Stop.{Stop}
-use Rattle.yaml_read.specs.declared.levels.Turn.{Turn}
-use Rattle.yaml_read.specs.declared.levels.Turn.TheVariants.{Continues, Ends}
-use Rattle.yaml_read.specs.declared.levels.Next.{Next}
-use Rattle.yaml_read.specs.declared.levels.Next.TheVariants.{Done, Node}
 
 -- the column of entries, the innermost level first
 abbrev pub column_in : List OpenLevel → ℕ
@@ -59,17 +52,3 @@ pub record IsRead (root : TypedValue) (levels : List OpenLevel) (value : TypedVa
   pub rest : Text
   pub text : bytes ≡ encode_utf8_all rest
   pub completes : Completes root levels value rest
-
--- ---- the code's answers
-
--- after a value in a list or a map, unless memory gave out
-abbrev pub TurnReached : {A : Type 0} → TypedValue → List OpenLevel → Result (Turn A) Stop → Type 0
-TurnReached root levels (Ok (Continues level rest)) = IsDue root (seen_level level ∷ levels) rest.now
-TurnReached root levels (Ok (Ends value rest)) = IsRead root levels (seen_value value) rest.now
-TurnReached root levels (Err error) = IsMemory error
-
--- after a value, unless memory gave out
-abbrev pub Reached : {A : Type 0} → TypedValue → List OpenLevel → Result (Next A) Stop → Type 0
-Reached root levels (Ok (Done value)) = seen_value value ≡ root
-Reached root levels (Ok (Node rest)) = IsDue root levels rest.now
-Reached root levels (Err error) = IsMemory error

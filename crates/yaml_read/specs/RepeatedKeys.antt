@@ -3,7 +3,7 @@ use Rattle.std.specs.Prelude.{ℕ, ◌+◌, ◌≡◌, List, ◌∷◌, ◌++◌
 use Rattle.std.specs.Str.{encode_utf8_all}
 use Rattle.yaml_base.specs.values.TypedValues.{TypedPairs, TypedValue}
 use Rattle.yaml_base.specs.values.UniqueKeys.{IsNewKey}
-use Rattle.yaml_base.specs.values.ValueText.{line_at, value_text}
+use Rattle.yaml_base.specs.graphs.DumpedText.{line_at, value_text}
 use Rattle.yaml_value.specs.OpenLevels.{OpenLevel, pairs_open}
 use Rattle.yaml_value.specs.declared.keys.Keys.{Keys}
 use Rattle.yaml_value.specs.declared.keys.Keys.TheVariants as keys

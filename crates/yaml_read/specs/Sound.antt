@@ -7,7 +7,7 @@ use Rattle.std.specs.Str.{all_scalars, encode_utf8_all}
 use Rattle.yaml_base.specs.Characters.{Text, hex_digits}
 use Rattle.yaml_base.specs.scalars.DoubleQuoted.{character_text, escape_after_backslash, letter_among, needs_escape, short_escapes}
 use Rattle.yaml_base.specs.values.TypedValues.{TypedValue, bool_text, bool_value, int_value}
-use Rattle.yaml_base.specs.values.ValueText.{in_quotes, value_text}
+use Rattle.yaml_base.specs.graphs.DumpedText.{in_quotes, value_text}
 use Rattle.yaml_read.specs.Heads.{ReadsCharacter}
 use Rattle.yaml_read.specs.Readable.{CanBeReadAt}
 

@@ -6,19 +6,16 @@ use Rattle.std.specs.Str.{all_scalars, encode_utf8_all}
 use Rattle.yaml_base.specs.Characters.{Text}
 use Rattle.yaml_base.specs.Seen.{seen_text}
 use Rattle.yaml_base.specs.values.TypedValues.{TypedValue, most_nested, no_value_pairs, no_values}
-use Rattle.yaml_base.specs.values.ValueText.{in_quotes, line_at, value_text}
+use Rattle.yaml_base.specs.graphs.DumpedText.{in_quotes, line_at}
 use Rattle.yaml_value.specs.OpenLevels.{OpenLevel, items_open, pairs_open, value_due}
 use Rattle.yaml_value.specs.{SeenValues.seen_value, declared.value.Value.Value}
 use Rattle.yaml_value.specs.declared.keys.Keys.{Keys}
 use Rattle.yaml_read.specs.AllowedKeys.{KeysAllow, OpenKeysAllow}
 use Rattle.yaml_read.specs.Awaits.{EntryStands}
-use Rattle.yaml_read.specs.Entries.{EntryFound}
 use Rattle.yaml_read.specs.Grammar.{behind_in, behind_tag, entry_end, line_then, nothing, quoted_text, these_or_those, word_then}
-use Rattle.yaml_read.specs.Heads.{IsWhole, tag_word}
+use Rattle.yaml_read.specs.Heads.{tag_word}
 use Rattle.yaml_read.specs.Opened.{EntryCut, HasRead, IsOpen, NextRead, TurnRead}
 use Rattle.yaml_read.specs.Places.{BreaksAt, IsDeepHere, IsHere, LacksLine, StopsIn}
-use Rattle.yaml_read.specs.Remaining.{IsDue, IsRead, Reached, TurnReached}
-use Rattle.yaml_read.specs.Readable.{CanBeReadAt}
 use Rattle.yaml_read.specs.Settled.{NextMoved, NextTook, TurnTook}
 use Rattle.yaml_read.specs.Sound.{IsScalarValue}
 use Rattle.yaml_read.specs.Words.{Cuts, OrMemory, past_word}
@@ -52,9 +49,8 @@ NextShorter text (Node rest) = length rest.now < length text
 
 -- ---- nodes, between the lists and maps that were open before and those that are open after
 
--- At a node: a value that is due is read, what is read has these bytes, and else they break off.
+-- At a node: what is read has these bytes, and else they break off.
 pub record NodeStepped {A : Type 0} (before after : List OpenLevel) (text : List ℕ) (result : Result (Next A) Stop) : Type 0 where
-  pub reached : (root : TypedValue) → IsDue root before text → Reached root after result
   pub read : (whole : List ℕ) → IsOpen whole before text → IfOk result (NextRead whole after)
   pub stops : (mode : Keys) (whole : List ℕ) → IsOpen whole before text → OpenKeysAllow mode before → IfErr result (StopsIn mode whole)
   pub shorter : IfOk result (NextShorter text)
@@ -62,7 +58,6 @@ pub record NodeStepped {A : Type 0} (before after : List OpenLevel) (text : List
 
 -- after a value, in the same way
 pub record ValueSettled {A : Type 0} (before after : List OpenLevel) (value : TypedValue) (text : List ℕ) (result : Result (Next A) Stop) : Type 0 where
-  pub reached : (root : TypedValue) → IsRead root before value text → Reached root after result
   pub read : (whole : List ℕ) → HasRead whole before value text → IfOk result (NextRead whole after)
   pub stops : (mode : Keys) (whole : List ℕ) → HasRead whole before value text → OpenKeysAllow mode before → KeysAllow mode value
       → IfErr result (StopsIn mode whole)
@@ -86,8 +81,6 @@ pub record QuotedRead {A : Type 0} (bytes : List ℕ) (result : Result (String A
 
 -- after a scalar's tag
 pub record ScalarRead {A : Type 0} (kind : Kind) (bytes : List ℕ) (result : Result (Value A × Bor (List ℕ)) Stop) : Type 0 where
-  pub reads : (depth column : ℕ) (value : TypedValue) (rest : Text) → CanBeReadAt depth value
-      → tag_word kind ++ bytes ≡ encode_utf8_all (value_text column value ++ rest) → OrMemory (IsWhole value rest) result
   pub sound : IfOk result (λ found. IsScalarValue (tag_word kind ++ bytes) (seen_value found.0) found.1.now)
   pub breaks : (depth : ℕ) → IfErr result (BreaksAt (behind_tag depth kind) bytes)
   pub shorter : IfOk result (λ found. length found.1.now < length bytes)
@@ -127,22 +120,18 @@ pub data IsEmptyLevel : OpenLevel → Kind → (bracket end lead : List ℕ) →
 
 -- a lead or an end in a line of this depth
 pub record LineEntryRead (depth : ℕ) (lead end text : List ℕ) (result : Result Entry Stop) : Type 0 where
-  pub found : (tail : List ℕ) → text ≡ line_at (depth * 2) ++ tail → EntryFound lead end tail result
   pub stands : EntryStands (line_at (depth * 2) ++ lead) (line_at (depth * 2) ++ end) text result
   pub breaks : IfErr result (BreaksAt (line_then depth (these_or_those (word_then lead nothing) (word_then end nothing))) text)
   pub shorter : IfOk result (EntryShorter text)
 
 -- The text after an entry of a list or a map that lies so deep.
 pub record EntryRead (depth : ℕ) (lead end text : List ℕ) (result : Result Entry Stop) : Type 0 where
-  pub found : (tail : List ℕ) → text ≡ codes "," ++ (line_at (depth * 2) ++ tail) → EntryFound lead end tail result
   pub cut : IfOk result (EntryCut depth lead end text)
   pub breaks : IfErr result (BreaksAt (entry_end depth lead end) text)
   pub shorter : IfOk result (EntryShorter text)
 
 -- after a value in a list or a map that lies so deep
 pub record ValueTaken {A : Type 0} (depth : ℕ) (level : OpenLevel) (value : TypedValue) (text : List ℕ) (result : Result (Turn A) Stop) : Type 0 where
-  pub reached : (root : TypedValue) (levels : List OpenLevel) → depth ≡ length levels → IsRead root (level ∷ levels) value text
-      → TurnReached root levels result
   pub read : (whole : List ℕ) (levels : List OpenLevel) → depth ≡ length levels → HasRead whole (level ∷ levels) value text
       → IfOk result (TurnRead whole levels)
   pub breaks : IfErr result (BreaksAt (behind_in depth level) text)

@@ -3,7 +3,7 @@ use Rattle.std.specs.Prelude.{ℕ, ◌≡◌, List, [], ◌∷◌, ◌++◌, fla
 use Rattle.std.specs.Str.{encode_utf8_all}
 use Rattle.yaml_base.specs.Characters.{Text, line_feed}
 use Rattle.yaml_base.specs.values.TypedValues.{TypedValue}
-use Rattle.yaml_base.specs.values.ValueText.{value_text}
+use Rattle.yaml_base.specs.graphs.DumpedText.{value_text}
 use Rattle.yaml_read.specs.Readable.{CanBeReadAt}
 use Rattle.yaml_value.specs.OpenLevels.{OpenLevel}
 use Rattle.yaml_read.specs.Remaining.{Completes, column_in}

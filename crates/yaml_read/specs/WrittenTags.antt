@@ -8,7 +8,7 @@ use Rattle.yaml_base.specs.Event.{any_style, any_layout}
 use Rattle.yaml_base.specs.Percent.{byte_escaped, is_tag_character, percent_sign}
 use Rattle.yaml_base.specs.Tags.{behind}
 use Rattle.yaml_base.specs.graphs.Meetings.{Held, mapping_held, scalar_held, sequence_held}
-use Rattle.yaml_base.specs.values.ValueText.{in_quotes}
+use Rattle.yaml_base.specs.graphs.DumpedText.{in_quotes}
 use Rattle.yaml_read.specs.Words.{past_word}
 
 -- a byte of a tag's UTF-8: as itself if a tag may have it so, else as its percent form

@@ -5,7 +5,7 @@ ghost use Rattle.yaml_base.specs.Settings.{utf8};
 ghost use Rattle.yaml_base.specs.graphs.Isomorphic.{Isomorphic};
 ghost use Rattle.yaml_base.specs.graphs.Meetings.{Graph};
 ghost use Rattle.yaml_base.specs.values.TypedValues.{TypedValue, WritesValue, most_nested, nesting};
-ghost use Rattle.yaml_base.specs.values.ValueText.{document_text};
+ghost use Rattle.yaml_base.specs.graphs.DumpedText.{document_text};
 ghost use Rattle.yaml_read.specs.DocumentTexts.{AreDumpedBytes};
 ghost use Rattle.yaml_read.specs.Grammar.{behind_value, node};
 ghost use Rattle.yaml_read.specs.Opened.{HasRead, IsOpen};

@@ -1,6 +1,6 @@
 //! The text before an event of a document.
 ghost use Rattle.std.specs.Prelude.{◌≡◌, ◌++◌, ◌*◌, [], List, MatchOption, length};
-ghost use Rattle.yaml_base.specs.values.ValueText.{line_at};
+ghost use Rattle.yaml_base.specs.graphs.DumpedText.{line_at};
 ghost use Rattle.yaml_read.specs.Awaits.{EntryStands, IsInnermostAwait, IsLastAwait, LeadStands};
 ghost use Rattle.yaml_read.specs.EventTexts.{Pending};
 ghost use Rattle.yaml_read.specs.Stepped.{LineEntryRead};

@@ -3,7 +3,7 @@ ghost use Rattle.std.specs.Prelude.{◌≡◌, ◌≢◌, ◌⊎◌, IfErr, IfOk
 ghost use Rattle.yaml_base.specs.Encoding.{encode};
 ghost use Rattle.yaml_base.specs.Settings.{utf8};
 ghost use Rattle.yaml_base.specs.values.TypedValues.{TypedValue, WritesValue};
-ghost use Rattle.yaml_base.specs.values.ValueText.{document_text};
+ghost use Rattle.yaml_base.specs.graphs.DumpedText.{document_text};
 ghost use Rattle.yaml_read.specs.AllowedKeys.{KeysAllow};
 ghost use Rattle.yaml_read.specs.HeldKeys.{TextRead};
 ghost use Rattle.yaml_read.specs.Readable.{CanBeRead};

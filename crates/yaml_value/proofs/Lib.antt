@@ -3,8 +3,7 @@ pub mod AcceptedLemmas
 pub mod ContentLemmas
 pub mod SeenLevels
 pub mod WeightLemmas
-pub mod EventLemmas
 pub mod WalkLemmas
 pub mod CountLemmas
+pub mod TextSteps
 pub mod WritingLemmas
-pub mod TextLemmas

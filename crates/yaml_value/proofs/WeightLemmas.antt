@@ -13,9 +13,6 @@ use Rattle.yaml_value.specs.declared.value.Value.{Value}
 abbrev pub turns : (all hand : ℕ) → ℕ
 turns all hand = hand + all * all
 
-pub goes_in : (all all2 hand hand2 : ℕ) → all2 ≡ all → hand2 < hand → turns all2 hand2 < turns all hand
-goes_in all all2 hand hand2 same less = subst (λ n. turns n hand2 < turns all hand) (sym same) (omega (arith, less))
-
 pub goes_out : (all all2 hand hand2 : ℕ) → all2 < all → hand2 ≤ all2 → turns all2 hand2 < turns all hand
 goes_out all all2 hand hand2 less within =
     omega (arith, less, within, mul-le (suc all2) (suc all2) all all less less, suc-mul all2 (suc all2), mul-suc all2 all2)

@@ -1,4 +1,5 @@
 pub mod SeenValues
 pub mod Walk
+pub mod WalkTexts
 pub mod OpenLevels
 pub mod Weights

@@ -1,12 +1,11 @@
 //! Typed values, written as canonical YAML.
 #![tactic(auto)]
 
-mod events;
 mod keys;
 pub mod laws;
 mod levels;
 mod size;
-mod tags;
+mod texts;
 mod value;
 mod walk;
 mod writing;

@@ -1,12 +1,10 @@
 //! A walk over a value, depth first, by a list of the rests of what was entered.
 ghost use Rattle.std.specs.Prelude.{◌≡◌, ◌++◌, IfOk, OnOk, map, option_map, option_to_list};
-ghost use Rattle.yaml_base.specs.Seen.{seen_event};
 ghost use Rattle.yaml_value.specs.SeenValues.{seen_value};
 ghost use Rattle.yaml_value.specs.Walk.{entered, seen_rest, split, stepped};
 
 use crate::value::Value;
 use std::alloc::{AllocError, Allocator};
-use yaml_base::{YAML_MAPPING_END_EVENT, YAML_SEQUENCE_END_EVENT, yaml_event_t};
 
 /// The rest of a list or a map that was entered.
 #[derive(Clone, Copy)]
@@ -52,16 +50,6 @@ impl<'a, A: Allocator> Rest<'a, A> {
                 let ((_, value), others) = pairs.split_first()?;
                 Some((value, Rest::Pairs(others)))
             }
-        }
-    }
-
-    /// Returns the event with which the list or the map ends.
-    pub(crate) fn end(self) -> yaml_event_t<A>
-        ensures { seen_event result ≡ (seen_rest self.entry).end }
-    {
-        match self {
-            Rest::Items(_) => YAML_SEQUENCE_END_EVENT,
-            Rest::Pairs(_) | Rest::PairsFromValue(_) => YAML_MAPPING_END_EVENT,
         }
     }
 }

@@ -2,18 +2,17 @@
 ghost use Rattle.std.specs.Prelude.{◌≡◌, ◌↔◌, ◌⊎◌, ◌<◌, ◌≤◌, Err, IfOk, IfErr, Some};
 ghost use Rattle.yaml_base.specs.Encoding.{encode};
 ghost use Rattle.yaml_base.specs.Settings.{utf8};
-ghost use Rattle.yaml_base.specs.values.ValueText.{document_text};
+ghost use Rattle.yaml_base.specs.graphs.DumpedText.{document_text};
 ghost use Rattle.yaml_base.specs.values.TypedValues.{WritesValue, most_nested, nesting, typed_settings};
 ghost use Rattle.yaml_emitter.specs.Given.{seen_settings};
 ghost use Rattle.yaml_value.specs.SeenValues.{seen_value};
 
-use crate::events::events_of;
 use crate::size::lies_within;
+use crate::texts::document_bytes;
 use crate::value::Value;
 use std::alloc::Allocator;
 use yaml_base::{YAML_LN_BREAK, YAML_UTF8_ENCODING, yaml_error_t};
-use yaml_dump::emit_each;
-use yaml_emitter::{Settings, yaml_emitter_t, yaml_emitter_take_output};
+use yaml_emitter::Settings;
 
 /// Returns the canonical YAML of a value: one document in UTF-8, each node with its tag. The canonical reader of the
 /// definitions finds in these bytes this value and no other.
@@ -42,20 +41,9 @@ fn written<A: Allocator + Copy>(alloc: A, value: &Value<A>) -> Result<Vec<u8, A>
     ensures written { IfOk result (λ bytes. WritesValue (seen_value value.now) bytes.items) }
     ensures memory { IfErr result (λ error. error ≡ yaml_error_t.Memory) }
 {
-    let Ok(events) = events_of(alloc, value) else {
-        return Err(yaml_error_t::Memory);
-    };
-    let Ok(mut emitter) = yaml_emitter_t::with_settings(alloc, canonical_settings()) else {
-        return Err(yaml_error_t::Memory);
-    };
-    let answer = emit_each(&mut emitter, events);
-    // A law: the consequences of the events.
-    emitter.promised();
-    // Taken after an error, too: a vector is shorter than the limit, so the error isn't that the output was full.
-    let output = yaml_emitter_take_output(&mut emitter);
-    match answer {
-        Ok(()) => Ok(output),
-        Err(error) => Err(error),
+    match document_bytes(alloc, value) {
+        Ok(bytes) => Ok(bytes),
+        Err(_) => Err(yaml_error_t::Memory),
     }
 }
 

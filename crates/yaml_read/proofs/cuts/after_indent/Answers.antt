@@ -1,7 +1,6 @@
-use Rattle.std.proofs.Common.{◌*◌, ◌++◌, ◌∷◌, ◌∙◌, Err, ap, arith, codes, refl, replicate, rules}
-use Rattle.yaml_base.specs.Characters.{line_feed, space}
+use Rattle.yaml_read.proofs.Common.{◌*◌, ◌++◌, ◌∷◌, ◌∙◌, Err, ap, arith, codes, refl, replicate, rules, line_feed, space, no_level}
 use Rattle.yaml_read.proofs.Words.{cuts_behind, first_none, spaces_lack, spaces_more}
-use Rattle.yaml_read.specs.Places.{no_level, no_line}
+use Rattle.yaml_read.specs.Places.{no_line}
 use Rattle.yaml_read.proofs.cuts.after_indent.Goals as goal
 
 pub returns-in-Err : goal.returns-in-Err

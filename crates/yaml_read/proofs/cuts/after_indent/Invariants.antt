@@ -1,6 +1,4 @@
-use Rattle.std.proofs.Common.{◌≡◌, ◌<◌, ◌*◌, ◌++◌, length}
-use denote.{Text.Utf8, Shadow.shadow}
-use Rattle.yaml_base.specs.values.ValueText.{line_at}
+use Rattle.yaml_read.proofs.Common.{◌≡◌, ◌<◌, ◌*◌, ◌++◌, length, Utf8, shadow, line_at}
 use Rattle.yaml_read.proofs.cuts.after_indent.Given as goal
 
 abbrev pub invariant-loop-level : goal.invariant-loop-level

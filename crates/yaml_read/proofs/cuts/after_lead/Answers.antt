@@ -1,6 +1,4 @@
-use Rattle.std.proofs.Common.{◌*◌, arith}
-use Rattle.std.proofs.lemmas.Result.{IfOk-weaker}
-use Rattle.yaml_base.specs.values.ValueText.{line_at}
+use Rattle.yaml_read.proofs.Common.{◌*◌, arith, IfOk-weaker, line_at}
 use Rattle.yaml_read.specs.Stepped.{no_line}
 use Rattle.yaml_read.proofs.{Entries.lead_behind, Words.cuts_behind, Words.first_none}
 use Rattle.yaml_read.proofs.cuts.after_lead.Goals as goal

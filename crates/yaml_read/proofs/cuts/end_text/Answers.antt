@@ -1,5 +1,4 @@
-use Rattle.std.proofs.Common.{◌++◌, ap, codes, ◌∙◌}
-use Rattle.yaml_read.specs.Places.{more_follows, no_end}
+use Rattle.yaml_read.proofs.Common.{◌++◌, ap, codes, ◌∙◌, more_follows, no_end}
 use Rattle.yaml_read.proofs.Opening.{nothing_left, some_left}
 use Rattle.yaml_read.proofs.cuts.end_text.Goals as goal
 

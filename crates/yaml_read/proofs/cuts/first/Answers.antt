@@ -1,4 +1,4 @@
-use Rattle.std.proofs.Common.{◌++◌, ap, sym, ◌∙◌, encode_utf8, length}
+use Rattle.yaml_read.proofs.Common.{◌++◌, ap, sym, ◌∙◌, encode_utf8, length}
 use Rattle.yaml_read.proofs.cuts.first.Goals as goal
 
 pub returns-in-None : goal.returns-in-None

@@ -1,4 +1,4 @@
-use Rattle.std.proofs.Common.{rules, arith}
+use Rattle.yaml_read.proofs.Common.{rules, arith}
 use Rattle.yaml_read.proofs.Words.{absent}
 use Rattle.yaml_read.proofs.cuts.past.Goals as goal
 

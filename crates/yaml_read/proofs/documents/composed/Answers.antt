@@ -1,7 +1,6 @@
-use Rattle.std.proofs.Common.{◌≡◌, ◌∙◌, sym}
-use Rattle.yaml_base.specs.graphs.Documents.{graph_of}
-use Rattle.yaml_dump.specs.declared.composing.ComposeError.TheVariants as compose
+use Rattle.yaml_read.proofs.Common.{◌≡◌, ◌∙◌, sym, graph_of}
 use Rattle.yaml_read.proofs.DocumentsRead.{has_nodes}
+use Rattle.yaml_dump.specs.declared.composing.ComposeError.TheVariants as compose
 use Rattle.yaml_read.proofs.documents.composed.Goals as goal
 
 pub returns-in-Ok : goal.returns-in-Ok

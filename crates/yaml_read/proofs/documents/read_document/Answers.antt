@@ -1,7 +1,5 @@
-use Rattle.std.proofs.Common.{List, ℕ, ap, inl, inr, map, subst, sym, ◌∙◌}
-use Rattle.yaml_base.{specs.Seen.seen_event}
+use Rattle.yaml_read.proofs.Common.{List, ℕ, ap, inl, inr, map, subst, sym, ◌∙◌, seen_event, AreRunBytes, DocumentStops, IsDocumentPlaced}
 use Rattle.yaml_read.proofs.DocumentsRead.{composed_answers, document_placed, document_stopped, dumped_utf8}
-use Rattle.yaml_read.{specs.DocumentPlaces.AreRunBytes, specs.DocumentPlaces.DocumentStops, specs.DocumentPlaces.IsDocumentPlaced}
 use Rattle.yaml_read.proofs.documents.read_document.Goals as goal
 
 pub returns-in-Err-clause-complete : goal.returns-in-Err-clause-complete

@@ -1,7 +1,5 @@
-use Rattle.std.proofs.Common.{◌≡◌, ap, subst, sym, ◌∙◌, FitsSigned, true≢false, w64}
-use Rattle.std.{proofs.lemmas.Int.to_z-of_z, proofs.lemmas.Slice.Eq.bytes_eq-Decides, proofs.lemmas.Fmt.parse-signed_decimal, specs.Fmt.signed_decimal}
-use Rattle.std.specs.Int.Signed.{mag}
-use Rattle.std.specs.Prelude.{◌<◌, ◌^◌}
+use Rattle.yaml_read.proofs.Common.{◌≡◌, ap, subst, sym, ◌∙◌, FitsSigned, true≢false, w64, to_z-of_z, bytes_eq-Decides, parse-signed_decimal, signed_decimal}
+use Rattle.yaml_read.proofs.Common.{mag, ◌<◌, ◌^◌}
 use Rattle.yaml_read.proofs.{Scalars.fits_signed, Scalars.not_parsed, HeadsRead.bits_of_fits, HeadsRead.parsed_fits}
 use Rattle.yaml_read.proofs.heads.integer_of.Goals as goal
 

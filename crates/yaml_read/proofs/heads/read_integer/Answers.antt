@@ -1,11 +1,8 @@
-use Rattle.std.proofs.Common.{◌++◌, ap, sym, ◌∙◌, w64, inr, encode_utf8_all}
-use Rattle.std.{proofs.lemmas.Fmt.signed_decimal_injective, proofs.lemmas.Int.to_z-of_z, specs.Fmt.signed_decimal}
-use Rattle.yaml_value.{specs.SeenValues.seen_value}
-use Rattle.yaml_base.{specs.values.TypedValues.int_value, specs.values.ValueText.in_quotes}
+use Rattle.yaml_read.proofs.Common.{◌++◌, ap, refl, sym, ◌∙◌, w64, inr, encode_utf8_all, to_z-of_z, signed_decimal, seen_value, in_quotes, tag_word}
 use Rattle.yaml_value.proofs.SeenLevels.{seen_integer}
-use Rattle.yaml_read.proofs.{Scalars.digits_are, Scalars.fits_signed, Scalars.int_scalars}
-use Rattle.yaml_read.proofs.BreakingNodes.{whole_placed, whole_refused}
-use Rattle.yaml_read.proofs.{HeadsRead.digits_seen, Stepping.integer_scalar, Stepping.no_integer_scalar}
+use Rattle.yaml_read.proofs.{Scalars.digits_are, Scalars.fits_signed, Scalars.int_scalars, BreakingNodes.whole_placed, BreakingNodes.whole_refused}
+use Rattle.yaml_read.proofs.{HeadsRead.digits_seen, HeadsRead.integer_read, Stepping.no_integer_scalar}
+use Rattle.yaml_read.specs.declared.heads.Kind.TheVariants as kind
 use Rattle.yaml_value.specs.declared.value.Value as declared
 use Rattle.yaml_read.proofs.heads.read_integer.Goals as goal
 
@@ -14,20 +11,19 @@ returns-in-Some g c =
     let value = c.in-Some.value in
     let few = c.in-Some.ensures.0 in
     let spelled = sym c.as_str.ensures.value ∙ c.in-Some.ensures.1 in
-    let made = to_z-of_z w64 value (fits_signed value few) in
-    let seen = ap (λ z. seen_value {A = g.row.A.Denot} (declared.Int z)) made ∙ seen_integer g.row.A.Denot value in
-    integer_scalar c.args.text.now _
-    (λ n rest bits is.
-    let read = c.in-Ok.ensures.reads (signed_decimal n) rest (int_scalars n bits) is in
-    let same = signed_decimal_injective value n few bits (sym spelled ∙ digits_are c.in-Ok.digits n bits read.0) in
-    (seen ∙ ap int_value same, read.1))
-    (record {
-      number = value;
-      is = seen;
-      bits = few;
-      text = c.in-Ok.ensures.sound ∙ ap (λ t. encode_utf8_all (in_quotes t) ++ c.in-Ok.rest.now) (digits_seen c.in-Ok.digits value few spelled);
-    })
-    tt c.in-Ok.ensures.shorter
+    record {
+      sound =
+          integer_read (tag_word kind.Int ++ c.args.text.now) c.args.text.now c.in-Ok.rest.now _ refl
+          (record {
+            number = value;
+            is = ap (λ z. seen_value {A = g.row.A.Denot} (declared.Int z)) (to_z-of_z w64 value (fits_signed value few)) ∙ seen_integer g.row.A.Denot value;
+            bits = few;
+            text = c.in-Ok.ensures.sound
+                ∙ ap (λ t. encode_utf8_all (in_quotes t) ++ c.in-Ok.rest.now) (digits_seen c.in-Ok.digits value few spelled);
+          });
+      breaks = λ depth. tt;
+      shorter = c.in-Ok.ensures.shorter;
+    }
 
 pub returns-in-Ok : goal.returns-in-Ok
 returns-in-Ok g c =

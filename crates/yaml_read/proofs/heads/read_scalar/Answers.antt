@@ -1,9 +1,8 @@
-use Rattle.std.proofs.Common.{◌∙◌, ◌++◌, Ok, Err, true, false, ap, arith, codes, refl, sym}
+use Rattle.yaml_read.proofs.Common.{◌∙◌, ◌++◌, [], Ok, Err, true, false, ap, arith, codes, refl, subst, sym, seen_string, seen_truth, nothing, tag_word}
+use Rattle.yaml_read.proofs.Common.{IsScalarValue}
+use Rattle.yaml_read.proofs.Stepping.{null_found, of_kind, text_kind, truth_scalar}
+use Rattle.yaml_read.proofs.{HeadsRead.string_read, HeadsRead.word_bytes, Breaking.missing, Breaking.neither}
 use Rattle.yaml_value.specs.declared.value.Value as declared
-use Rattle.yaml_value.proofs.SeenLevels.{seen_truth}
-use Rattle.yaml_read.proofs.HeadsRead.{false_there, no_truth_there, true_there, word_bytes}
-use Rattle.yaml_read.proofs.Stepping.{no_null, no_text, null_found, of_kind, text_found, text_kind, truth_scalar}
-use Rattle.yaml_read.proofs.Breaking.{neither}
 use Rattle.yaml_read.specs.declared.heads.Kind.TheVariants as kind
 use Rattle.yaml_read.proofs.heads.read_scalar.Goals as goal
 
@@ -15,13 +14,16 @@ returns-in-Ok g c =
 pub returns-in-Err : goal.returns-in-Err
 returns-in-Err g c =
     of_kind kind.Null c.args.kind c.in-Null.is
-    (no_null g.row.A.Denot c.args.text.now c.in-Err.stop c.in-Err.ensures.cut c.in-Err.ensures.placed)
+    (record {
+      sound = tt;
+      breaks = λ depth. missing (codes "\"null\"") c.args.text.now nothing c.in-Err.stop [] c.in-Err.ensures.cut c.in-Err.ensures.placed tt;
+      shorter = tt;
+    })
 
 pub returns-in-Some : goal.returns-in-Some
 returns-in-Some g c =
     of_kind kind.Bool c.args.kind c.in-Bool.is
     (truth_scalar c.args.text.now (Ok (declared.Bool true, c.in-Some.rest))
-    (λ b rest is. true_there g.row.A.Denot c.args.text.now c.in-Some.rest.now b rest c.in-Some.ensures.cut is)
     (record {
       truth = true;
       is = seen_truth g.row.A.Denot true;
@@ -33,7 +35,6 @@ pub returns-in-Ok-after : goal.returns-in-Ok-after
 returns-in-Ok-after g c =
     of_kind kind.Bool c.args.kind c.in-Bool.is
     (truth_scalar c.args.text.now (Ok (declared.Bool false, c.in-Ok-after.rest))
-    (λ b rest is. false_there g.row.A.Denot c.args.text.now c.in-Ok-after.rest.now b rest c.in-None.ensures.cut c.in-Ok-after.ensures.cut is)
     (record {
       truth = false;
       is = seen_truth g.row.A.Denot false;
@@ -44,8 +45,7 @@ returns-in-Ok-after g c =
 pub returns-in-Err-after : goal.returns-in-Err-after
 returns-in-Err-after g c =
     of_kind kind.Bool c.args.kind c.in-Bool.is
-    (truth_scalar {A = g.row.A.Denot} c.args.text.now (Err c.in-Err-after.stop)
-    (λ b rest is. absurd (no_truth_there c.args.text.now b rest c.in-None.ensures.cut c.in-Err-after.ensures.cut is)) tt
+    (truth_scalar {A = g.row.A.Denot} c.args.text.now (Err c.in-Err-after.stop) tt
     (neither (codes "\"true\"") (codes "\"false\"") c.args.text.now c.in-Err-after.stop c.in-None.ensures.cut c.in-Err-after.ensures.cut
     c.in-Err-after.ensures.placed) tt)
 
@@ -56,11 +56,18 @@ pub returns-in-Ok-read_quoted : goal.returns-in-Ok-read_quoted
 returns-in-Ok-read_quoted g c =
     of_kind kind.Text c.args.kind
     (text_kind c.args.kind c.requires c.in_default.not-Null c.in_default.not-Bool c.in_default.not-Int)
-    (text_found c.args.text.now c.in-Ok-read_quoted.value c.in-Ok-read_quoted.rest c.in-Ok-read_quoted.ensures.reads
-    c.in-Ok-read_quoted.ensures.sound c.in-Ok-read_quoted.ensures.shorter)
+    (record {
+      sound =
+          subst (λ value. IsScalarValue (tag_word kind.Text ++ c.args.text.now) value c.in-Ok-read_quoted.rest.now)
+          (sym (seen_string c.in-Ok-read_quoted.value))
+          (string_read (tag_word kind.Text ++ c.args.text.now) c.args.text.now c.in-Ok-read_quoted.rest.now c.in-Ok-read_quoted.value refl
+          c.in-Ok-read_quoted.ensures.sound);
+      breaks = λ depth. tt;
+      shorter = c.in-Ok-read_quoted.ensures.shorter;
+    })
 
 pub returns-in-Err-read_quoted : goal.returns-in-Err-read_quoted
 returns-in-Err-read_quoted g c =
     of_kind kind.Text c.args.kind
     (text_kind c.args.kind c.requires c.in_default.not-Null c.in_default.not-Bool c.in_default.not-Int)
-    (no_text g.row.A.Denot c.args.text.now c.in-Err-read_quoted.stop c.in-Err-read_quoted.ensures.reads c.in-Err-read_quoted.ensures.breaks)
+    (record { sound = tt; breaks = λ depth. c.in-Err-read_quoted.ensures.breaks; shorter = tt })

@@ -1,6 +1,5 @@
+use Rattle.yaml_read.proofs.Common.{contains_text, string_bytes, true, ◌||◌, bytes_eq, ap, ◌∙◌}
 use Rattle.std.proofs.lemmas.Map.Text.{btree_set_updates_text}
-use Rattle.std.specs.{BTreeSet.contains_text, String.string_bytes}
-use Rattle.yaml_base.proofs.Common.{true, ◌||◌, bytes_eq, ap, ◌∙◌}
 use Rattle.yaml_read.proofs.HeldKeys.{or_last}
 use Rattle.yaml_read.proofs.keys.add_text.Goals as goal
 

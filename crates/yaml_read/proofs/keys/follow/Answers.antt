@@ -1,4 +1,4 @@
-use Rattle.yaml_value.specs.OpenLevels.{seen_level, seen_levels}
+use Rattle.yaml_read.proofs.Common.{seen_level, seen_levels}
 use Rattle.yaml_read.proofs.HeldKeys.{follows_fails, node_follows, node_may, off_at}
 use Rattle.yaml_read.proofs.keys.follow.Goals as goal
 

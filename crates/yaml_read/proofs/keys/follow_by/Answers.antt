@@ -1,8 +1,5 @@
-use Rattle.std.proofs.Common.{subst}
-use Rattle.yaml_value.specs.OpenLevels.{seen_levels}
-use Rattle.yaml_value.specs.declared.keys.Keys.{Keys}
+use Rattle.yaml_read.proofs.Common.{subst, seen_levels, Keys, FollowsKeys}
 use Rattle.yaml_read.proofs.HeldKeys.{any_follows, unique_follows}
-use Rattle.yaml_read.specs.HeldKeys.{FollowsKeys}
 use Rattle.yaml_read.proofs.keys.follow_by.Goals as goal
 
 pub follow-requires : goal.follow-requires

@@ -1,5 +1,4 @@
-use Rattle.std.proofs.Common.{◌≡◌, ◌-◌, ap, arith, length, length-append, subst}
-use Rattle.std.specs.Str.{IsCharBoundary}
+use Rattle.yaml_read.proofs.Common.{◌≡◌, ◌-◌, ap, arith, length, length-append, subst, IsCharBoundary}
 use Rattle.std.proofs.lemmas.Str.{IsCharBoundary-at_seam}
 use Rattle.yaml_read.proofs.keys.with_key.Goals as goal
 

@@ -1,4 +1,4 @@
-use Rattle.yaml_read.{proofs.TextWords.due_words, proofs.TextWords.read_words, proofs.WordTexts.node_words, proofs.WordsBehind.behind_words}
+use Rattle.yaml_read.proofs.{TextWords.due_words, TextWords.read_words, WordSteps.node_words, WordsBehind.behind_words}
 use Rattle.yaml_read.proofs.laws.words_are_those_of_texts.Goals as goal
 
 pub returns-clause-at_node : goal.returns-clause-at_node

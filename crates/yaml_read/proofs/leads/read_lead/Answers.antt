@@ -1,7 +1,6 @@
-use Rattle.std.proofs.Common.{Some, Ok, Err, ap, ◌∙◌}
+use Rattle.yaml_read.proofs.Common.{Some, Ok, Err, ap, ◌∙◌, Another}
 use Rattle.yaml_read.proofs.Awaits.{first_item_stands, first_key_stands, item_stands, key_stands, root_stands, stands_in, value_lacks, value_stands}
 use Rattle.yaml_read.specs.declared.leads.Await.TheVariants as await
-use Rattle.yaml_read.specs.declared.levels.Entry.TheVariants.{Another}
 use Rattle.yaml_read.proofs.leads.read_lead.Goals as goal
 
 pub returns-in-None : goal.returns-in-None

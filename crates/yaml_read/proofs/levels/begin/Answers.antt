@@ -1,8 +1,5 @@
-use Rattle.std.proofs.Common.{◌<◌, ◌≤◌, arith, length, refl}
-use Rattle.yaml_base.specs.values.TypedValues.{most_nested}
-use Rattle.yaml_value.specs.{OpenLevels.seen_level, OpenLevels.seen_levels, SeenValues.seen_value}
-use Rattle.yaml_read.specs.Stepped.{no_bracket, no_room}
-use Rattle.yaml_read.proofs.{Begun.closed_steps, Begun.opened_steps, Begun.unopened_steps, SeenLevels.levels_length}
+use Rattle.yaml_read.proofs.Common.{◌<◌, ◌≤◌, arith, length, refl, most_nested, seen_level, seen_levels, seen_value, no_bracket, no_room}
+use Rattle.yaml_read.proofs.{Stepping.closed_steps, Stepping.opened_steps, Stepping.unopened_steps, SeenLevels.levels_length}
 use Rattle.yaml_read.proofs.levels.begin.Goals as goal
 
 pub returns-in-Some : goal.returns-in-Some

@@ -1,6 +1,4 @@
-use Rattle.std.proofs.Common.{Ok, Err, subst, sym}
-use Rattle.yaml_value.specs.{OpenLevels.seen_level, declared.levels.Level.Level}
-use Rattle.yaml_read.specs.{Stepped.BehindRead, declared.levels.Entry.TheVariants.Another}
+use Rattle.yaml_read.proofs.Common.{Ok, Err, subst, sym, seen_level, Level, BehindRead, Another}
 use Rattle.yaml_read.proofs.levels.behind_value.Goals as goal
 
 pub returns-in-Items : goal.returns-in-Items

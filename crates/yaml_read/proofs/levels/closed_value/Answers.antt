@@ -1,6 +1,5 @@
-use Rattle.std.proofs.Common.{ap, sym, ◌∙◌}
-use Rattle.yaml_value.{specs.OpenLevels.seen_level, proofs.SeenLevels.seen_list, proofs.SeenLevels.seen_map}
-use Rattle.yaml_read.specs.Stepped.{closed_value}
+use Rattle.yaml_read.proofs.Common.{ap, sym, ◌∙◌, seen_level, closed_value}
+use Rattle.yaml_value.proofs.SeenLevels.{seen_list, seen_map}
 use Rattle.yaml_read.proofs.levels.closed_value.Goals as goal
 
 pub returns-in-Items : goal.returns-in-Items

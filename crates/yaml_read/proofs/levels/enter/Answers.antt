@@ -1,7 +1,4 @@
-use Rattle.std.proofs.Common.{◌≡◌, ◌*◌, ◌++◌, suc, subst, ap, ◌∙◌, append_assoc, arith, length}
-use Rattle.yaml_base.specs.values.ValueText.{line_at}
-use Rattle.yaml_value.specs.OpenLevels.{seen_levels}
-use Rattle.yaml_read.specs.{Stepped.EntryLacks}
+use Rattle.yaml_read.proofs.Common.{◌≡◌, ◌*◌, ◌++◌, suc, subst, ap, ◌∙◌, append_assoc, arith, length, line_at, seen_levels, EntryLacks}
 use Rattle.yaml_read.proofs.SeenLevels.{levels_length, pushed_on}
 use Rattle.yaml_read.proofs.levels.enter.Goals as goal
 

@@ -1,12 +1,9 @@
-use Rattle.std.proofs.Common.{◌*◌, ◌++◌, codes}
-use Rattle.yaml_base.specs.values.ValueText.{line_at}
-use Rattle.yaml_read.proofs.{Breaking.no_comma, Entries.entry_behind, Words.no_word}
+use Rattle.yaml_read.proofs.{Breaking.no_comma, Entries.entry_behind}
 use Rattle.yaml_read.proofs.levels.next_entry.Goals as goal
 
 pub returns-in-Err : goal.returns-in-Err
 returns-in-Err c =
     record {
-      found = λ tail is. absurd (no_word (codes ",") c.args.text.now (line_at (c.args.depth * 2) ++ tail) c.in-Err.ensures.cut is);
       cut = tt;
       breaks =
           no_comma c.args.depth c.args.lead.now c.args.end.now c.args.text.now c.in-Err.stop c.in-Err.ensures.cut

@@ -1,31 +1,23 @@
-use Rattle.std.proofs.Common.{◌≡◌, ◌<◌, List, [], subst, sym, ◌∙◌, rules, arith, Ok, length}
-use Rattle.yaml_value.specs.{OpenLevels.OpenLevel, OpenLevels.seen_level, OpenLevels.seen_levels, SeenValues.seen_value}
+use Rattle.yaml_read.proofs.Common.{◌≡◌, ◌<◌, List, [], subst, sym, ◌∙◌, rules, arith, length, OpenLevel, seen_level, seen_levels, seen_value, HasRead, IsOpen}
+use Rattle.yaml_read.proofs.Common.{Ended, none_ended}
 use Rattle.yaml_value.proofs.SeenLevels.{no_levels}
-use Rattle.yaml_read.specs.Remaining.{IsDue, IsRead, TurnReached}
-use Rattle.yaml_read.specs.Opened.{HasRead, IsOpen, TurnRead}
-use Rattle.yaml_read.proofs.BreakingNodes.{end_lacks, value_stops}
-use Rattle.yaml_read.proofs.Opening.{end_there, root_ends, value_out}
-use Rattle.yaml_read.specs.{declared.levels.Turn.Turn, Settled.Ended, Settled.none_ended, Settled.TurnTook, Stepped.TurnShorter}
-use Rattle.yaml_read.proofs.SettledLevels.{ended_on, off, took_on}
-use Rattle.yaml_read.proofs.UniqueSoFar.{ended_allows}
-use Rattle.yaml_read.proofs.{SeenLevels.levels_length, SeenLevels.pushed_on, Turns.popped, Opening.taken}
+use Rattle.yaml_read.{specs.Opened.TurnRead, specs.declared.levels.Turn.Turn, specs.Settled.TurnTook, specs.Stepped.TurnShorter}
+use Rattle.yaml_read.proofs.{BreakingNodes.end_lacks, BreakingNodes.value_stops, Opening.value_out, Opening.taken, SettledLevels.ended_on, SettledLevels.off}
+use Rattle.yaml_read.proofs.{SettledLevels.took_on, UniqueSoFar.ended_allows, SeenLevels.levels_length, SeenLevels.pushed_on}
 use Rattle.yaml_read.proofs.levels.settle.Goals as goal
 
 pub loop-level-init : goal.loop-level-init
-loop-level-init g c = (search rules, omega arith, record { read = λ root read. read }, record { read = λ whole read. read }, none_ended)
+loop-level-init g c = (search rules, omega arith, record { read = λ whole read. read }, none_ended)
 
 pub returns-in-Err : goal.returns-in-Err
 returns-in-Err g c =
     let inner = seen_levels c.pop.new.self.items in
     let depth : c.len.result ≡ length inner = c.len.ensures ∙ c.pop.new.self.ok.0 ∙ sym (levels_length c.pop.new.self.items) in
     record {
-      reached = λ root read.
-          let taken = popped _ _ _ _ _ _ _ _ root c.loop-level.invariant.2 c.in-Some.ensures.items read in
-          c.in-Err.ensures.reached root inner depth taken;
       read = λ whole read. tt;
       stops = λ mode whole read open_allow allow.
-          let before = taken _ _ _ _ _ _ _ _ whole c.loop-level.invariant.3 c.in-Some.ensures.items read in
-          let allowed = ended_allows mode _ _ _ _ (off _ _ _ _ _ _ c.loop-level.invariant.4 c.in-Some.ensures.items) open_allow allow in
+          let before = taken _ _ _ _ _ _ _ _ whole c.loop-level.invariant.2 c.in-Some.ensures.items read in
+          let allowed = ended_allows mode _ _ _ _ (off _ _ _ _ _ _ c.loop-level.invariant.3 c.in-Some.ensures.items) open_allow allow in
           value_stops mode whole inner (seen_level c.in-Some.level) (seen_value c.loop-level.value) c.loop-level.text.now c.len.result c.in-Err.stop depth
           before allowed.0 allowed.1 c.in-Err.ensures.breaks;
       shorter = tt;
@@ -37,14 +29,8 @@ returns-in-Ok-push g c =
     let inner = seen_levels c.pop.new.self.items in
     let depth : c.len.result ≡ length inner = c.len.ensures ∙ c.pop.new.self.ok.0 ∙ sym (levels_length c.pop.new.self.items) in
     record {
-      reached = λ root read.
-          let taken = popped _ _ _ _ _ _ _ _ root c.loop-level.invariant.2 c.in-Some.ensures.items read in
-          let reached : TurnReached root inner (Ok c.in-Ok.turn) = c.in-Ok.ensures.reached root inner depth taken in
-          let due = subst (λ (t : Turn g.row.A.Denot). TurnReached root inner (Ok t)) c.in-Continues.is reached in
-          subst (λ (levels : List OpenLevel). IsDue root levels c.in-Continues.next.now)
-          (sym (pushed_on c.in-Continues.level c.pop.new.self.items c.push.new.list.items c.in-Ok-push.ensures).0) due;
       read = λ whole read.
-          let before = taken _ _ _ _ _ _ _ _ whole c.loop-level.invariant.3 c.in-Some.ensures.items read in
+          let before = taken _ _ _ _ _ _ _ _ whole c.loop-level.invariant.2 c.in-Some.ensures.items read in
           let turn : TurnRead whole inner c.in-Ok.turn = c.in-Ok.ensures.read whole inner depth before in
           let opened = subst (λ (t : Turn g.row.A.Denot). TurnRead whole inner t) c.in-Continues.is turn in
           subst (λ (levels : List OpenLevel). IsOpen whole levels c.in-Continues.next.now)
@@ -55,7 +41,7 @@ returns-in-Ok-push g c =
           omega (arith, less, c.loop-level.invariant.1);
       took =
           took_on (seen_levels c.args.levels.now.items) (seen_levels c.push.new.list.items) (seen_value c.args.value) (seen_value c.loop-level.value)
-          c.loop-level.levels.items c.pop.new.self.items c.in-Some.level c.in-Continues.level c.loop-level.invariant.4 c.in-Some.ensures.items
+          c.loop-level.levels.items c.pop.new.self.items c.in-Some.level c.in-Continues.level c.loop-level.invariant.3 c.in-Some.ensures.items
           (subst (λ (t : Turn g.row.A.Denot). TurnTook (seen_level c.in-Some.level) (seen_value c.loop-level.value) t) c.in-Continues.is
           c.in-Ok.ensures.took)
           (pushed_on c.in-Continues.level c.pop.new.self.items c.push.new.list.items c.in-Ok-push.ensures).0;
@@ -67,16 +53,14 @@ returns-in-Ok-end_text g c =
     let text = c.loop-level.text.now in
     let none = no_levels c.loop-level.levels.items (omega (arith, c.in_default.ensures.cases.0, c.loop-level.levels.ok.0)) in
     record {
-      reached = λ root read.
-          (root_ends root value text (subst (λ (levels : List OpenLevel). IsRead root levels value text) none (c.loop-level.invariant.2.read root read))).0;
       read = λ whole read.
-          let out = subst (λ (levels : List OpenLevel). HasRead whole levels value text) none (c.loop-level.invariant.3.read whole read) in
+          let out = subst (λ (levels : List OpenLevel). HasRead whole levels value text) none (c.loop-level.invariant.2.read whole read) in
           (value_out whole value text out c.in-Ok-end_text.ensures, out.readable);
       stops = λ mode whole read open_allow allow. tt;
       shorter = tt;
       took =
           subst (λ (levels : List OpenLevel). Ended (seen_levels c.args.levels.now.items) (seen_value c.args.value) levels value) none
-          c.loop-level.invariant.4;
+          c.loop-level.invariant.3;
     }
 
 pub returns-in-Err-end_text : goal.returns-in-Err-end_text
@@ -85,17 +69,13 @@ returns-in-Err-end_text g c =
     let text = c.loop-level.text.now in
     let none = no_levels c.loop-level.levels.items (omega (arith, c.in_default.ensures.cases.0, c.loop-level.levels.ok.0)) in
     record {
-      reached = λ root read.
-          let ends = root_ends root value text
-          (subst (λ (levels : List OpenLevel). IsRead root levels value text) none (c.loop-level.invariant.2.read root read)) in
-          absurd (end_there text c.in-Err-end_text.stop c.in-Err-end_text.ensures ends.1);
       read = λ whole read. tt;
       stops = λ mode whole read open_allow allow.
           let allowed = ended_allows mode (seen_levels c.args.levels.now.items) (seen_value c.args.value) [] value
           (subst (λ (levels : List OpenLevel). Ended (seen_levels c.args.levels.now.items) (seen_value c.args.value) levels value) none
-          c.loop-level.invariant.4) open_allow allow in
+          c.loop-level.invariant.3) open_allow allow in
           end_lacks mode whole value text c.in-Err-end_text.stop
-          (subst (λ (levels : List OpenLevel). HasRead whole levels value text) none (c.loop-level.invariant.3.read whole read))
+          (subst (λ (levels : List OpenLevel). HasRead whole levels value text) none (c.loop-level.invariant.2.read whole read))
           allowed.0 allowed.1 c.in-Err-end_text.ensures;
       shorter = tt;
       took = tt;
@@ -110,18 +90,12 @@ loop-level-preserved g c =
       search rules,
       omega (arith, less, c.loop-level.invariant.1),
       record {
-        read = λ root read.
-            let taken = popped _ _ _ _ _ _ _ _ root c.loop-level.invariant.2 c.in-Some.ensures.items read in
-            let reached : TurnReached root inner (Ok c.in-Ok.turn) = c.in-Ok.ensures.reached root inner depth taken in
-            subst (λ (t : Turn g.row.A.Denot). TurnReached root inner (Ok t)) c.in-Ends.is reached;
-      },
-      record {
         read = λ whole read.
-            let before = taken _ _ _ _ _ _ _ _ whole c.loop-level.invariant.3 c.in-Some.ensures.items read in
+            let before = taken _ _ _ _ _ _ _ _ whole c.loop-level.invariant.2 c.in-Some.ensures.items read in
             let turn : TurnRead whole inner c.in-Ok.turn = c.in-Ok.ensures.read whole inner depth before in
             subst (λ (t : Turn g.row.A.Denot). TurnRead whole inner t) c.in-Ends.is turn;
       },
       ended_on (seen_levels c.args.levels.now.items) (seen_value c.args.value) (seen_value c.loop-level.value) (seen_value c.in-Ends.whole)
-          c.loop-level.levels.items c.pop.new.self.items c.in-Some.level c.loop-level.invariant.4 c.in-Some.ensures.items
+          c.loop-level.levels.items c.pop.new.self.items c.in-Some.level c.loop-level.invariant.3 c.in-Some.ensures.items
           (subst (λ (t : Turn g.row.A.Denot). TurnTook (seen_level c.in-Some.level) (seen_value c.loop-level.value) t) c.in-Ends.is c.in-Ok.ensures.took),
     )

@@ -1,6 +1,4 @@
-use Rattle.std.proofs.Common.{Ok, subst}
-use Rattle.yaml_value.specs.{OpenLevels.seen_level, SeenValues.seen_value}
-use Rattle.yaml_read.specs.{Stepped.BehindRead, declared.levels.Entry.Entry}
+use Rattle.yaml_read.proofs.Common.{Ok, subst, seen_level, seen_value, BehindRead, Entry}
 use Rattle.yaml_read.proofs.Taken.{taken_lacks, taken_goes_on, taken_ends}
 use Rattle.yaml_read.proofs.levels.take_value.Goals as goal
 

@@ -1,6 +1,4 @@
-use Rattle.std.proofs.Common.{◌≡◌, ◌+◌, ◌-◌, ◌≤◌, drop, length}
-use Rattle.std.specs.List.{prefix_len}
-use Rattle.yaml_base.specs.Characters.{is_alpha}
+use Rattle.yaml_read.proofs.Common.{◌≡◌, ◌+◌, ◌-◌, ◌≤◌, drop, length, prefix_len, is_alpha}
 use Rattle.yaml_read.proofs.names.name_length.Given as goal
 
 abbrev pub invariant-letters : goal.invariant-letters

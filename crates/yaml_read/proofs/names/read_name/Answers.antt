@@ -1,9 +1,6 @@
-use Rattle.std.proofs.Common.{ap, sym, ◌∙◌}
-use Rattle.std.specs.List.{prefix_len}
-use Rattle.yaml_base.specs.Characters.{is_alpha}
-use Rattle.yaml_read.proofs.NameEnds.{name_ends}
+use Rattle.yaml_read.proofs.Common.{ap, sym, ◌∙◌, prefix_len, is_alpha, NoName}
 use Rattle.yaml_read.proofs.NameTexts.{copied_name, name_boundary, name_cut, name_found, name_sound, name_there}
-use Rattle.yaml_read.{proofs.NodeTexts.none_read, specs.Beginnings.NoName}
+use Rattle.yaml_read.proofs.{NameEnds.name_ends, NodeTexts.none_read}
 use Rattle.yaml_read.proofs.names.read_name.Goals as goal
 
 pub split_at-requires : goal.split_at-requires

@@ -1,5 +1,5 @@
-use Rattle.std.proofs.Common.{◌∙◌}
-use Rattle.yaml_base.proofs.AsciiWords.{ascii_of, same_word}
+use Rattle.yaml_read.proofs.Common.{◌∙◌, ascii_of}
+use Rattle.yaml_base.proofs.AsciiWords.{same_word}
 use Rattle.yaml_read.proofs.nodes.is_tag.Goals as goal
 
 pub returns : goal.returns

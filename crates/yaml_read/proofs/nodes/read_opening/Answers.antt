@@ -1,11 +1,8 @@
-use Rattle.std.proofs.Common.{◌++◌, ◌∷◌, ℕ, List, None, Some, ap, codes, refl, subst, sym, ◌∙◌}
-use Rattle.yaml_base.specs.{Characters.space, Event.Event, Event.alias, Seen.seen_event, Seen.seen_text}
-use Rattle.yaml_read.specs.{Beginnings.IsOpeningRead, Beginnings.NoName, Beginnings.NoOpening, Beginnings.ReadOr, EventTexts.is_alias, EventTexts.opening_text}
-use Rattle.yaml_read.specs.EventTexts.{ends_in_name}
-use Rattle.yaml_read.proofs.NameEnds.{alias_ends}
-use Rattle.yaml_read.proofs.NameTexts.{anchor_sound}
-use Rattle.yaml_read.proofs.NodeTexts.{absent_then, alias_read, at_alias, behind_mark, behind_none, behind_space, no_space, none_read, opening_of}
-use Rattle.yaml_read.proofs.NodeTexts.{opening_read, read_or_then}
+use Rattle.yaml_read.proofs.Common.{◌++◌, ◌∷◌, ℕ, List, None, Some, ap, codes, refl, subst, sym, ◌∙◌, space, Event, alias, seen_event, seen_text, IsOpeningRead}
+use Rattle.yaml_read.proofs.Common.{NoName, NoOpening, ReadOr, is_alias, opening_text, ends_in_name}
+use Rattle.yaml_read.proofs.NodeTexts.{absent_then, alias_read, at_alias, behind_mark, behind_none, behind_space, no_space, none_read, opening_of, opening_read}
+use Rattle.yaml_read.proofs.NodeTexts.{read_or_then}
+use Rattle.yaml_read.proofs.{NameEnds.alias_ends, NameTexts.anchor_sound}
 use Rattle.yaml_read.proofs.nodes.read_opening.Goals as goal
 
 pub returns-in-Ok : goal.returns-in-Ok

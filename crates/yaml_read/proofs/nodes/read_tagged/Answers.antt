@@ -1,11 +1,7 @@
-use Rattle.std.proofs.Common.{◌++◌, [], ap, codes, option_map, refl, string_bytes, sym, ◌∙◌}
-use Rattle.std.proofs.lemmas.Str.{IsUtf8-string_bytes, scalars-chars}
-use Rattle.yaml_base.specs.Event.{any_layout}
-use Rattle.yaml_base.specs.Seen.{seen_text}
-use Rattle.yaml_base.specs.graphs.Meetings.{mapping_held, sequence_held}
-use Rattle.yaml_read.specs.Beginnings.{NoTag, NoTagged}
-use Rattle.yaml_read.specs.WrittenTags.{mapping_opened, sequence_opened}
+use Rattle.yaml_read.proofs.Common.{◌++◌, [], ap, codes, option_map, refl, string_bytes, sym, ◌∙◌, IsUtf8-string_bytes, scalars-chars, any_layout, seen_text}
+use Rattle.yaml_read.proofs.Common.{mapping_held, sequence_held, NoTag, mapping_opened, sequence_opened}
 use Rattle.yaml_read.proofs.NodeTexts.{absent_then, at_brace, at_bracket, at_quote, held_read, none_read, tagged_read, whole_absent}
+use Rattle.yaml_read.specs.Beginnings.{NoTagged}
 use Rattle.yaml_read.proofs.{HeadsRead.word_bytes, Words.memory_only}
 use Rattle.yaml_read.proofs.nodes.read_tagged.Goals as goal
 

@@ -1,7 +1,6 @@
-use Rattle.std.proofs.Common.{sym, ◌∙◌, true≢false}
-use Rattle.yaml_read.proofs.FirstCharacters.{backslash_first, character_there, itself_first}
-use Rattle.std.proofs.lemmas.Option.{IfSome_then}
-use Rattle.yaml_read.proofs.CharactersRead.{escape_read, itself_read, scalar_of}
+use Rattle.yaml_read.proofs.Common.{sym, ◌∙◌, true≢false, IfSome_then}
+use Rattle.yaml_read.proofs.{FirstCharacters.backslash_first, FirstCharacters.character_there, FirstCharacters.itself_first, CharactersRead.escape_read}
+use Rattle.yaml_read.proofs.{CharactersRead.itself_read, CharactersRead.scalar_of}
 use Rattle.yaml_read.proofs.quoted.read_character.Goals as goal
 
 pub returns-in-None : goal.returns-in-None

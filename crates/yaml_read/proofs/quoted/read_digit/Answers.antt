@@ -1,6 +1,4 @@
-use Rattle.std.proofs.Common.{ap, sym, ◌∙◌, ◌++◌}
-use Rattle.std.{proofs.lemmas.Option.none-some, proofs.lemmas.Option.same_Some, proofs.lemmas.List.append-nil, specs.Prelude.encode_utf8}
-use Rattle.yaml_base.{specs.Characters.hex_digit, specs.reading.ReadDouble.digit_meaning}
+use Rattle.yaml_read.proofs.Common.{ap, sym, ◌∙◌, ◌++◌, none-some, same_Some, append-nil, encode_utf8, hex_digit, digit_meaning}
 use Rattle.yaml_read.proofs.{Escapes.digit_reads, Firsts.first_is, Firsts.not_empty, CharactersRead.digit_is, DigitsRead.digit_small}
 use Rattle.yaml_read.proofs.quoted.read_digit.Goals as goal
 

@@ -1,10 +1,7 @@
-use Rattle.std.proofs.Common.{◌<◌, ◌∙◌, Some, ap, arith, refl, sym, true, true≢false}
-use Rattle.std.proofs.lemmas.Option.{IfSome_then, none-some, same_Some}
-use Rattle.yaml_base.specs.scalars.DoubleQuoted.{needs_escape}
+use Rattle.yaml_read.proofs.Common.{◌<◌, ◌∙◌, Some, ap, arith, refl, sym, true, true≢false, IfSome_then, none-some, same_Some, needs_escape, hex_digits}
 use Rattle.yaml_read.proofs.FirstCharacters.{escape_there, four_digits_follow, letter_follows, read_on, two_digits_follow}
-use Rattle.yaml_base.specs.Characters.{hex_digits}
-use Rattle.yaml_read.proofs.DigitsRead.{digits_reads, digits_sound}
 use Rattle.yaml_read.proofs.CharactersRead.{letter_read, letter_scalar, long_read, number_reads, number_sound, short_read}
+use Rattle.yaml_read.proofs.DigitsRead.{digits_reads, digits_sound}
 use Rattle.yaml_read.proofs.quoted.read_escape.Goals as goal
 
 pub returns-in-None : goal.returns-in-None

@@ -1,6 +1,5 @@
-use Rattle.std.proofs.Common.{◌/◌, ◌%◌, ◌++◌, ap, ◌∙◌, arith, encode_utf8_all}
-use Rattle.yaml_base.specs.Characters.{hex_digits}
-use Rattle.yaml_read.{proofs.Firsts.four_text, proofs.CharactersRead.four_read}
+use Rattle.yaml_read.proofs.Common.{◌/◌, ◌%◌, ◌++◌, ap, ◌∙◌, arith, encode_utf8_all, hex_digits}
+use Rattle.yaml_read.proofs.{Firsts.four_text, CharactersRead.four_read}
 use Rattle.yaml_read.proofs.quoted.read_four_digits.Goals as goal
 
 pub returns-in-None : goal.returns-in-None

@@ -1,6 +1,5 @@
-use Rattle.std.proofs.Common.{◌∷◌, [], Some, List, ℕ, Bor, ◌≤◌, true, ap, subst, sym, ◌∙◌}
-use Rattle.std.{proofs.lemmas.Option.none-some, proofs.lemmas.Option.same_Some, specs.Str.all_scalars}
-use Rattle.yaml_base.specs.scalars.DoubleQuoted.{letter_among, needs_escape, short_escapes}
+use Rattle.yaml_read.proofs.Common.{◌∷◌, [], Some, List, ℕ, Bor, ◌≤◌, true, ap, subst, sym, ◌∙◌, none-some, same_Some, all_scalars, letter_among, needs_escape}
+use Rattle.yaml_read.proofs.Common.{short_escapes}
 use Rattle.yaml_read.proofs.quoted.read_number.Goals as goal
 
 pub returns-in-None-character_of : goal.returns-in-None-character_of

@@ -1,9 +1,8 @@
-use Rattle.std.proofs.Common.{◌∷◌, List, [], ℕ, None, Some, inl, refl, subst, sym, rules, arith, codes, string_bytes}
-use Rattle.yaml_read.proofs.{QuotedTexts.ReadsOn, QuotedTexts.reads_more, QuotedTexts.text_read, Breaking.missing, CharactersRead.one_more}
-use Rattle.yaml_read.proofs.{QuotedTexts.opening_there, BreakingNodes.no_character, BreakingNodes.passes_character, BreakingNodes.passes_quote}
-use Rattle.yaml_read.proofs.{QuotedTexts.reads_first, BreakingNodes.utf8_left, CharactersRead.ReadSoFar, CharactersRead.all_read, CharactersRead.none_yet}
-use Rattle.yaml_read.specs.{Grammar.characters}
-use Rattle.yaml_read.proofs.CharactersRead.{character_shorter}
+use Rattle.yaml_read.proofs.Common.{◌∷◌, List, [], ℕ, None, Some, inl, refl, subst, sym, rules, arith, codes, string_bytes, characters}
+use Rattle.yaml_read.proofs.QuotedTexts.{ReadsOn, reads_more, text_read, opening_there, reads_first}
+use Rattle.yaml_read.proofs.CharactersRead.{one_more, ReadSoFar, all_read, none_yet, character_shorter}
+use Rattle.yaml_read.proofs.BreakingNodes.{no_character, passes_character, passes_quote, utf8_left}
+use Rattle.yaml_read.proofs.Breaking.{missing}
 use Rattle.yaml_read.proofs.quoted.read_quoted.Goals as goal
 
 pub returns-in-Err : goal.returns-in-Err

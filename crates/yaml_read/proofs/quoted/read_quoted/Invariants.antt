@@ -1,6 +1,5 @@
-use Rattle.std.proofs.Common.{◌<◌, length, string_bytes}
-use denote.{Text.Utf8, Shadow.shadow}
-use Rattle.yaml_read.{proofs.BreakingNodes.PassesCharacters, proofs.CharactersRead.ReadSoFar, proofs.QuotedTexts.ReadsOn}
+use Rattle.yaml_read.proofs.Common.{◌<◌, length, string_bytes, Utf8, shadow}
+use Rattle.yaml_read.proofs.{BreakingNodes.PassesCharacters, CharactersRead.ReadSoFar, QuotedTexts.ReadsOn}
 use Rattle.yaml_read.proofs.quoted.read_quoted.Given as goal
 
 abbrev pub invariant-characters : goal.invariant-characters

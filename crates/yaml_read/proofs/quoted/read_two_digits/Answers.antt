@@ -1,5 +1,4 @@
-use Rattle.std.proofs.Common.{◌/◌, ◌%◌, ◌∷◌, arith}
-use Rattle.yaml_base.specs.Characters.{hex_digit}
+use Rattle.yaml_read.proofs.Common.{◌/◌, ◌%◌, ◌∷◌, arith, hex_digit}
 use Rattle.yaml_read.proofs.CharactersRead.{two_read}
 use Rattle.yaml_read.proofs.quoted.read_two_digits.Goals as goal
 

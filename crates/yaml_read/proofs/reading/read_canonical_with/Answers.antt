@@ -1,9 +1,6 @@
-use Rattle.std.proofs.Common.{subst, sym, ◌∙◌, inl, inr, ◌<◌, rules}
-use Rattle.std.{specs.Str.IsUtf8, specs.Prelude.length}
-use Rattle.yaml_base.{proofs.Decoding.text_bytes-utf8, specs.values.ValueText.document_text, specs.Settings.largest_usize}
-use Rattle.yaml_value.specs.SeenValues.{seen_value}
-use Rattle.yaml_read.proofs.{Scalars.document_utf8, UniqueTexts.key_placed, UniqueTexts.key_stopped, WrittenValues.written_value}
-use Rattle.yaml_read.specs.{HeldKeys.KeyStopsAt, RepeatedKeys.IsPlacedBy}
+use Rattle.yaml_read.proofs.Common.{subst, sym, ◌∙◌, inl, ◌<◌, rules, length, largest_usize, seen_value, KeyStopsAt, IsPlacedBy, IsUtf8, inr, text_bytes-utf8}
+use Rattle.yaml_read.proofs.Common.{document_text}
+use Rattle.yaml_read.proofs.{Scalars.document_utf8, UniqueTexts.key_placed, UniqueWays.none_allowed, WrittenValues.written_value}
 use Rattle.yaml_read.proofs.reading.read_canonical_with.Goals as goal
 
 pub returns-in-Err-clause-complete : goal.returns-in-Err-clause-complete
@@ -22,8 +19,8 @@ returns-in-Ok-read_text-clause-read g c =
 
 pub returns-in-Err-read_text-clause-complete : goal.returns-in-Err-read_text-clause-complete
 returns-in-Err-read_text-clause-complete g c =
-    key_stopped c.args.keys c.args.bytes.now c.in-Ok.text.now c.in-Err-read_text.stop c.key_error_of.result c.in-Ok.ensures.1 c.key_error_of.ensures
-    c.in-Err-read_text.ensures.complete
+    none_allowed c.args.keys c.args.bytes.now c.in-Err-read_text.stop c.key_error_of.result c.in-Ok.ensures.0 c.key_error_of.ensures
+    (subst (λ bytes. KeyStopsAt c.args.keys bytes c.in-Err-read_text.stop) c.in-Ok.ensures.1 c.in-Err-read_text.ensures.stops)
 
 pub returns-in-Err-read_text-clause-placed : goal.returns-in-Err-read_text-clause-placed
 returns-in-Err-read_text-clause-placed g c =

@@ -1,10 +1,7 @@
-use Rattle.std.proofs.Common.{List, ap, subst, sym, rules, codes}
-use Rattle.yaml_value.{specs.SeenValues.seen_value, specs.OpenLevels.seen_levels, specs.declared.levels.Level.Level}
-use Rattle.yaml_read.{specs.Settled.NextMoved, specs.Opened.NextRead, specs.Stepped.NextShorter}
-use Rattle.yaml_read.{specs.declared.levels.Next.Next, proofs.Opening.text_read, proofs.Turns.root_due, proofs.Words.memory_only, proofs.Words.no_word}
-use Rattle.yaml_read.proofs.{Placing.marker_stops, Placing.text_stops}
+use Rattle.yaml_read.proofs.Common.{List, subst, sym, rules, seen_value, seen_levels, Level, NextMoved, NextShorter, Next}
 use Rattle.yaml_read.proofs.UniqueTexts.{TextAt, follow_stops, follows, stepped_at, text_begins, text_on, whole_allows}
-use Rattle.yaml_read.specs.declared.errors.KeyStop.TheVariants as key
+use Rattle.yaml_read.specs.Opened.{NextRead}
+use Rattle.yaml_read.proofs.{Opening.text_read, Placing.marker_stops, Placing.text_stops}
 use Rattle.yaml_read.proofs.reading.read_text.Goals as goal
 
 pub nodes-init : goal.nodes-init
@@ -19,10 +16,6 @@ nodes-init g c = (
 pub returns-in-Err : goal.returns-in-Err
 returns-in-Err g c =
     record {
-      complete =
-          λ value readable allow is.
-          let root = root_due value c.args.text.now readable is in
-          absurd (no_word (codes "---\n") c.args.text.now root.0 c.in-Err.ensures.cut root.1);
       sound = tt;
       stops = marker_stops c.args.keys c.args.text.now c.in-Err.stop c.in-Err.ensures.cut c.in-Err.ensures.placed;
     }
@@ -31,9 +24,6 @@ pub returns-in-Err-step : goal.returns-in-Err-step
 returns-in-Err-step g c =
     let so_far = c.nodes.invariant.1 in
     record {
-      complete =
-          λ value readable allow is.
-          ap key.Other (memory_only c.in-Err-step.stop (c.in-Err-step.ensures.reached value (so_far.due value readable is)));
       sound = tt;
       stops =
           text_stops c.args.keys c.args.text.now so_far.whole c.in-Err-step.stop so_far.text_is
@@ -49,7 +39,6 @@ returns-in-Done g c =
     (c.in-Ok-step.ensures.read so_far.whole so_far.opened) in
     let moved = subst (λ (next : Next g.row.A.Denot). NextMoved before after next) c.in-Done.is c.in-Ok-step.ensures.moved in
     record {
-      complete = λ value readable allow is. tt;
       sound = (
         text_read (seen_value c.in-Done.value) c.args.text.now so_far.whole so_far.text_is read.0,
         read.1,

@@ -1,6 +1,4 @@
-use Rattle.std.proofs.Common.{length}
-use denote.{Text.Utf8, Shadow.shadow}
-use Rattle.yaml_value.specs.OpenLevels.{seen_levels}
+use Rattle.yaml_read.proofs.Common.{length, Utf8, shadow, seen_levels}
 use Rattle.yaml_read.proofs.UniqueTexts.{TextAt}
 use Rattle.yaml_read.proofs.reading.read_text.Given as goal
 

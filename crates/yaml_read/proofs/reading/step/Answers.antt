@@ -1,10 +1,8 @@
-use Rattle.std.proofs.Common.{◌++◌, ◌∙◌, List, [], ap, codes, subst, sym}
-use Rattle.yaml_value.specs.OpenLevels.{items_open, pairs_open, seen_levels}
-use Rattle.yaml_value.specs.{SeenValues.seen_pairs, SeenValues.seen_value, SeenValues.seen_values, declared.value.Value.Value}
-use Rattle.yaml_read.specs.Stepped.{IsEmptyLevel, empty_list_level, empty_map_level}
-use Rattle.yaml_read.specs.declared.heads.Kind.TheVariants as kind
+use Rattle.yaml_read.proofs.Common.{◌++◌, ◌∙◌, List, [], ap, codes, subst, sym, items_open, pairs_open, seen_levels, seen_value, Value, IsEmptyLevel}
+use Rattle.yaml_read.proofs.Common.{empty_list_level, empty_map_level, tag_word}
 use Rattle.yaml_read.proofs.Stepping.{no_scalar_steps, no_tag_steps, scalar_kind, scalar_steps}
-use Rattle.yaml_read.specs.Heads.{tag_word}
+use Rattle.yaml_value.specs.SeenValues.{seen_pairs, seen_values}
+use Rattle.yaml_read.specs.declared.heads.Kind.TheVariants as kind
 use Rattle.yaml_read.proofs.reading.step.Goals as goal
 
 pub read_scalar-requires : goal.read_scalar-requires
@@ -28,7 +26,7 @@ pub returns-in-Ok-read_scalar : goal.returns-in-Ok-read_scalar
 returns-in-Ok-read_scalar g c =
     let read = c.in-Ok-read_scalar.ensures in
     scalar_steps (seen_levels c.args.levels.now.items) (seen_levels c.settle.new.levels.items) c.in-Ok.kind c.args.text.now c.in-Ok.behind.now
-    c.in-Ok-read_scalar.rest.now (seen_value c.in-Ok-read_scalar.value) c.settle.result c.in-Ok.ensures read.sound read.reads read.shorter
+    c.in-Ok-read_scalar.rest.now (seen_value c.in-Ok-read_scalar.value) c.settle.result c.in-Ok.ensures read.sound read.shorter
     c.settle.ensures
 
 pub returns-in-Err-read_scalar : goal.returns-in-Err-read_scalar

@@ -1,7 +1,6 @@
-use Rattle.std.proofs.Common.{◌++◌, ◌∷◌, [], codes, encode_utf8_all, map}
-use Rattle.yaml_base.{specs.Characters.line_feed, specs.Seen.seen_event}
-use Rattle.yaml_read.{proofs.Turns.cut_is, proofs.Words.memory_is, proofs.Words.no_word}
-use Rattle.yaml_read.proofs.DocumentsRead.{events_sound, events_stop, first_line_stops}
+use Rattle.yaml_read.proofs.Common.{◌++◌, ◌∷◌, [], codes, encode_utf8_all, map, line_feed, seen_event}
+use Rattle.yaml_read.proofs.{Turns.cut_is, Words.memory_is, Words.no_word, DocumentsRead.events_sound, DocumentsRead.events_stop}
+use Rattle.yaml_read.proofs.{DocumentsRead.first_line_stops}
 use Rattle.yaml_read.proofs.runs.read_events.Goals as goal
 
 pub returns-in-Err : goal.returns-in-Err

@@ -1,7 +1,6 @@
-use Rattle.std.proofs.Common.{◌<◌, length, map, rules, subst}
-use Rattle.yaml_base.specs.Seen.{seen_event}
+use Rattle.yaml_read.proofs.Common.{◌<◌, length, map, rules, subst, seen_event, seen_awaits, bytes_behind, open_now}
 use Rattle.yaml_read.proofs.EventRuns.{RunDue, RunRead, event_shorter, fails_at_event, root_ended, run_begins, run_goes}
-use Rattle.yaml_read.specs.{Awaits.seen_awaits, EventSteps.bytes_behind, EventSteps.open_now, declared.steps.Progress.Progress}
+use Rattle.yaml_read.specs.declared.steps.Progress.{Progress}
 use Rattle.yaml_read.proofs.runs.read_root.Goals as goal
 
 pub steps-init : goal.steps-init

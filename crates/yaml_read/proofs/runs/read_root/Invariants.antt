@@ -1,7 +1,5 @@
-use Rattle.std.proofs.Common.{Some, length, map}
-use denote.{Text.Utf8, Shadow.shadow}
-use Rattle.yaml_base.specs.Seen.{seen_event}
-use Rattle.yaml_read.{specs.Awaits.seen_awaits, proofs.EventRuns.RunBegun, proofs.EventRuns.RunDue}
+use Rattle.yaml_read.proofs.Common.{Some, length, map, Utf8, shadow, seen_event, seen_awaits}
+use Rattle.yaml_read.proofs.EventRuns.{RunBegun, RunDue}
 use Rattle.yaml_read.proofs.runs.read_root.Given as goal
 
 abbrev pub invariant-steps : goal.invariant-steps

@@ -1,8 +1,7 @@
-use Rattle.std.proofs.Common.{◌++◌, ◌∷◌, [], ap, map, ◌∙◌, List, Err, refl}
-use Rattle.yaml_base.specs.{Event.Event, Seen.seen_event, declared.events.yaml_event_t.yaml_event_t}
+use Rattle.yaml_read.proofs.Common.{◌++◌, ◌∷◌, [], ap, map, ◌∙◌, List, Err, refl, Event, seen_event, seen_awaits}
 use Rattle.yaml_read.proofs.EventRuns.{end_answer, end_lacking, memory_fails, run_ends}
+use Rattle.yaml_base.specs.declared.events.yaml_event_t.{yaml_event_t}
 use Rattle.yaml_read.proofs.Words.{memory_only}
-use Rattle.yaml_read.specs.Awaits.{seen_awaits}
 use Rattle.yaml_read.proofs.runs.read_run.Goals as goal
 
 pub read_root-requires-clause-begun : goal.read_root-requires-clause-begun

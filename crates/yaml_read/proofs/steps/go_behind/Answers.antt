@@ -1,6 +1,5 @@
-use Rattle.std.proofs.Common.{◌≡◌, None, Option, ap, subst, sym, ◌∙◌}
-use Rattle.yaml_read.specs.EventSteps.{GoesTo, open_behind_opening, trail_behind_opening}
-use Rattle.yaml_read.specs.{Awaits.seen_awaits, Beginnings.ReadOr, Words.past_word, declared.leads.Await.Await}
+use Rattle.yaml_read.proofs.Common.{◌≡◌, None, Option, ap, subst, sym, ◌∙◌, GoesTo, open_behind_opening, trail_behind_opening, seen_awaits, ReadOr, past_word}
+use Rattle.yaml_read.proofs.Common.{Await}
 use Rattle.yaml_read.proofs.{Awaits.await_more, EventSteps.opened_on}
 use Rattle.yaml_read.proofs.steps.go_behind.Goals as goal
 

@@ -1,8 +1,6 @@
-use Rattle.std.proofs.Common.{◌≡◌, None, ap, ◌∙◌, arith}
+use Rattle.yaml_read.proofs.Common.{◌≡◌, None, ap, ◌∙◌, arith, seen_await, seen_awaits, trail_text, past_word}
 use Rattle.yaml_read.proofs.Awaits.{await_more, no_awaits, node_left, node_stays, root_left}
-use Rattle.yaml_read.proofs.EventPlaces.{here_stops}
-use Rattle.yaml_read.proofs.NodeTexts.{none_read}
-use Rattle.yaml_read.specs.{Awaits.seen_await, Awaits.seen_awaits, EventTexts.trail_text, Words.past_word}
+use Rattle.yaml_read.proofs.{EventPlaces.here_stops, NodeTexts.none_read}
 use Rattle.yaml_read.proofs.steps.leave_node.Goals as goal
 
 pub returns-in-None-clause-goes : goal.returns-in-None-clause-goes

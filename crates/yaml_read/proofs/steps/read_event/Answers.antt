@@ -1,16 +1,11 @@
-use Rattle.std.proofs.Common.{◌++◌, ◌∷◌, ◌∙◌, [], List, ap, encode_utf8_all, map, refl, subst, sym}
-use Rattle.std.proofs.lemmas.List.{map-append}
-use Rattle.yaml_base.specs.{Event.Event, Seen.seen_event}
-use Rattle.yaml_read.specs.EventSteps.{GoesTo, bytes_behind, open_now}
-use Rattle.yaml_read.specs.EventTexts.{Pending, left_open, outside, trail_text}
-use Rattle.yaml_read.specs.RunPlaces.{NoEventBegins}
-use Rattle.yaml_read.specs.{declared.levels.Entry.TheVariants.Another, declared.levels.Entry.TheVariants.End, Awaits.closing_event, Awaits.seen_awaits}
+use Rattle.yaml_read.proofs.Common.{◌++◌, ◌∷◌, ◌∙◌, [], List, ap, encode_utf8_all, map, refl, subst, sym, map-append, Event, seen_event, GoesTo, bytes_behind}
+use Rattle.yaml_read.proofs.Common.{open_now, Pending, left_open, outside, trail_text, NoEventBegins, Another, End, closing_event, seen_awaits, past_word}
+use Rattle.yaml_read.proofs.Common.{IsEventPlace}
 use Rattle.yaml_read.proofs.Awaits.{awaits_length, innermost_is, lead_at, taken_off}
 use Rattle.yaml_read.proofs.EventSteps.{end_due, end_read, event_read, it_comes, node_due, none_comes}
-use Rattle.yaml_read.proofs.{NodeTexts.memory_reads, NodeTexts.none_read, NodeTexts.read_or_then, Words.no_word}
-use Rattle.yaml_read.specs.Words.{past_word}
 use Rattle.yaml_read.proofs.EventPlaces.{bracket_placed, lead_placed, memory_placed, whole_placed_at}
-use Rattle.yaml_read.specs.RunPlaces.{IsEventPlace, at_event}
+use Rattle.yaml_read.proofs.{NodeTexts.memory_reads, NodeTexts.none_read, NodeTexts.read_or_then, Words.no_word}
+use Rattle.yaml_read.specs.RunPlaces.{at_event}
 use Rattle.yaml_read.proofs.steps.read_event.Goals as goal
 
 pub returns-in-Another-clause-reads : goal.returns-in-Another-clause-reads

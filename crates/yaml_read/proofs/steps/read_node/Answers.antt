@@ -1,12 +1,9 @@
-use Rattle.std.proofs.Common.{refl, [], ◌∷◌, ◌++◌, Option, map, ap, sym, ◌∙◌, append_assoc, encode_utf8_all}
-use Rattle.std.proofs.lemmas.List.{map-append}
-use Rattle.yaml_base.specs.Seen.{seen_event}
-use Rattle.yaml_read.specs.EventSteps.{await_opened, bytes_behind, open_behind_opening, open_now, trail_behind_opening}
-use Rattle.yaml_read.specs.{Awaits.seen_awaits, Beginnings.NoOpening, EventReads.NoNode, EventTexts.opening_text, declared.leads.Await.Await}
-use Rattle.yaml_read.proofs.EventSteps.{behind_encoded, node_read, trail_ends}
-use Rattle.yaml_read.proofs.EventPlaces.{memory_placed, node_placed, whole_placed}
-use Rattle.yaml_read.proofs.{NodeTexts.absent_then, NodeTexts.memory_reads, NodeTexts.read_or_then, NodeTexts.whole_absent, Words.no_word}
-use Rattle.yaml_read.specs.RunPlaces.{IsNodePlace, at_node}
+use Rattle.yaml_read.proofs.Common.{refl, [], ◌∷◌, ◌++◌, Option, map, ap, sym, ◌∙◌, append_assoc, encode_utf8_all, map-append, seen_event, await_opened}
+use Rattle.yaml_read.proofs.Common.{bytes_behind, open_behind_opening, open_now, trail_behind_opening, seen_awaits, NoOpening, opening_text, Await, IsNodePlace}
+use Rattle.yaml_read.proofs.NodeTexts.{absent_then, memory_reads, read_or_then, whole_absent}
+use Rattle.yaml_read.{specs.EventReads.NoNode, specs.RunPlaces.at_node}
+use Rattle.yaml_read.proofs.{EventSteps.behind_encoded, EventSteps.node_read, EventSteps.trail_ends, EventPlaces.memory_placed, EventPlaces.node_placed}
+use Rattle.yaml_read.proofs.{EventPlaces.whole_placed, Words.no_word}
 use Rattle.yaml_read.proofs.steps.read_node.Goals as goal
 
 pub returns-in-Ok-push-clause-reads : goal.returns-in-Ok-push-clause-reads

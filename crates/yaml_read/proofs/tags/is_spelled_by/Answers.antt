@@ -1,7 +1,5 @@
-use Rattle.std.proofs.Common.{not, ◌&&◌, ap, refl, sym, ◌∙◌, chars, is_some}
-use Rattle.yaml_base.specs.Tags.{behind}
+use Rattle.yaml_read.proofs.Common.{not, ◌&&◌, ap, refl, sym, ◌∙◌, chars, is_some, behind, type_prefix}
 use Rattle.yaml_read.proofs.TagTexts.{spelled_behind, spelled_whole, stays_by, stays_not}
-use Rattle.yaml_read.specs.WrittenTags.{type_prefix}
 use Rattle.yaml_read.proofs.tags.is_spelled_by.Goals as goal
 
 pub returns-then-not-is_empty : goal.returns-then-not-is_empty

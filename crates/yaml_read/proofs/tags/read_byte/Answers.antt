@@ -1,5 +1,4 @@
-use Rattle.std.proofs.Common.{ap, sym, ◌∙◌, true≢false}
-use Rattle.yaml_base.specs.Percent.{is_tag_character}
+use Rattle.yaml_read.proofs.Common.{ap, sym, ◌∙◌, true≢false, is_tag_character}
 use Rattle.yaml_read.proofs.TagBytes.{byte_there, first_of_byte, form_follows, form_read, itself_follows, itself_read, itself_small}
 use Rattle.yaml_read.proofs.tags.read_byte.Goals as goal
 

@@ -1,6 +1,6 @@
-use Rattle.std.proofs.Common.{arith, rules, sym, true≢false, ◌∙◌}
+use Rattle.yaml_read.proofs.Common.{arith, rules, sym, true≢false, ◌∙◌, NoEscaped}
 use Rattle.yaml_read.proofs.TagPrefixes.{word_begins, word_more, word_seen, word_sound, word_utf8, word_whole}
-use Rattle.yaml_read.{proofs.NodeTexts.none_read, proofs.TagBytes.byte_shorter, specs.Beginnings.NoEscaped}
+use Rattle.yaml_read.proofs.{NodeTexts.none_read, TagBytes.byte_shorter}
 use Rattle.yaml_read.proofs.tags.read_escaped.Goals as goal
 
 pub bytes-init : goal.bytes-init

@@ -1,5 +1,4 @@
-use Rattle.std.proofs.Common.{◌≤◌, length}
-use denote.{Text.Utf8, Shadow.shadow}
+use Rattle.yaml_read.proofs.Common.{◌≤◌, length, Utf8, shadow}
 use Rattle.yaml_read.proofs.TagPrefixes.{WordSoFar}
 use Rattle.yaml_read.proofs.tags.read_escaped.Given as goal
 

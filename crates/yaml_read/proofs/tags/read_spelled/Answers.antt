@@ -1,8 +1,7 @@
-use Rattle.yaml_base.proofs.Common.{Some, false, ◌++◌, ap, sym, ◌∙◌, true≢false, chars, encode_utf8_all, percent_escaped}
-use Rattle.yaml_base.{specs.Seen.seen_text, specs.graphs.DumpedText.tag_text}
+use Rattle.yaml_read.proofs.Common.{Some, false, ◌++◌, ap, sym, ◌∙◌, true≢false, chars, encode_utf8_all, percent_escaped, seen_text, tag_text, NoEscaped, NoTag}
+use Rattle.yaml_read.proofs.Common.{is_spelled_by}
 use Rattle.yaml_read.proofs.TagTexts.{end_ascii, end_ends, is_spelled, suffix_scalars, tag_sound, word_at}
 use Rattle.yaml_read.proofs.{Encoded.word_encoded, NodeTexts.absent_then, NodeTexts.none_read, Turns.cut_is, Words.no_word}
-use Rattle.yaml_read.specs.{Beginnings.NoEscaped, Beginnings.NoTag, WrittenTags.is_spelled_by}
 use Rattle.yaml_read.proofs.tags.read_spelled.Goals as goal
 
 pub returns : goal.returns

@@ -1,8 +1,5 @@
-use Rattle.yaml_base.proofs.Common.{Some, false}
-use Rattle.yaml_base.specs.graphs.DumpedText.{tag_text}
-use Rattle.yaml_read.proofs.TagTexts.{is_spelled, tag_there}
-use Rattle.yaml_read.{proofs.NodeTexts.none_read, specs.Beginnings.NoTag}
-use Rattle.yaml_read.specs.WrittenTags.{opens_document, opens_type, opens_whole}
+use Rattle.yaml_read.proofs.Common.{Some, false, tag_text, NoTag, opens_document, opens_type, opens_whole}
+use Rattle.yaml_read.proofs.{TagTexts.is_spelled, TagTexts.tag_there, NodeTexts.none_read}
 use Rattle.yaml_read.proofs.tags.read_written_tag.Goals as goal
 
 pub returns-in-Some : goal.returns-in-Some

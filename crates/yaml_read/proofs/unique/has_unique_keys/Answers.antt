@@ -1,6 +1,4 @@
-use Rattle.std.proofs.Common.{subst, ◌<◌, List, ℕ}
-use Rattle.yaml_base.specs.values.TypedValues.{most_nested, nesting}
-use Rattle.yaml_value.specs.SeenValues.{seen_value}
+use Rattle.yaml_read.proofs.Common.{subst, ◌<◌, List, ℕ, most_nested, nesting, seen_value}
 use Rattle.yaml_value.specs.declared.keys.Keys.TheVariants.{Unique}
 use Rattle.yaml_read.proofs.ChosenKeys.{NoneAllowed, repeat_told}
 use Rattle.yaml_read.proofs.unique.has_unique_keys.Goals as goal

@@ -2,8 +2,5 @@ use Rattle.yaml_value.proofs.Common.{Some, ap}
 use Rattle.yaml_value.proofs.ContentLemmas.{stream_tells_value}
 use Rattle.yaml_value.proofs.laws.equal_bytes_equal_values.Goals as goal
 
-pub returns-clause-bytes : goal.returns-clause-bytes
-returns-clause-bytes c first second bytes writes_first writes_second = writes_second.only first writes_first.bits writes_first.reads
-
 pub returns-clause-contents : goal.returns-clause-contents
 returns-clause-contents c first second first_bits second_bits same = stream_tells_value first second first_bits second_bits (ap Some same)

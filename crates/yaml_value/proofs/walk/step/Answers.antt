@@ -13,6 +13,3 @@ returns g c =
     ∙ ap (λ levels. levels ++ entered value) (popped c.push.new.self.items c.args.levels.now.items c.in-Some.others c.in_ok-push.ensures.items)
     ∙ append_assoc outer (seen_rest c.in-Some.others ∷ []) (entered value))
     ∙ ap (λ (parts : Option (TypedValue × Left)). stepped_by outer parts) c.in-Some.ensures
-
-pub returns-in_default : goal.returns-in_default
-returns-in_default g c = ap (λ (parts : Option (TypedValue × Left)). stepped_by (map seen_rest c.args.levels.now.items) parts) c.in_default.ensures

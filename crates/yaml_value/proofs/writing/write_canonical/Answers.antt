@@ -1,6 +1,5 @@
 use Rattle.yaml_value.proofs.Common.{false, true, ◌≡◌, rules, sym, ◌∙◌, seen_value}
-use Rattle.yaml_value.proofs.WritingLemmas.{too_deep_apart, test_fits, test_exceeds, memory_alone}
-use Rattle.yaml_value.proofs.TextLemmas.{text_written}
+use Rattle.yaml_value.proofs.WritingLemmas.{too_deep_apart, test_fits, test_exceeds, memory_alone, text_written}
 use Rattle.yaml_value.proofs.writing.write_canonical.Goals as goal
 
 pub written-requires : goal.written-requires

@@ -5,7 +5,8 @@ use std::alloc::Global;
 use std::process::Abort;
 use toml_ordered::{Node, read_document};
 use yaml_toml::{
-    Position, TomlError, ValueSettings, Writer, value_settings, write_toml, yaml_error_t,
+    Position, SyntaxError, TomlError, ValueSettings, Writer, value_settings, write_toml,
+    yaml_error_t,
 };
 use yaml_writer::YAML_BLOCK_SEQUENCE_STYLE;
 
@@ -50,8 +51,14 @@ fn digits_and_kinds_of_dates_are_kept(rt: HostRuntime) {
 fn errors_print_their_place(rt: HostRuntime) {
     let error = TomlError::NotToml {
         position: Position { line: 2, column: 5 },
+        why: SyntaxError::Value,
     };
-    check_printed(&rt, rt.alloc(), &error, "line 2, column 5: not TOML");
+    check_printed(
+        &rt,
+        rt.alloc(),
+        &error,
+        "line 2, column 5: expected a value",
+    );
     let error = TomlError::TooDeepToRead {
         position: Position { line: 2, column: 5 },
     };

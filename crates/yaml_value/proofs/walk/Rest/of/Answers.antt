@@ -1,14 +1,14 @@
 use Rattle.yaml_value.proofs.Common.{List, [], map, ◌∷◌, ap, sym, ◌∙◌, TypedValue, seen_value}
-use Rattle.yaml_base.specs.Event.{sequence_end, mapping_end}
 use Rattle.yaml_value.{proofs.WalkLemmas.items_seen, proofs.WalkLemmas.pairs_seen, specs.Walk.entered, specs.Walk.seen_flat, specs.Walk.Left}
+use Rattle.yaml_value.specs.Walk.{item_next, key_next}
 use Rattle.yaml_value.proofs.SeenLevels.{seen_list, seen_map}
 use Rattle.yaml_value.proofs.walk.Rest.of.Goals as goal
 
 abbrev items_left : List TypedValue → List Left
-items_left values = record { values = values; end = sequence_end } ∷ []
+items_left values = record { values = values; next = item_next } ∷ []
 
 abbrev fields_left : List TypedValue → List Left
-fields_left values = record { values = values; end = mapping_end } ∷ []
+fields_left values = record { values = values; next = key_next } ∷ []
 
 pub returns-in-List : goal.returns-in-List
 returns-in-List g c =

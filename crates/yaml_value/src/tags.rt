@@ -1,7 +1,0 @@
-//! The tags of scalars that are no texts, as libyaml names them.
-
-pub(crate) const YAML_NULL_TAG: &str = "tag:yaml.org,2002:null";
-
-pub(crate) const YAML_BOOL_TAG: &str = "tag:yaml.org,2002:bool";
-
-pub(crate) const YAML_INT_TAG: &str = "tag:yaml.org,2002:int";
