@@ -27,21 +27,16 @@ prefix_of_itself text = ap (λ (n : ℕ). take n text) (sub_self (length text))
 
 -- a prefix and an end determine the place at which the text is divided
 pub take_seam : (text prefix end : List ℕ) → text ≡ prefix ++ end → prefix_of text end ≡ prefix
-take_seam text prefix end is =
-    let before : length text - length end ≡ length prefix = omega (arith, ap length is, length-append prefix end) in
-    ap (λ (n : ℕ). take n text) before ∙ ap (λ (bs : List ℕ). take (length prefix) bs) is ∙ take_at prefix end (length prefix) refl
+take_seam text prefix end is = grind (arith, length, length-append, take, take_at)
 
 drop_seam : (text prefix end : List ℕ) → text ≡ prefix ++ end → drop (length text - length end) text ≡ end
-drop_seam text prefix end is =
-    let before : length text - length end ≡ length prefix = omega (arith, ap length is, length-append prefix end) in
-    ap (λ (n : ℕ). drop n text) before ∙ ap (λ (bs : List ℕ). drop (length prefix) bs) is ∙ drop_at prefix end (length prefix) refl
+drop_seam text prefix end is = grind (arith, length, length-append, drop, drop_at)
 
 pub ends_at_seam : (text prefix end : List ℕ) → text ≡ prefix ++ end → EndsIn text end
 ends_at_seam text prefix end is = record { within = omega (arith, ap length is, length-append prefix end); same = drop_seam text prefix end is }
 
 all_pieces : (text end piece behind : List ℕ) → EndsIn text end → end ≡ piece ++ behind → text ≡ (prefix_of text end ++ piece) ++ behind
-all_pieces text end piece behind ends is =
-    prefix_and_end text end ends ∙ ap (λ (bs : List ℕ). prefix_of text end ++ bs) is ∙ sym (append_assoc (prefix_of text end) piece behind)
+all_pieces text end piece behind ends is = grind (arith, prefix_and_end, prefix_of, append_assoc)
 
 -- past one more piece
 pub ends_further : (text end piece behind : List ℕ) → EndsIn text end → end ≡ piece ++ behind → EndsIn text behind

@@ -16,8 +16,7 @@ cut_prefix : (delimiter : ℕ) (prefix : Text) (back : List Text) (text : Text) 
 unfolding one_cut
 cut_prefix delimiter [] back text free is = is
 cut_prefix delimiter (c ∷ prefix) back text free is =
-    let both = free_parts (c == delimiter) _ free in
-    ap (one_cut c (cut_at delimiter (prefix ++ text))) both.0 ∙ ap (onto_first c) (cut_prefix delimiter prefix back text both.1 is)
+    grind (arith, free_parts, one_cut, cut_at, onto_first, cut_prefix delimiter prefix back text (free_parts (c == delimiter) _ free).1 is)
 
 at_delimiter : (delimiter : ℕ) → (delimiter == delimiter) ≡ true
 at_delimiter delimiter = grind (arith, nat_tests)
@@ -26,9 +25,7 @@ at_delimiter delimiter = grind (arith, nat_tests)
 pub cut_free : (delimiter : ℕ) (text : Text) → IsFree delimiter text → cut_at delimiter text ≡ text ∷ []
 unfolding one_cut
 cut_free delimiter [] free = refl
-cut_free delimiter (c ∷ rest) free =
-    let both = free_parts (c == delimiter) _ free in
-    ap (one_cut c (cut_at delimiter rest)) both.0 ∙ ap (onto_first c) (cut_free delimiter rest both.1)
+cut_free delimiter (c ∷ rest) free = grind (arith, free_parts, one_cut, cut_at, onto_first, cut_free delimiter rest (free_parts (c == delimiter) _ free).1)
 
 -- the prefix is the first piece, and the back gives the others
 pub cut_cut : (delimiter : ℕ) (text prefix back : Text) → IsCut delimiter text prefix back → cut_at delimiter text ≡ prefix ∷ cut_at delimiter back
@@ -39,9 +36,7 @@ cut_cut delimiter text prefix back cut =
 
 three : (major minor : Text) (first : Bool) (c : ℕ) (pieces : List Text) → version_of (major ∷ minor ∷ one_cut c pieces first) ≡ None
 unfolding one_cut
-three major minor true c pieces = refl
-three major minor false c [] = refl
-three major minor false c (piece ∷ pieces) = refl
+three major minor first c pieces = grind arith
 
 -- more than two pieces are no version
 pub no_version : (delimiter : ℕ) (major minor back : Text) → version_of (major ∷ minor ∷ cut_at delimiter back) ≡ None

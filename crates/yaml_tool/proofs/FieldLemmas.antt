@@ -22,11 +22,7 @@ pub whole_line : (line : Text) → prepend_to_first_piece line ([] ∷ []) ≡ l
 whole_line line = attached_empty line []
 
 behind_separator : (standing : notation.FieldState) (c : ℕ) → separates standing c ≡ true → state_after standing c ≡ outside
-behind_separator outside c h =
-    let is : c ≡ 0x20 = grind (arith, nat_tests) in
-    subst (λ (d : ℕ). state_after outside d ≡ outside) (sym is) refl
-behind_separator inside c h = cc
-behind_separator escaped c h = cc
+behind_separator standing c h1 = grind (arith, nat_tests, state_after, outside)
 
 -- a separator ends the first piece
 pub stops_first : (standing : notation.FieldState) (c : ℕ) (prefix text rest : Text) → text ≡ c ∷ rest → separates standing c ≡ true
@@ -44,10 +40,7 @@ pub goes_first : (standing : notation.FieldState) (c : ℕ) (prefix grown text r
     → grown ≡ prefix ++ c ∷ []
     → prepend_to_first_piece prefix (pieces_from standing text) ≡ prepend_to_first_piece grown (pieces_from (state_after standing c) rest)
 goes_first standing c prefix grown text rest begins is_not grows =
-    let pieces = pieces_from (state_after standing c) rest in
-    let opened : pieces_from standing text ≡ cut_before (separates standing c) c pieces = ap (pieces_from standing) begins in
-    let kept : cut_before (separates standing c) c pieces ≡ onto_first c pieces = ap (λ (b : Bool). cut_before b c pieces) is_not in
-    ap (prepend_to_first_piece prefix) (opened ∙ kept) ∙ sym (attached_one prefix c pieces) ∙ ap (λ (all : Text). prepend_to_first_piece all pieces) (sym grows)
+    grind (arith, pieces_from, state_after, cut_before, separates, onto_first, prepend_to_first_piece, attached_one)
 
 pub attached_both : (prefix more : Text) (pieces : List Text)
     → prepend_to_first_piece (prefix ++ more) pieces ≡ prepend_to_first_piece prefix (prepend_to_first_piece more pieces)
@@ -147,8 +140,7 @@ line_has_field (c ∷ rest) = go (separates outside c) (pieces_from (state_after
 
 -- nothing is left at the end of a line
 pub none_left : (rest : Option (Bor (List ℕ))) → is_some rest ≡ false → later_fields rest ≡ Some []
-none_left None is = refl
-none_left (Some rest) is = cc
+none_left rest h1 = grind arith
 
 -- before it a field is left
 pub field_left : (rest : Option (Bor (List ℕ))) → is_some rest ≡ true → FieldOrUnparsed (later_fields rest)

@@ -32,29 +32,21 @@ beyond false within x h = refl
 
 -- past the greatest value there is no way back
 pub too_great : (radix most number : ℕ) (rest : List ℕ) → 1 ≤ radix → most < number → number_after radix most number rest ≡ None
-too_great radix most number rest positive above =
-    let whole = digits_value_after radix number rest in
-    let past : most < whole = omega (arith, grows radix number rest positive) in
-    beyond (list_all (λ digit. is_digit digit radix) rest) (nat_le whole most) (Some whole) (le_false whole most past)
+too_great radix most number rest positive above = grind (arith, digits_value_after, grows, beyond, list_all, is_digit, nat_le, le_false)
 
 -- a digit is taken
 next_digit : (radix most number c : ℕ) (rest : List ℕ) → digit_value c < radix
     → number_after radix most number (c ∷ rest) ≡ number_after radix most (number * radix + digit_value c) rest
-next_digit radix most number c rest is =
-    let whole = digits_value_after radix (number * radix + digit_value c) rest in
-    taken (is_digit c radix) (list_all (λ digit. is_digit digit radix) rest) (nat_le whole most) (Some whole) (lt_true (digit_value c) radix is)
+next_digit radix most number c rest is = grind (arith, digits_value_after, digit_value, taken, is_digit, list_all, nat_le, lt_true)
 
 -- anything else is not
 no_digit : (radix most number c : ℕ) (rest : List ℕ) → radix ≤ digit_value c → number_after radix most number (c ∷ rest) ≡ None
-no_digit radix most number c rest is_not =
-    let whole = digits_value_after radix (number * radix + digit_value c) rest in
-    refused (is_digit c radix) (list_all (λ digit. is_digit digit radix) rest) (nat_le whole most) (Some whole) (lt_false (digit_value c) radix is_not)
+no_digit radix most number c rest is_not = grind (arith, digits_value_after, digit_value, refused, is_digit, list_all, nat_le, lt_false)
 
 -- a digit that begins a text counts
 pub digit_first : (radix most number base d c : ℕ) (text rest : List ℕ) → base ≡ radix → text ≡ c ∷ rest → d ≡ digit_value c → d < radix
     → number_after radix most number text ≡ number_after radix most (number * base + d) rest
-digit_first radix most number base d c text rest is_base begins is small =
-    rw (begins, is_base, is) (next_digit radix most number c rest (subst (λ n. n < radix) is small))
+digit_first radix most number base d c text rest is_base begins is small = grind (arith, next_digit)
 
 pub no_digit_first : (radix most number c : ℕ) (text rest : List ℕ) → text ≡ c ∷ rest → radix ≤ digit_value c → number_after radix most number text ≡ None
 no_digit_first radix most number c text rest begins is_not = rw begins (no_digit radix most number c rest is_not)

@@ -1,4 +1,5 @@
 -- A script that is read part by part: the prefix that was read and the rest are the whole.
+use Rattle.yaml_tool.proofs.Common.{arith}
 use Rattle.yaml_tool.proofs.Common.{ℕ, IfSome, Option, None, Some, List, [], ◌++◌, ◌≡◌, ap, subst, sym, ◌∙◌, Script, script_of, ReadsAll, IsFault, IsFaultOf}
 use Rattle.std.specs.{Io.KnownBytes.Consumes, Io.KnownBytes.IsAtEnd, Io.KnownBytes.Keeps, Prelude.⊤}
 use Rattle.yaml_tool.specs.Scripts.{script_with, ContinuesScript}
@@ -7,12 +8,9 @@ use Rattle.yaml_tool.specs.declared.answers.run_answer_t.TheVariants.{BadLine, D
 
 -- at the end of the input the whole script was read
 pub reads_at_end : (answer : run_answer_t) (left : Option (List ℕ)) → IsAtEnd left → ReadsAll answer left
-reads_at_end Done left end = end
-reads_at_end (Refused line error) left end = end
-reads_at_end (BadLine line) left end = end
 reads_at_end ReadFailed left end = tt
-reads_at_end WriteFailed left end = end
 reads_at_end NoMemory left end = tt
+reads_at_end _ left end = end
 
 -- the prefix that was read and the rest are the same script, if the rest is known
 abbrev pub StillSays : {A : Type 0} → Option (List ℕ) → ScriptPrefix A → Option (List ℕ) → Type 0
@@ -35,9 +33,7 @@ says_more (Some all) (Some left) (Some after) old new says goes = says ∙ goes
 -- a script whose end was reached
 pub says_all : {A : Type 0} (given left : Option (List ℕ)) (prefix : ScriptPrefix A) (script : Script) → StillSays given prefix left → IsAtEnd left
     → script_with prefix [] ≡ script → IfSome given (λ all. script_of all ≡ script)
-says_all None left prefix script says end is = tt
-says_all (Some all) None prefix script says end is = absurd says
-says_all (Some all) (Some left) prefix script says end is = says ∙ ap (script_with prefix) end ∙ is
+says_all given left prefix script h1 h2 h3 = grind (arith, script_with)
 
 pub bad_all : {A : Type 0} (given left : Option (List ℕ)) (prefix : ScriptPrefix A) (error : ScriptError) (answer : run_answer_t) → StillSays given prefix left
     → IsAtEnd left → IsFaultOf error (script_with prefix []) → ((script : Script) → IsFaultOf error script → IsFault answer script)

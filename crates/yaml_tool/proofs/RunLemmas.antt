@@ -2,7 +2,7 @@
 use Rattle.yaml_tool.proofs.Common.{ℕ, IfSome, Option, None, Some, List, [], map, ◌++◌, ◌∷◌, refl, ◌≡◌, append_assoc, ap, subst, sym, ◌∙◌, map-append, Appends}
 use Rattle.yaml_tool.proofs.Common.{seen_event, Event, Settings, Numbered, Script, understood, script_of, IsFault, State}
 use Rattle.yaml_tool.proofs.Common.{events_in, RefusesAt, LastLine, Result, Err, append-nil, seen_numbered}
-use Rattle.yaml_base.proofs.Common.{inr}
+use Rattle.yaml_base.proofs.Common.{inr, arith}
 use Rattle.std.specs.Io.KnownBytes.{Keeps}
 use Rattle.yaml_base.specs.scripts.Script.{bad_line}
 use Rattle.yaml_base.specs.declared.errors.yaml_error_t.{yaml_error_t}
@@ -46,19 +46,15 @@ kept (Some xs) = refl
 
 -- a writer that isn't used
 pub writes_nothing : (answer : run_answer_t) (bytes : Option (List ℕ)) → WritesNothing answer bytes bytes
-writes_nothing Done bytes = tt
-writes_nothing (Refused line error) bytes = tt
 writes_nothing (BadLine line) bytes = kept bytes
 writes_nothing ReadFailed bytes = kept bytes
-writes_nothing WriteFailed bytes = tt
 writes_nothing NoMemory bytes = kept bytes
+writes_nothing _ bytes = tt
 
 -- one more event
 pub events_more : {A : Type 0} (given : List (NumberedEvent A)) (next : NumberedEvent A)
     → events_in (map seen_numbered given) ++ seen_event next.event ∷ [] ≡ events_in (map seen_numbered (given ++ next ∷ []))
-events_more given next =
-    sym (ap events_in (map-append seen_numbered given (next ∷ []))
-    ∙ map-append (λ (numbered : Numbered). numbered.event) (map seen_numbered given) (seen_numbered next ∷ []))
+events_more given next = grind (arith, events_in, map-append, seen_numbered, map)
 
 pub parts_more : {A : Type 0} (given : List (NumberedEvent A)) (next : NumberedEvent A) (rest left all : List (NumberedEvent A)) → given ++ left ≡ all
     → left ≡ next ∷ rest → (given ++ next ∷ []) ++ rest ≡ all
@@ -128,10 +124,7 @@ ended set all (Some line) Done before after was none ends promised h =
     }
 ended set all (Some line) (Refused reported error) before after was none ends promised h =
     inr (record { ends = subst (EndsOnLine all) (sym h.0) ends; fails = fails_after was none h.1 promised; unflushed = h.2 })
-ended set all (Some line) (BadLine number) before after was none ends promised h = h
-ended set all (Some line) ReadFailed before after was none ends promised h = h
-ended set all (Some line) WriteFailed before after was none ends promised h = h
-ended set all (Some line) NoMemory before after was none ends promised h = h
+ended set all (Some line) _ before after was none ends promised h = h
 
 -- a run of a new emitter
 pub runs_new : (set : Settings) (all : List Numbered) (answer : run_answer_t) (first after : State) → first ≡ new_state_with set
@@ -142,18 +135,15 @@ runs_new set all answer first after new runs =
 -- the answer if the output was written, or couldn't be
 pub returned_answer : (set : Settings) (all : List Numbered) (answer : run_answer_t) (state : State) (old new : Option (List ℕ)) → RunsTo set all answer state
     → Appends old new state.page.output → AnswersEvents set all answer old new
-returned_answer set all Done state old new runs appends = (state, runs, appends)
-returned_answer set all (Refused line error) state old new runs appends = (state, runs, appends)
 returned_answer set all (BadLine line) state old new runs appends = runs
 returned_answer set all ReadFailed state old new runs appends = tt
 returned_answer set all WriteFailed state old new runs appends = absurd runs
 returned_answer set all NoMemory state old new runs appends = tt
+returned_answer set all _ state old new runs appends = (state, runs, appends)
 
 pub silent_only : (set : Settings) (all : List Numbered) (answer : run_answer_t) (state : State) (old new : Option (List ℕ)) → RunsTo set all answer state
     → WritesNothing answer old new
-silent_only set all Done state old new runs = tt
-silent_only set all (Refused line error) state old new runs = tt
 silent_only set all (BadLine line) state old new runs = absurd runs
 silent_only set all ReadFailed state old new runs = absurd runs
-silent_only set all WriteFailed state old new runs = tt
 silent_only set all NoMemory state old new runs = absurd runs
+silent_only set all _ state old new runs = tt

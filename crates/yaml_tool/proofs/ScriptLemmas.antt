@@ -17,8 +17,7 @@ one_line : (number : ℕ) (rest : List (List ℕ)) (after : Option ScriptState) 
   | Some sofar ↦ script_from (suc number) sofar rest
 ]) ≡ goes_on number rest after
 unfolding goes_on
-one_line number rest None = refl
-one_line number rest (Some after) = refl
+one_line number rest _ = refl
 
 -- a bad line is returned
 pub line_is_bad : (number : ℕ) (before : ScriptState) (line : List ℕ) (rest : List (List ℕ)) → after_line number before line ≡ None
@@ -30,8 +29,7 @@ line_is_bad number before line rest bad = one_line number rest (after_line numbe
 pub line_is_good : (number : ℕ) (before after : ScriptState) (line : List ℕ) (rest : List (List ℕ)) → after_line number before line ≡ Some after
     → script_from number before (line ∷ rest) ≡ script_from (number + 1) after rest
 unfolding goes_on
-line_is_good number before after line rest good =
-    one_line number rest (after_line number before line) ∙ ap (goes_on number rest) good ∙ ap (λ n. script_from n after rest) (sym (add-one number))
+line_is_good number before after line rest good = grind (arith, one_line, after_line, goes_on, script_from, add-one)
 
 -- the text after a line is shorter
 pub shorter : (bytes line rest : List ℕ) → IsCut line_feed bytes line rest → length rest < length bytes
@@ -39,8 +37,7 @@ shorter bytes line rest cut = rw cut.0 (omega (arith, length-append line (line_f
 
 -- the first line that ends is that of the bytes, whatever follows them
 first_more : (bytes line rest more : List ℕ) → IsCut line_feed bytes line rest → cut_at line_feed (bytes ++ more) ≡ line ∷ cut_at line_feed (rest ++ more)
-first_more bytes line rest more cut =
-    cut_cut line_feed (bytes ++ more) line (rest ++ more) (ap (λ (b : List ℕ). b ++ more) cut.0 ∙ append_assoc line (line_feed ∷ rest) more, cut.1)
+first_more bytes line rest more cut = grind (arith, cut_cut, line_feed, append_assoc)
 
 -- its fault is the script's
 pub fault_first : (error : ScriptError) (number : ℕ) (before : ScriptState) (bytes line rest more : List ℕ) → IsCut line_feed bytes line rest
@@ -53,8 +50,7 @@ fault_first OutOfMemory number before bytes line rest more cut fault = tt
 pub good_first : (number : ℕ) (before after : ScriptState) (bytes line rest more : List ℕ) → IsCut line_feed bytes line rest
     → after_line number before line ≡ Some after
     → script_after_lines number before (bytes ++ more) ≡ script_after_lines (number + 1) after (rest ++ more)
-good_first number before after bytes line rest more cut good =
-    ap (script_from number before) (first_more bytes line rest more cut) ∙ line_is_good number before after line (cut_at line_feed (rest ++ more)) good
+good_first number before after bytes line rest more cut good = grind (arith, script_from, first_more, line_is_good, cut_at, line_feed)
 
 -- the last line, which nothing follows
 pub fault_last : (error : ScriptError) (number : ℕ) (before : ScriptState) (line : List ℕ) → IsFree line_feed line
@@ -65,8 +61,7 @@ fault_last OutOfMemory number before line free fault = tt
 
 pub good_last : (number : ℕ) (before after : ScriptState) (line : List ℕ) → IsFree line_feed line → after_line number before line ≡ Some after
     → script_after_lines number before line ≡ understood (settings_of unset after.settings) after.events
-good_last number before after line free good =
-    ap (script_from number before) (cut_free line_feed line free) ∙ line_is_good number before after line [] good
+good_last number before after line free good = grind (arith, script_from, cut_free, line_feed, line_is_good)
 
 -- if nothing follows, the last line is the whole rest
 pub left_alone : (number : ℕ) (before : ScriptState) (bytes : List ℕ) (next : ℕ) (after : ScriptState) (last : List ℕ)

@@ -9,8 +9,7 @@ use Rattle.memchr.specs.Find.{is_byte}
 use Rattle.yaml_tool.proofs.{CharacterLemmas.take_seam, CharacterLemmas.ends_at_seam, CutLemmas.free_parts}
 
 not_true : (b : Bool) → ¬ (b ≡ true) → b ≡ false
-not_true true h = absurd (h refl)
-not_true false h = refl
+not_true b h1 = grind arith
 
 -- no byte before it passes
 pub none_before : (test : ℕ → Bool) (hay : List ℕ) (k : ℕ) → k ≤ length hay → Nowhere (Passes test hay) 0 k → list_any test (take k hay) ≡ false

@@ -1,6 +1,6 @@
 -- A text is read turn by turn: `\u{..}` is cut at its closing brace.
 use Rattle.yaml_tool.proofs.Common.{ℕ, if◌then◌else◌, ◌==◌, option_map, Option, None, Some, length, Bool, false, List, [], ◌++◌, ◌∷◌, refl, ◌≡◌, append-nil}
-use Rattle.yaml_tool.proofs.Common.{append_assoc, ap, subst, sym, ◌∙◌, chars-nil, encodes-append, chars_from_encodes, encodes-chars, chars-append}
+use Rattle.yaml_tool.proofs.Common.{append_assoc, ap, subst, sym, ◌∙◌, chars-nil, encodes-append, chars_from_encodes, encodes-chars, chars-append, arith}
 use Rattle.yaml_tool.proofs.Common.{IsUtf8-string_bytes, encode_utf8, IsUtf8, chars, encode_utf8_all, string_bytes, Text, seen_text, at_character, text_from}
 use Rattle.yaml_tool.proofs.Common.{IsFree, IsCut, prefix_of, SkipsTo}
 use Rattle.std.specs.Prelude.{String}
@@ -31,16 +31,13 @@ first_turn : (within : notation.Within) (c : ℕ) (rest : Text) → text_from wi
 first_turn within c rest = one_turn (text_step within c) rest
 
 digit_goes_on : (digits : Text) (c : ℕ) → (c == 0x7D) ≡ false → text_step (at_digits digits) c ≡ goes_on (at_digits (digits ++ c ∷ []))
-digit_goes_on digits c h = subst
-    (λ (b : Bool). (if b then numbered_step digits else goes_on (at_digits (digits ++ c ∷ []))) ≡ goes_on (at_digits (digits ++ c ∷ []))) (sym h) refl
+digit_goes_on digits c h = grind (arith, numbered_step, goes_on, at_digits)
 
 -- no closing brace, no character
 digits_without_end : (digits prefix : Text) → IsFree 0x7D prefix → text_from (at_digits digits) prefix ≡ None
 digits_without_end digits [] free = refl
 digits_without_end digits (c ∷ prefix) free =
-    let both = free_parts (c == 0x7D) _ free in
-    first_turn (at_digits digits) c prefix
-    ∙ ap (λ t. read_turn t prefix) (digit_goes_on digits c both.0) ∙ digits_without_end (digits ++ c ∷ []) prefix both.1
+    grind (arith, free_parts, first_turn, at_digits, read_turn, digit_goes_on, digits_without_end (digits ++ c ∷ []) prefix (free_parts (c == 0x7D) _ free).1)
 
 -- up to the first closing brace they are one character
 digits_with_end : (digits prefix back : Text) → IsFree 0x7D prefix
@@ -80,8 +77,7 @@ one_more text grown c (Some more) grows =
 
 -- an empty string has no characters
 pub nothing_before : {A : Type 0} (text : String A) (read : Option Text) → string_bytes text ≡ [] → read ≡ option_map (λ more. seen_text text ++ more) read
-nothing_before text None empty = refl
-nothing_before text (Some more) empty = ap (λ (prefix : List ℕ). Some (prefix ++ more)) (sym (ap chars empty ∙ chars-nil))
+nothing_before text read h1 = grind (arith, chars, chars-nil)
 
 -- characters other than a quotation mark and a backslash mean themselves
 pub reads_prefix : (prefix behind : Text) → IsFree quotation_mark prefix → IsFree backslash prefix → ReadsPrefix (prefix ++ behind) prefix behind
@@ -122,15 +118,7 @@ reads_skipped text behind prefix is skipped begins =
 -- bytes that have grown by those of a prefix
 prefix_taken : (text grown prefix : List ℕ) (whole behind : Text) → IsUtf8 text → grown ≡ text ++ prefix → ReadsPrefix whole (chars prefix) behind
     → option_map (λ more. chars text ++ more) (text_from at_character whole) ≡ option_map (λ more. chars grown ++ more) (text_from at_character behind)
-prefix_taken text grown prefix whole behind is grows reads = ap (option_map (λ more. chars text ++ more)) reads ∙ go (text_from at_character behind)
-  where
-    seen : chars grown ≡ chars text ++ chars prefix
-    seen = ap chars grows ∙ chars-append text prefix is
-
-    go : (read : Option Text) → option_map (λ more. chars text ++ more) (option_map (λ more. chars prefix ++ more) read)
-        ≡ option_map (λ more. chars grown ++ more) read
-    go None = refl
-    go (Some more) = ap (λ (t : Text). Some t) (sym (append_assoc (chars text) (chars prefix) more) ∙ ap (λ (t : Text). t ++ more) (sym seen))
+prefix_taken text grown prefix whole behind is grows reads = grind (arith, option_map, chars, text_from, at_character, chars-append, append_assoc)
 
 -- a string that has grown by the characters before the first of them
 pub skipped_taken : {A : Type 0} (text grown : String A) (rest behind prefix : List ℕ) → IsUtf8 rest → SkipsTo quotation_mark backslash rest behind

@@ -1,4 +1,4 @@
-use Rattle.yaml_tool.proofs.Common.{option_map, option_and_then, Option, None, Some, List, [], ◌∷◌, refl, ◌≡◌, ap, ◌∙◌, chars, Text, Field, bare, quoted}
+use Rattle.yaml_tool.proofs.Common.{option_map, option_and_then, Option, List, ◌≡◌, ap, ◌∙◌, chars, Text, Field, arith}
 use Rattle.yaml_tool.proofs.Common.{seen_setting, later_fields}
 use Rattle.yaml_tool.specs.Fields.{only_word}
 use Rattle.yaml_base.specs.scripts.Script as notation
@@ -7,11 +7,7 @@ use Rattle.yaml_tool.proofs.lines.parse_setting.Goals as goal
 -- a setting's line has one more field, a word
 set_by_word : (name : Text) (fields : Option (List Field))
     → option_and_then (notation.setting_of name) (option_and_then only_word fields) ≡ option_and_then (notation.setting_line name) fields
-set_by_word name None = refl
-set_by_word name (Some []) = refl
-set_by_word name (Some (bare value ∷ [])) = refl
-set_by_word name (Some (bare value ∷ other ∷ rest)) = refl
-set_by_word name (Some (quoted text ∷ rest)) = refl
+set_by_word name fields = grind arith
 
 pub returns : goal.returns
 returns c =

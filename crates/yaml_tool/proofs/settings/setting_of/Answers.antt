@@ -1,9 +1,9 @@
-use Rattle.yaml_tool.proofs.Common.{option_map, Option, None, Some, Bool, true, refl, ◌≡◌, ap, sym, ◌∙◌, chars, Text, seen_setting}
+use Rattle.yaml_tool.proofs.Common.{option_map, Option, None, Bool, true, ◌≡◌, ap, sym, ◌∙◌, chars, Text, seen_setting}
 use Rattle.std.specs.Prelude.{MatchOption, IsSomeAnd}
 use Rattle.yaml_base.specs.scripts.Script as notation
 use Rattle.yaml_base.specs.scripts.Script.{is_word, limit_set, encoding_set, canonical_set, unicode_set, indent_set, width_set, break_set, breaks12_set}
 use Rattle.yaml_base.specs.scripts.Script.{portable_set, sequences_set, blanks_set}
-use Rattle.yaml_base.proofs.Common.{bytes_eq-Decides}
+use Rattle.yaml_base.proofs.Common.{bytes_eq-Decides, arith}
 use Rattle.yaml_tool.specs.declared.settings.Setting.{Setting}
 use Rattle.yaml_tool.specs.declared.settings.Setting.TheVariants as kind
 use Rattle.yaml_tool.proofs.settings.setting_of.Goals as goal
@@ -11,9 +11,7 @@ use Rattle.yaml_tool.proofs.settings.setting_of.Goals as goal
 mapped : {A : Type 0} (make : A → Setting) (given : Option A) (result : Option Setting)
     → MatchOption given (result ≡ None) (λ x. IsSomeAnd result (λ setting. setting ≡ make x))
     → option_map seen_setting result ≡ option_map (λ x. seen_setting (make x)) given
-mapped make None result none = ap (option_map seen_setting) none
-mapped make (Some x) None made = absurd made
-mapped make (Some x) (Some setting) is = ap (λ s. Some (seen_setting s)) is
+mapped make given result h1 = grind (arith, option_map, seen_setting)
 
 -- a setting of this name is made from its value, if that has a meaning
 set_by : {A : Type 0} (make : A → Setting) (value : Text) (name word : Text) {same : Bool} (given : Option A) (result : Option Setting)
@@ -24,8 +22,7 @@ set_by make value name word given result is_same holds made reads =
 
 -- the view of a setting that is made from its value
 after_seen : {A B C : Type 0} (f : B → C) (g : A → B) (given : Option A) → option_map (λ x. f (g x)) given ≡ option_map f (option_map g given)
-after_seen f g None = refl
-after_seen f g (Some x) = refl
+after_seen f g given = grind arith
 
 pub returns-then-is_word : goal.returns-then-is_word
 returns-then-is_word c =

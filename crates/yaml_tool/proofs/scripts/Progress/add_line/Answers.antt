@@ -14,14 +14,12 @@ use Rattle.yaml_tool.proofs.scripts.Progress.add_line.Goals as goal
 line_goes : {A : Type 0} (number : ℕ) (before : ScriptState) (bytes : List ℕ) (parsed : Option (Line A)) (given line : Line A)
     → option_map seen_line parsed ≡ line_understood bytes → parsed ≡ Some given → given ≡ line
     → after_line number before bytes ≡ with_line number before (seen_line line)
-line_goes number before bytes parsed given line reads is says =
-    ap (option_and_then (with_line number before)) (sym reads ∙ ap (option_map seen_line) is) ∙ ap (λ line. with_line number before (seen_line line)) says
+line_goes number before bytes parsed given line reads is says = grind (arith, option_and_then, with_line, option_map, seen_line)
 
 -- a setting joins them if it is allowed there
 setting_goes : (number : ℕ) (before : ScriptState) (setting : notation.Setting) (may : Bool) → may ≡ may_be_set setting before
     → with_line number before (sets setting) ≡ (if may then Some (record before { settings = before.settings ++ setting ∷ [] }) else None)
-setting_goes number before setting may is =
-    ap (λ (b : Bool). if b then Some (record before { settings = before.settings ++ setting ∷ [] }) else None) (sym is)
+setting_goes number before setting may is = grind arith
 
 pub returns-in-Some-Nothing-clause-taken : goal.returns-in-Some-Nothing-clause-taken
 returns-in-Some-Nothing-clause-taken g c =
