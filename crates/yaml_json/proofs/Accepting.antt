@@ -1,16 +1,17 @@
 -- The events of a JSON value that isn't nested too deep are an accepted list.
-use Rattle.yaml_json.proofs.Common.{suc, ℕ, ◌+◌, ◌≤◌, Bool, true, List, [], ◌++◌, ◌∷◌, ◌≡◌, refl, append_assoc, subst, sym, arith}
-use Rattle.yaml_json.proofs.Common.{le-max_left, le-max_right, chars, Json, null, boolean, number, string, Items, array, Members, object, no_items}
-use Rattle.yaml_json.proofs.Common.{item, no_members, member, depth as nesting, Event, scalar, sequence_start, sequence_end, mapping_start, mapping_end}
-use Rattle.yaml_json.proofs.Common.{most_open, IsAccepted, Stream, is_json_integer, yaml_number, bool_text, null_content, bool_content, number_content}
-use Rattle.yaml_json.proofs.Common.{text_content, collection_in, json_events, items_events, members_events, number_in, opening, closing}
+use Rattle.yaml_json.proofs.Common.{suc, ℕ, ◌+◌, ◌≤◌, Bool, true, List, [], ◌++◌, ◌∷◌, ◌≡◌, refl, append_assoc, ap, subst, sym, ◌∙◌, arith, le-max_left}
+use Rattle.yaml_json.proofs.Common.{le-max_right, chars, Json, null, boolean, number, string, Items, array, Members, object, no_items, most_open, IsAccepted}
+use Rattle.yaml_json.proofs.Common.{Stream, is_json_integer, yaml_number, bool_text, null_content, bool_content, number_content, text_content, collection_in}
+use Rattle.yaml_json.proofs.Common.{json_events, items_events, members_events, number_in, opening, closing}
 use Rattle.yaml_base.proofs.Common.{stream_events}
-use Rattle.json.specs.Tree.{items_depth as items_nesting, members_depth as members_nesting}
 use Rattle.yaml_emitter.proofs.AcceptedLists.{sound, both_sound, Stays, few_open}
 use Rattle.yaml_writer.proofs.Accepting.{bool_sound, closing_stays, first_sound, mapping_sound, null_sound, number_sound, opening_stays, sequence_sound}
 use Rattle.yaml_writer.proofs.Accepting.{stream_of_sound, text_sound}
 use Rattle.yaml_writer.proofs.WhyFailed.{NeverPasses}
-use Rattle.yaml_json.proofs.Trees.{json_stream, stream_flat}
+use Rattle.yaml_json.proofs.Trees.{json_node, node_flat}
+use Rattle.yaml_writer.proofs.DocumentsOf.{stream_flat, stream_of as one_stream}
+use Rattle.yaml_json.proofs.Common.{item, no_members, member, depth as nesting, Event, scalar, sequence_start, sequence_end, mapping_start, mapping_end}
+use Rattle.json.specs.Tree.{items_depth as items_nesting, members_depth as members_nesting}
 
 -- the events of the stream of a value
 abbrev pub stream_of : (canonical in_flow : Bool) → Json → List Event
@@ -108,10 +109,11 @@ never_passes canonical in_flow json most fits = λ prefix rest is.
 -- ---- all
 
 abbrev pub tree_of : (canonical in_flow : Bool) → Json → Stream
-tree_of canonical in_flow json = json_stream (json ∷ []) canonical in_flow
+tree_of canonical in_flow json = one_stream (json_node json canonical in_flow ∷ [])
 
 pub tree_flat : (canonical in_flow : Bool) (json : Json) → stream_events (tree_of canonical in_flow json) ≡ stream_of canonical in_flow json
-tree_flat canonical in_flow json = let part : List ℕ × Json = ([], json) in stream_flat part [] canonical in_flow
+tree_flat canonical in_flow json =
+    stream_flat (json_node json canonical in_flow) [] ∙ ap (λ (events : List Event). opening ++ events ++ closing) (node_flat json canonical in_flow)
 
 pub json_accepted : (canonical in_flow : Bool) (json : Json) → nesting json ≤ most_open → IsAccepted canonical (stream_of canonical in_flow json)
 json_accepted canonical in_flow json fits =

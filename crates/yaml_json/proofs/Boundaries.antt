@@ -1,9 +1,8 @@
 -- A text may be cut at a byte of ASCII.
 use Rattle.std.proofs.Common.{◌≡◌, ℕ, ◌<◌, List, [], ◌∷◌, drop, get_or, length, inl, inr, sym, ap, ◌∙◌, arith}
-use Rattle.std.proofs.{lemmas.Bool.cases_lt, lemmas.Str.IsCharBoundary-after_ascii}
-use Rattle.std.proofs.lemmas.List.{drop_all, drop_more}
 use Rattle.std.specs.Str.{IsCharBoundary, IsUtf8}
 use Rattle.json.specs.Word.{head}
+use Rattle.std.proofs.lemmas.{Bool.cases_lt, Str.IsCharBoundary-after_ascii, List.drop_all, List.drop_more}
 
 pub after_first : (d : List ℕ) (v : ℕ) → IsUtf8 d → head d ≡ v → v < 128 → (32 ≡ v → ⊥) → IsCharBoundary d 1
 after_first [] v u e small apart = absurd (apart e)

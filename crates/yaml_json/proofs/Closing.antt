@@ -1,10 +1,9 @@
 -- Which tokens close a collection, which are names or strings, and with which no value begins.
 use Rattle.yaml_json.proofs.Common.{ℕ, Bool, false, true, List, ◌∷◌, refl, ◌≡◌, Bor, ap, sym, ◌∙◌, closer, opener, token_of, RefusesToken, Token}
 use Rattle.std.proofs.lemmas.Bool.{true≢false}
-use Rattle.yaml_base.specs.declared.kinds.CollectionKind.{CollectionKind}
-use Rattle.yaml_base.specs.declared.kinds.CollectionKind.TheVariants.{Mapping, Sequence}
 use Rattle.yaml_json.specs.Walk.{IsOpener, NoStringNext, closes}
 use Rattle.yaml_json.specs.declared.values.Spot.TheVariants.{At, PastString}
+use Rattle.yaml_base.specs.declared.kinds.CollectionKind.{CollectionKind, TheVariants.Mapping, TheVariants.Sequence}
 use Rattle.yaml_json.specs.declared.values.Stop.TheVariants as stops
 use Rattle.json.specs.declared.token.Token as read
 use Rattle.json.specs.declared.token.Token.TheVariants as variants

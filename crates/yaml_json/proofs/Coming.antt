@@ -2,18 +2,19 @@
 use Rattle.yaml_json.proofs.Sending.{sending_begins, sending_same, all_given}
 use Rattle.yaml_json.proofs.SendingSteps.{stops_here, stops_next_text}
 use Rattle.yaml_json.proofs.YamlOf.{HaveScalarTexts}
-use Rattle.yaml_json.proofs.Common.{ℕ, IfSome, Option, None, Some, length, Bool, true, List, [], ◌++◌, refl, ◌≡◌, append-nil, append_assoc, ap, subst, sym, ◌∙◌}
-use Rattle.yaml_json.proofs.Common.{Appends, Token, tokens, HasScanned, NamesOnce, Advances, StopsWithin, IsBare, WroteText, WriterState, Ok, Err, Result}
-use Rattle.yaml_json.specs.{Failing.Grew, declared.cuts.Cut.Cut, declared.error.StreamError.StreamError}
+use Rattle.yaml_json.proofs.Common.{ℕ, IfSome, Option, None, Some, length, Bool, true, List, [], ◌++◌, refl, ◌≡◌, append-nil, append_assoc, ap, subst, sym}
+use Rattle.yaml_json.proofs.Common.{◌∙◌, Appends, Token, tokens, HasScanned, NamesOnce, Advances, StopsWithin, IsBare, WroteText, WriterState, Ok, Err, Result}
 use Rattle.yaml_base.specs.declared.places.Position.{Position}
-use Rattle.yaml_json.specs.SendingCalls.{LastStep, SendsTexts}
-use Rattle.yaml_json.proofs.{Growing.grew_then, Cutting.whole_text, Stopping.if_some}
+use Rattle.yaml_json.proofs.Growing.{grew_then}
+use Rattle.yaml_json.proofs.Cutting.{whole_text}
+use Rattle.yaml_json.proofs.Stopping.{if_some}
 use Rattle.yaml_pen.proofs.Composing.{grows_then}
 use Rattle.std.specs.Io.KnownBytes.{Keeps, Consumes, IsAtEnd}
 use Rattle.std.specs.Prelude.{IsUtf8}
-use Rattle.yaml_json.specs.{declared.stream.Incoming.Incoming, declared.settings.JsonSettings.JsonSettings}
-use Rattle.yaml_json.specs.Sent.{SentTexts, SentSoFar, StopsInPart, StopsPartAt, StopsSending, HasCome, emitter_error}
-use Rattle.yaml_json.specs.Places.{HasPlaceWithin, IsPositionAfter, MovesPosition}
+use Rattle.yaml_json.specs.{Failing.Grew, declared.cuts.Cut.Cut, declared.error.StreamError.StreamError, declared.stream.Incoming.Incoming}
+use Rattle.yaml_json.specs.{declared.settings.JsonSettings.JsonSettings, SendingCalls.LastStep, SendingCalls.SendsTexts, Sent.SentTexts, Sent.SentSoFar}
+use Rattle.yaml_json.specs.{Sent.StopsInPart, Sent.StopsPartAt, Sent.StopsSending, Sent.HasCome, Sent.emitter_error, Places.HasPlaceWithin}
+use Rattle.yaml_json.specs.{Places.IsPositionAfter, Places.MovesPosition}
 
 -- ---- parts
 

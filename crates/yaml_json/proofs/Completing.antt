@@ -1,11 +1,10 @@
 -- The tokens that complete a value of JSON, by the arrays and objects that are open in it.
 use Rattle.std.proofs.Common.{◌≡◌, ℕ, Bool, true, false, List, [], ◌∷◌, ◌++◌, refl, sym, subst, ap, append-nil, append_assoc, ◌∙◌}
 use Rattle.json.specs.Json.{Json, Items, no_items, item, Members, no_members, member}
-use Rattle.json.specs.Json as json
 use Rattle.json.specs.Token.{Token, begin_object, end_object, begin_array, end_array, key, string, number, boolean, null, bad}
 use Rattle.json.specs.Tree.{json_tokens, items_tokens, members_tokens}
-use Rattle.yaml_base.specs.declared.kinds.CollectionKind.{CollectionKind}
-use Rattle.yaml_base.specs.declared.kinds.CollectionKind.TheVariants.{Mapping, Sequence}
+use Rattle.yaml_base.specs.declared.kinds.CollectionKind.{CollectionKind, TheVariants.Mapping, TheVariants.Sequence}
+use Rattle.json.specs.Json as json
 
 -- ---- token by token
 

@@ -1,22 +1,18 @@
 -- The content of a string (RFC 8259, section 7), run by run and escape by escape.
 use Rattle.std.proofs.Common.{◌≡◌, ℕ, zero, suc, ◌+◌, ◌-◌, ◌*◌, ◌<◌, ◌≤◌, Bool, true, false, not, inl, inr, cond, ◌||◌, ◌&&◌, ◌==◌, nat_lt, List, [], ◌∷◌}
-use Rattle.std.proofs.Common.{◌++◌, take, drop, get_or}
-use Rattle.std.proofs.Common.{length, Option, Some, None, option_and_then, refl, subst, sym, ap, ◌∙◌, arith}
-use Rattle.std.proofs.lemmas.Bool.{true≢false, ne_eqb, or_parts}
-use Rattle.std.proofs.lemmas.Bool.Decides.{nat_tests}
+use Rattle.std.proofs.Common.{◌++◌, take, drop, get_or, length, Option, Some, None, option_and_then, refl, subst, sym, ap, ◌∙◌, arith}
 use Rattle.std.proofs.lemmas.List.{append_assoc, append-nil, drop-drop, drop_more, drop_all, get_or-drop, length-drop, take_all}
 use Rattle.std.specs.Char.{InScalarRange, OutOfScalarRange, digit_value, encode_utf8, is_digit}
 use Rattle.json.specs.Text.{Within, plain, after_backslash, after_u, after_high, content, code_unit, short_escape, is_high_surrogate, is_low_surrogate}
 use Rattle.json.specs.Text.{surrogate_pair, prepend}
 use Rattle.yaml_json.specs.Lexemes.{ArePlain, Unescapes, first_unit, is_stop}
+use Rattle.std.proofs.lemmas.Bool.{true≢false, ne_eqb, or_parts, Decides.nat_tests}
 
 -- No content is in nothing.
 none_in_nothing : (within : Within) → content within [] ≡ None
 unfolding content
 none_in_nothing plain = refl
-none_in_nothing after_backslash = refl
-none_in_nothing after_u = refl
-none_in_nothing (after_high high) = refl
+none_in_nothing _ = refl
 
 pub none_at_end : (within : Within) (text : List ℕ) (from : ℕ) → length text ≤ from → content within (drop from text) ≡ None
 none_at_end within text from past = ap (content within) (drop_all from text past) ∙ none_in_nothing within
@@ -76,11 +72,8 @@ plain_run d i (suc n) h each =
 
 -- The code unit at the front of four bytes or more is that of their first four.
 pub unit_of_four : (text : List ℕ) → 4 ≤ length text → first_unit text ≡ code_unit (get_or text 0 0) (get_or text 1 0) (get_or text 2 0) (get_or text 3 0)
-unit_of_four [] four = absurd (omega arith)
-unit_of_four (a ∷ []) four = absurd (omega arith)
-unit_of_four (a ∷ b ∷ []) four = absurd (omega arith)
-unit_of_four (a ∷ b ∷ c ∷ []) four = absurd (omega arith)
 unit_of_four (a ∷ b ∷ c ∷ d ∷ rest) four = refl
+unit_of_four _ four = absurd (omega arith)
 
 -- Four digits spell a code unit by two bytes.
 and_last : (first c d : Bool) → (c && d) ≡ false → ((first && c) && d) ≡ false
@@ -125,23 +118,13 @@ pub by_half : (high : ℕ) (text : List ℕ) → 6 ≤ length text → content (
     (option_and_then (λ low. cond (is_low_surrogate low) (prepend (encode_utf8 (surrogate_pair high low)) (content plain (drop 6 text))) None)
     (first_unit (drop 2 text))) None
 unfolding content
-by_half high [] six = absurd (omega arith)
-by_half high (slash ∷ []) six = absurd (omega arith)
-by_half high (slash ∷ u ∷ []) six = absurd (omega arith)
-by_half high (slash ∷ u ∷ a ∷ []) six = absurd (omega arith)
-by_half high (slash ∷ u ∷ a ∷ b ∷ []) six = absurd (omega arith)
-by_half high (slash ∷ u ∷ a ∷ b ∷ c ∷ []) six = absurd (omega arith)
 by_half high (slash ∷ u ∷ a ∷ b ∷ c ∷ d ∷ rest) six = refl
+by_half high _ six = absurd (omega arith)
 
 pub no_half : (text : List ℕ) → length text < 6 → (high : ℕ) → content (after_high high) text ≡ None
 unfolding content
-no_half [] few high = refl
-no_half (slash ∷ []) few high = refl
-no_half (slash ∷ u ∷ []) few high = refl
-no_half (slash ∷ u ∷ a ∷ []) few high = refl
-no_half (slash ∷ u ∷ a ∷ b ∷ []) few high = refl
-no_half (slash ∷ u ∷ a ∷ b ∷ c ∷ []) few high = refl
 no_half (slash ∷ u ∷ a ∷ b ∷ c ∷ d ∷ rest) few high = absurd (omega arith)
+no_half _ few high = refl
 
 -- After a backslash it goes on by the letter.
 pub by_letter : (text : List ℕ) → 0 < length text → content after_backslash text
@@ -179,13 +162,11 @@ no_low_scalar unit (inr range) = grind (arith, nat_tests)
 
 apart : (a b : Bool) → (not a || not b) ≡ true → (a && b) ≡ false
 apart true true e = absurd (true≢false (sym e))
-apart true false e = refl
-apart false b e = refl
+apart _ _ e = refl
 
 both : (a b : Bool) → (not a || not b) ≡ false → (a && b) ≡ true
 both true true e = refl
-both true false e = absurd (true≢false e)
-both false b e = absurd (true≢false e)
+both _ _ e = absurd (true≢false e)
 
 -- After `\u`, by the code unit there.
 module _ (text : List ℕ) where

@@ -2,10 +2,12 @@
 use Rattle.yaml_json.proofs.Common.{suc, zero, ℕ, ◌+◌, ◌<◌, ◌≤◌, Option, None, Some, drop, length, slice_index_or as get_or, take, List, [], ◌++◌, ◌∷◌}
 use Rattle.yaml_json.proofs.Common.{refl, ◌≡◌, length-append, length-drop, take-append-drop, length-take-le, take_all, append-nil, append_assoc, inl, inr, ap}
 use Rattle.yaml_json.proofs.Common.{subst, sym, ◌∙◌, arith, HasScanned, CutsAt, after_byte, texts_in, CutsFirstText}
-use Rattle.std.{proofs.Common.drop-cons, proofs.lemmas.List.take-append-le, proofs.lemmas.List.take_more, specs.Str.IsCharBoundary}
-use Rattle.yaml_json.specs.{Cuts.all_onto, Cuts.Scanned, declared.cuts.Cut.Cut, declared.cuts.Mode.Mode, declared.cuts.Scan.Scan}
+use Rattle.std.specs.Str.{IsCharBoundary}
+use Rattle.yaml_json.specs.Cuts.{all_onto, Scanned}
 use Rattle.yaml_json.specs.Texts.{scan_first_byte, scan_within, scan_in_string, onto_first, cut_text_before, texts_after}
-use Rattle.yaml_json.specs.declared.cuts.Mode.TheVariants.{Before, Behind, InString, InWord, Within}
+use Rattle.yaml_json.specs.declared.cuts.{Cut.Cut, Mode.Mode, Scan.Scan, Mode.TheVariants.Before, Mode.TheVariants.Behind, Mode.TheVariants.InString}
+use Rattle.yaml_json.specs.declared.cuts.{Mode.TheVariants.InWord, Mode.TheVariants.Within}
+use Rattle.std.proofs.{Common.drop-cons, lemmas.List.take-append-le, lemmas.List.take_more}
 
 onto_one_more : (bytes : List ℕ) (byte : ℕ) (texts : List (List ℕ)) → all_onto (bytes ++ byte ∷ []) texts ≡ all_onto bytes (onto_first byte texts)
 onto_one_more [] byte texts = refl

@@ -1,15 +1,16 @@
 -- Bytes that are no digits, sixteen at a time.
-use Rattle.std.proofs.Common.{◌≡◌, ℕ, suc, ◌+◌, ◌*◌, ◌%◌, ◌^◌, ◌<◌, ◌≤◌, ltb, Bool, true, false, not, cond, List, [], ◌∷◌, map, drop, length, take}
-use Rattle.std.proofs.Common.{replicate, refl, ap, ap₂, ◌∙◌, arith}
-use Rattle.std.proofs.{lemmas.Bool.agree_below_at, lemmas.List.length-map}
+use Rattle.std.proofs.Common.{◌≡◌, ℕ, suc, ◌+◌, ◌*◌, ◌%◌, ◌^◌, ◌<◌, ◌≤◌, ltb, Bool, true, false, not, cond, List, [], ◌∷◌, map, drop, length, take, replicate}
+use Rattle.std.proofs.Common.{refl, ap, ap₂, ◌∙◌, arith}
+use Rattle.std.proofs.lemmas.Bool.{agree_below_at}
+use Rattle.std.proofs.lemmas.List.{length-map}
 use Rattle.std.proofs.lemmas.Simd.{zip2_splat, zip2_of_maps, splat_is_map, map-map, mask_l-mod, trailing_mask_l, length-chunk}
-use Rattle.std.specs.{Char.is_ascii_digit, List.prefix_len}
 use lib.Bits.{bit_xor}
 use lib.Count.{count_trailing_zeros}
 use lib.Lanes.{Each1, zip2, chunk, mask_l, top}
 use mir.Syntax.{w8}
 use mir.Val.{Fits}
 use Rattle.yaml_json.specs.Lexemes.{is_no_digit}
+use Rattle.std.specs.{Char.is_ascii_digit, List.prefix_len}
 
 abbrev below : ℕ → ℕ → ℕ
 below a b = cond (ltb a b) 255 0

@@ -1,24 +1,18 @@
 -- At the first lexeme that isn't possible, the input that is expected names the lexemes that may follow.
 use Rattle.std.proofs.Common.{◌≡◌, ◌↔◌, inl, inr, ℕ, Bool, true, false, nat_le, Option, List, [], ◌∷◌, ◌++◌, drop, length, take, refl, sym, subst, ap, ◌∙◌}
 use Rattle.std.proofs.Common.{take-append-drop}
-use Rattle.std.proofs.lemmas.Bool.{true≢false}
-use Rattle.std.proofs.lemmas.List.{append_cancel_right}
-use Rattle.json.specs.Lex.{Lexeme, Mode, between, in_word, lex, token}
-use Rattle.json.specs.Token.{bad}
-use Rattle.json.specs.Word.{ends_word}
 use Rattle.yaml_base.specs.declared.kinds.CollectionKind.{CollectionKind}
+use Rattle.yaml_json.specs.Expected.{Names, StandingInJson, expected_by, expected_of, innermost, standing_over, start}
+use Rattle.yaml_json.specs.Lexing.{MayBegin, mode_over}
+use Rattle.yaml_json.specs.Places.{ExpectedIsPossible, MayFollow}
 use Rattle.yaml_json.proofs.Following.{kinds_next, last_next, names}
 use Rattle.yaml_json.proofs.LastTokens.{AreGood, lex_passed, passed, quoting_of, standing_at, stands_over}
 use Rattle.yaml_json.proofs.LexSteps.{lex-delimiter, lex-none}
 use Rattle.yaml_json.proofs.Possible.{Runs, kinds_over, last_over, possible_is_named, runs_before}
-use Rattle.yaml_json.specs.Expected.{Names, StandingInJson, expected_by, expected_of, innermost, standing_over, start}
-use Rattle.yaml_json.specs.Lexing.{MayBegin, mode_over}
-use Rattle.yaml_json.specs.Places.{ExpectedIsPossible, MayFollow}
-use Rattle.yaml_json.specs.declared.expecting.Expected.{Expected}
+use Rattle.yaml_json.specs.declared.expecting.{Expected.Expected, Last.Last, Last.TheVariants.Nothing, Quoting.Quoting}
+use Rattle.json.specs.{Lex.Lexeme, Lex.Mode, Lex.between, Lex.in_word, Lex.lex, Lex.token, Token.bad, Word.ends_word}
+use Rattle.std.proofs.lemmas.{Bool.true≢false, List.append_cancel_right}
 use Rattle.yaml_json.specs.declared.expecting.Expected.TheVariants as expected
-use Rattle.yaml_json.specs.declared.expecting.Last.{Last}
-use Rattle.yaml_json.specs.declared.expecting.Last.TheVariants.{Nothing}
-use Rattle.yaml_json.specs.declared.expecting.Quoting.{Quoting}
 
 -- ---- the lexemes before a place
 

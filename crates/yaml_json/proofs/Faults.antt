@@ -1,13 +1,15 @@
 -- At which lexeme of its text the writing is stopped.
-use Rattle.std.proofs.Common.{◌≡◌, ℕ, ◌<◌, ◌≤◌, Bool, true, false, List, [], ◌∷◌, ◌++◌, drop, take, length, refl, sym, subst, ap, ◌∙◌, inl, inr}
-use Rattle.std.proofs.Common.{append_assoc, append-nil, take-append-drop}
-use Rattle.std.proofs.lemmas.Bool.{cases_lt, true≢false}
-use Rattle.std.proofs.lemmas.List.{append_cancel_right, drop_all}
-use Rattle.json.specs.{Json.Json, Strict.HasUniqueKeys, Tree.json_tokens, Word.head}
-use Rattle.json.specs.Lex.{Lexeme, Place, after_key, after_value, begins_colon, between, colon, comma, fresh, if_allowed, in_word, lex, place_token}
-use Rattle.json.specs.Lex.{may_begin, punctuate, token, tokens}
-use Rattle.json.specs.Token.{Token, bad, key, string}
+use Rattle.std.proofs.Common.{◌≡◌, ℕ, ◌<◌, ◌≤◌, Bool, true, false, List, [], ◌∷◌, ◌++◌, drop, take, length, refl, sym, subst, ap, ◌∙◌, inl, inr, append_assoc}
+use Rattle.std.proofs.Common.{append-nil, take-append-drop}
 use Rattle.yaml_base.specs.Prefix.{IsPrefix}
+use Rattle.yaml_json.proofs.FirstLexemes.{EndsValue, IsOfString, IsOfValue, as_string, comma_first, ends_good, first_of, of_string, of_value, some_token}
+use Rattle.yaml_json.proofs.LexSteps.{lex-none}
+use Rattle.yaml_json.proofs.ModeSteps.{goes_on}
+use Rattle.yaml_json.proofs.Refusing.{nothing_past}
+use Rattle.yaml_json.proofs.PunctuateSteps.{as_placed, lex-stray, put-key, put-string}
+use Rattle.yaml_json.proofs.Reaching.{is_placed, no_key_place}
+use Rattle.yaml_json.proofs.Spelling.{AllGood, AreSpelled, are_spelled, due_at, goes_on_at, good_back, good_front, json_ends, json_good, last_same}
+use Rattle.yaml_json.proofs.Spelling.{nothing_left, spelled, spelled_colon}
 use Rattle.yaml_json.specs.Ahead.{FollowsAs, IsTidy, IsTrimmed, ahead, place_of}
 use Rattle.yaml_json.specs.Begins.{BeginsSome, NoneGoesOn}
 use Rattle.yaml_json.specs.Lexing.{LeadsFrom, MayBegin, mode_over}
@@ -15,14 +17,14 @@ use Rattle.yaml_json.specs.Offsets.{IsPast, PassesLexeme}
 use Rattle.yaml_json.specs.Places.{BeginLexemes, CannotStandAt, IsAny, IsLexemeStart, NoneGoOn}
 use Rattle.yaml_json.specs.Reached.{AreFrom, EndsBad, HaveTokens, Passed}
 use Rattle.yaml_json.specs.Walk.{IsBeginner, NoStringNext}
-use Rattle.yaml_json.specs.declared.tokens.Stage.{Stage}
-use Rattle.yaml_json.specs.declared.tokens.Stage.TheVariants.{Behind, Over}
-use Rattle.yaml_json.proofs.FirstLexemes.{EndsValue, IsOfString, IsOfValue, as_string, comma_first, ends_good, first_of, of_string, of_value, some_token}
-use Rattle.yaml_json.proofs.{LexSteps.lex-none, ModeSteps.goes_on, Refusing.nothing_past}
-use Rattle.yaml_json.proofs.PunctuateSteps.{as_placed, lex-stray, put-key, put-string}
-use Rattle.yaml_json.proofs.Reaching.{is_placed, no_key_place}
-use Rattle.yaml_json.proofs.Spelling.{AllGood, AreSpelled, are_spelled, due_at, goes_on_at, good_back, good_front, json_ends, json_good, last_same}
-use Rattle.yaml_json.proofs.Spelling.{nothing_left, spelled, spelled_colon}
+use Rattle.json.specs.Json.{Json}
+use Rattle.json.specs.Strict.{HasUniqueKeys}
+use Rattle.json.specs.Tree.{json_tokens}
+use Rattle.json.specs.Lex.{Lexeme, Place, after_key, after_value, begins_colon, between, colon, comma, fresh, if_allowed, in_word, lex, place_token, may_begin}
+use Rattle.json.specs.Lex.{punctuate, token, tokens}
+use Rattle.json.specs.Token.{Token, bad, key, string}
+use Rattle.yaml_json.specs.declared.tokens.Stage.{Stage, TheVariants.Behind, TheVariants.Over}
+use Rattle.std.proofs.lemmas.{Bool.cases_lt, Bool.true≢false, List.append_cancel_right, List.drop_all}
 
 -- ---- the beginning of a lexeme
 
@@ -91,12 +93,9 @@ pub record StandsHere (text : List ℕ) (taken left : List Token) (at : ℕ) : T
   pub no_comma : place_of stage ≡ after_value → (more : List Lexeme) → lex between (drop at text) ≡ comma ∷ more → ⊥
   pub left_is : left ≡ punctuate (place_of stage) (lex between (drop at text))
 
-comma_head : (t : List ℕ) → IsTrimmed t → (more : List Lexeme) → lex between t ≡ comma ∷ more → head t ≡ 44
-comma_head t trimmed more is = comma_first t trimmed more is
-
 no_comma_behind : (stage : Stage) (rest : List ℕ) → (stage ≡ Over → ⊥) → IsTidy stage rest → place_of stage ≡ after_value → (more : List Lexeme)
     → lex between rest ≡ comma ∷ more → ⊥
-no_comma_behind Behind rest some tidy e more is = tidy.comma refl (comma_head rest tidy.trimmed more is)
+no_comma_behind Behind rest some tidy e more is = tidy.comma refl (comma_first rest tidy.trimmed more is)
 no_comma_behind Over rest some tidy e more is = absurd (some refl)
 no_comma_behind _ rest some tidy e more is = cc
 
@@ -276,9 +275,6 @@ first_exists : (ts : List Token) → (ts ≡ [] → ⊥) → (x : Token) × ((u 
 first_exists [] some = absurd (some refl)
 first_exists (x ∷ u) some = (x, (u, refl))
 
-value_key_apart : after_value ≡ after_key → ⊥
-value_key_apart e = cc
-
 module _ (text : List ℕ) (front : List Token) (t : Token) (left : List Token) (last at : ℕ) (here : StandsHere text front (t ∷ left) last)
     (past : IsPast text last at) (json : Json) (whole : json_tokens json ≡ front ++ t ∷ []) (some : left ≡ [] → ⊥) where
   ends_it : EndsValue t
@@ -325,7 +321,7 @@ module _ (text : List ℕ) (front : List Token) (t : Token) (left : List Token) 
             let other = so.0 in
             let more = so.1.1.0 in
             let e = so.1.1.1 in
-            let first = first_exists (punctuate after_value (l ∷ more)) (some_token after_value l more value_key_apart) in
+            let first = first_exists (punctuate after_value (l ∷ more)) (some_token after_value l more (λ e. cc)) in
             let read = found.reads (l ∷ more) (λ f. ap begins_colon same ∙ colon_alone l ls more ∙ f) in
             let tokens_are : json_tokens json ++ first.0 ∷ first.1.0 ≡ json_tokens other =
             ap (λ (u : List Token). u ++ first.0 ∷ first.1.0) whole ∙ append_assoc front (t ∷ []) (first.0 ∷ first.1.0)

@@ -1,15 +1,15 @@
 -- Lexemes that are left, and their tokens: there are some, and the first of them is found.
 use Rattle.std.proofs.Common.{◌≡◌, ℕ, Bool, true, false, cond, ◌==◌, List, [], ◌∷◌, refl, sym, subst, ap, ◌∙◌}
 use Rattle.std.proofs.lemmas.Bool.{true≢false, false_from_ne_true}
-use Rattle.json.specs.Ascii as ascii
-use Rattle.json.specs.Lex.{Lexeme, Mode, Place, after_comma, after_key, after_value, backslash, begins_colon, between, colon, comma, fresh, if_allowed, in_word}
-use Rattle.json.specs.Lex.{in_string, lex, lex_byte, may_begin, may_close, operator, other, place_token, punctuate, quote, space, string_token, token}
+use Rattle.json.specs.Lex.{Lexeme, Mode, Place, after_comma, after_key, after_value, backslash, begins_colon, between, colon, comma, fresh, if_allowed}
+use Rattle.json.specs.Lex.{in_word, in_string, lex, lex_byte, may_begin, may_close, operator, other, place_token, punctuate, quote, space, string_token, token}
 use Rattle.json.specs.Text.{content, plain}
 use Rattle.json.specs.Token.{Token, begin_object, end_object, begin_array, end_array, key, string, number, boolean, null, bad}
 use Rattle.json.specs.Word.{head, is_operator, is_space, word}
-use Rattle.yaml_json.specs.{Ahead.IsTrimmed, Walk.NoStringNext}
 use Rattle.yaml_json.proofs.LexSteps.{each_operator}
 use Rattle.yaml_json.proofs.PunctuateSteps.{as_placed, put-end_array, put-end_object, put-string, put-word}
+use Rattle.yaml_json.specs.{Ahead.IsTrimmed, Walk.NoStringNext}
+use Rattle.json.specs.Ascii as ascii
 
 -- ---- the rest has a lexeme
 
@@ -22,9 +22,6 @@ some_byte true b x xs k = (token (string_token (content plain xs)), (k in_string
 some_byte false true x xs k = (token bad, (k in_word, refl))
 some_byte false false x xs k = (token (word (x ∷ xs)), (k in_word, refl))
 
-some_apart : (x : ℕ) (xs : List ℕ) → (x ∷ xs) ≡ [] → ⊥
-some_apart x xs e = cc
-
 pub some_lexeme : (t : List ℕ) → IsTrimmed t → (t ≡ [] → ⊥) → HasFirst (lex between t)
 unfolding lex
 some_lexeme [] trimmed some = absurd (some refl)
@@ -35,7 +32,7 @@ some_lexeme (x ∷ xs) trimmed some = go (is_operator x) (is_space x) refl refl
         each_operator (λ v. HasFirst (lex between (v ∷ xs)))
         (token begin_object, (lex between xs, refl)) (token end_object, (lex between xs, refl)) (token begin_array, (lex between xs, refl))
         (token end_array, (lex between xs, refl)) (colon, (lex between xs, refl)) (comma, (lex between xs, refl)) x e
-    go false true e f = absurd (some_apart x xs (trimmed f))
+    go false true e f = let none = trimmed f in cc
     go false false e f =
         subst HasFirst
         (sym (λ i. lex_byte between
@@ -56,12 +53,6 @@ other_lexeme l ls more e apart = apart cc
 nothing_first : (more : List Lexeme) → [] ≡ comma ∷ more → ⊥
 nothing_first more e = cc
 
-token_apart : (t : Token) → token t ≡ comma → ⊥
-token_apart t e = cc
-
-colon_apart : colon ≡ comma → ⊥
-colon_apart e = cc
-
 pub comma_first : (t : List ℕ) → IsTrimmed t → (more : List Lexeme) → lex between t ≡ comma ∷ more → head t ≡ 44
 unfolding lex
 comma_first [] trimmed more e = absurd (nothing_first more e)
@@ -70,12 +61,12 @@ comma_first (x ∷ xs) trimmed more e = go (is_operator x) (is_space x) refl ref
     go : (o s : Bool) → is_operator x ≡ o → is_space x ≡ s → x ≡ 44
     go true s f g =
         each_operator (λ v. lex between (v ∷ xs) ≡ comma ∷ more → v ≡ 44)
-        (λ is. absurd (other_lexeme (token begin_object) (lex between xs) more is (token_apart begin_object)))
-        (λ is. absurd (other_lexeme (token end_object) (lex between xs) more is (token_apart end_object)))
-        (λ is. absurd (other_lexeme (token begin_array) (lex between xs) more is (token_apart begin_array)))
-        (λ is. absurd (other_lexeme (token end_array) (lex between xs) more is (token_apart end_array)))
-        (λ is. absurd (other_lexeme colon (lex between xs) more is colon_apart)) (λ is. refl) x f e
-    go false true f g = absurd (some_apart x xs (trimmed g))
+        (λ is. absurd (other_lexeme (token begin_object) (lex between xs) more is (λ e. cc)))
+        (λ is. absurd (other_lexeme (token end_object) (lex between xs) more is (λ e. cc)))
+        (λ is. absurd (other_lexeme (token begin_array) (lex between xs) more is (λ e. cc)))
+        (λ is. absurd (other_lexeme (token end_array) (lex between xs) more is (λ e. cc)))
+        (λ is. absurd (other_lexeme colon (lex between xs) more is (λ e. cc))) (λ is. refl) x f e
+    go false true f g = let none = trimmed g in cc
     go false false f g =
         absurd (no_comma_byte (x == ascii.quote) (x == ascii.backslash) x xs (λ next. lex next xs) more
         (sym (λ i. lex_byte between
@@ -154,7 +145,7 @@ string_or_key_owed : (b : Bool) (s : List ℕ) (k : Place → List Token) → No
 string_or_key_owed true s k none = none
 string_or_key_owed false s k none = none
 
-late_string : (b : Bool) (s : List ℕ) (k : Place → List Token) → place_token after_value (string s) b k ≡ bad ∷ []
+pub late_string : (b : Bool) (s : List ℕ) (k : Place → List Token) → place_token after_value (string s) b k ≡ bad ∷ []
 late_string true s k = refl
 late_string false s k = refl
 
@@ -327,15 +318,6 @@ string_ends p x ls false t left is ends e =
     ends_here p (string x) (may_begin p) ls t left ends e
     (λ may more f. put-string p x more may (not_true (begins_colon ls) is (begins_colon more) f))
 
-pub number_good : (x : List ℕ) → number x ≡ bad → ⊥
-number_good x e = cc
-
-pub boolean_good : (v : Bool) → boolean v ≡ bad → ⊥
-boolean_good v e = cc
-
-pub null_good : null ≡ bad → ⊥
-null_good e = cc
-
 pub of_value : (p : Place) (ls : List Lexeme) (t : Token) (left : List Token) → EndsValue t → (p ≡ after_key → ⊥)
     → (p ≡ after_value → (more : List Lexeme) → ls ≡ comma ∷ more → ⊥) → punctuate p ls ≡ t ∷ left → IsOfValue p t ls left
 unfolding punctuate
@@ -355,12 +337,12 @@ of_value p (token (key x) ∷ ls) t left ends apart no_comma e =
 of_value p (token (string x) ∷ ls) t left ends apart no_comma e =
     string_ends p x ls (begins_colon ls) t left refl ends (sym (as_placed p (string x) ls) ∙ e)
 of_value p (token (number x) ∷ ls) t left ends apart no_comma e =
-    ends_here p (number x) (may_begin p) ls t left ends (sym (as_placed p (number x) ls) ∙ e) (λ may more f. put-word p (number x) more tt (number_good x) may)
+    ends_here p (number x) (may_begin p) ls t left ends (sym (as_placed p (number x) ls) ∙ e) (λ may more f. put-word p (number x) more tt (λ e. cc) may)
 of_value p (token (boolean v) ∷ ls) t left ends apart no_comma e =
     ends_here p (boolean v) (may_begin p) ls t left ends (sym (as_placed p (boolean v) ls) ∙ e)
-    (λ may more f. put-word p (boolean v) more tt (boolean_good v) may)
+    (λ may more f. put-word p (boolean v) more tt (λ e. cc) may)
 of_value p (token null ∷ ls) t left ends apart no_comma e =
-    ends_here p null (may_begin p) ls t left ends (sym (as_placed p null ls) ∙ e) (λ may more f. put-word p null more tt null_good may)
+    ends_here p null (may_begin p) ls t left ends (sym (as_placed p null ls) ∙ e) (λ may more f. put-word p null more tt (λ e. cc) may)
 of_value p (token bad ∷ ls) t left ends apart no_comma e = absurd (bad_first t left (sym (as_placed p bad ls) ∙ e) (ends_good t ends))
 of_value after_value (comma ∷ ls) t left ends apart no_comma e = absurd (no_comma refl ls refl)
 of_value after_key (comma ∷ ls) t left ends apart no_comma e = absurd (apart refl)

@@ -1,19 +1,16 @@
 -- The lexemes that follow one another in a value of JSON, by the last token and the arrays and objects that are open.
 use Rattle.std.proofs.Common.{◌≡◌, ◌↔◌, ℕ, Bool, true, false, ◌||◌, List, [], ◌∷◌, drop, refl, sym, subst, ◌∙◌}
 use Rattle.std.proofs.lemmas.Bool.{true≢false}
-use Rattle.json.specs.Lex.{Lexeme, Place, after_comma, after_key, after_value, begins_colon, colon, comma, fresh, if_allowed, may_begin, place_token, punctuate}
-use Rattle.json.specs.Lex.{token}
-use Rattle.json.specs.Token.{Token, begin_object, end_object, begin_array, end_array, key, string, number, boolean, null, bad}
-use Rattle.yaml_base.specs.declared.kinds.CollectionKind.{CollectionKind}
-use Rattle.yaml_base.specs.declared.kinds.CollectionKind.TheVariants.{Mapping, Sequence}
-use Rattle.yaml_json.proofs.Completing.{Completes}
-use Rattle.yaml_json.proofs.PunctuateSteps.{as_placed}
+use Rattle.json.specs.Lex.{Lexeme, Place, after_comma, after_key, after_value, begins_colon, colon, comma, fresh, if_allowed, may_begin, place_token}
+use Rattle.json.specs.Lex.{punctuate, token}
+use Rattle.json.specs.Token.{Token, begin_object, end_object, begin_array, end_array, key, string, bad}
 use Rattle.yaml_json.specs.Expected.{after_word_byte}
 use Rattle.yaml_json.specs.Walk.{closes}
 use Rattle.yaml_json.specs.declared.expecting.Expected.{Expected}
+use Rattle.yaml_json.proofs.{PunctuateSteps.put-string, PunctuateSteps.as_placed, FirstLexemes.late_string, Completing.Completes}
+use Rattle.yaml_base.specs.declared.kinds.CollectionKind.{CollectionKind, TheVariants.Mapping, TheVariants.Sequence}
+use Rattle.yaml_json.specs.declared.expecting.Last.{Last, TheVariants.Opener, TheVariants.Comma, TheVariants.Colon, TheVariants.First, TheVariants.Value}
 use Rattle.yaml_json.specs.declared.expecting.Expected.TheVariants as expected
-use Rattle.yaml_json.specs.declared.expecting.Last.{Last}
-use Rattle.yaml_json.specs.declared.expecting.Last.TheVariants.{Opener, Comma, Colon, First, Value}
 
 -- ---- after a lexeme
 
@@ -68,15 +65,15 @@ is_colon colon = true
 is_colon _ = false
 
 abbrev pub names : Expected → Lexeme → Bool
+names expected.Text l = by_token begins l
+names expected.Value l = by_token begins l
 names expected.ItemOrEnd l = by_token begins l || by_token (λ t. closes t Sequence) l
 names expected.NameOrEnd l = by_token is_text l || by_token (λ t. closes t Mapping) l
 names expected.Name l = by_token is_text l
 names expected.Colon l = is_colon l
 names expected.CommaOrBracket l = is_comma l || by_token (λ t. closes t Sequence) l
 names expected.CommaOrBrace l = is_comma l || by_token (λ t. closes t Mapping) l
-names expected.End l = false
-names expected.Utf8 l = false
-names _ l = by_token begins l
+names _ l = false
 
 -- ---- the rest of a value
 
@@ -111,12 +108,6 @@ name_put p s ls may e =
     as_placed p (string s) ls ∙ (λ i. place_token p (string s) (e i) (λ next. punctuate next ls))
     ∙ (λ i. if_allowed (may i) (key s) (λ next. punctuate next ls) after_key)
 
-text_put : (p : Place) (s : List ℕ) (ls : List Lexeme) → may_begin p ≡ true → begins_colon ls ≡ false
-    → punctuate p (token (string s) ∷ ls) ≡ string s ∷ punctuate after_value ls
-text_put p s ls may e =
-    as_placed p (string s) ls ∙ (λ i. place_token p (string s) (e i) (λ next. punctuate next ls))
-    ∙ (λ i. if_allowed (may i) (string s) (λ next. punctuate next ls) after_value)
-
 -- it is a name before a colon, and else a value
 either_text : (P : List Token → Type 0) (X : Type 0) (p : Place) (s : List ℕ) (ls : List Lexeme) → may_begin p ≡ true
     → (begins_colon ls ≡ true → P (key s ∷ punctuate after_key ls) ↔ X)
@@ -126,7 +117,7 @@ either_text P X p s ls may f g = go (begins_colon ls) refl
   where
     go : (b : Bool) → begins_colon ls ≡ b → P (punctuate p (token (string s) ∷ ls)) ↔ X
     go true e = subst (λ (ts : List Token). P ts ↔ X) (sym (name_put p s ls may e)) (f e)
-    go false e = subst (λ (ts : List Token). P ts ↔ X) (sym (text_put p s ls may e)) (g e)
+    go false e = subst (λ (ts : List Token). P ts ↔ X) (sym (put-string p s ls may e)) (g e)
 
 -- no colon follows a value
 no_colon : (ls : List Lexeme) (kinds : List CollectionKind) → begins_colon ls ≡ true → Completes false kinds (punctuate after_value ls) → ⊥
@@ -170,12 +161,8 @@ text_name p kinds s ls may =
     (λ e. same) (λ e. (λ never. absurd never, λ so. absurd (no_other ls (Mapping ∷ kinds) e so)))
 
 -- a string doesn't follow a value
-late_text : (b : Bool) (s : List ℕ) (k : Place → List Token) → place_token after_value (string s) b k ≡ bad ∷ []
-late_text true s k = refl
-late_text false s k = refl
-
 late_put : (s : List ℕ) (ls : List Lexeme) → punctuate after_value (token (string s) ∷ ls) ≡ bad ∷ []
-late_put s ls = as_placed after_value (string s) ls ∙ late_text (begins_colon ls) s (λ next. punctuate next ls)
+late_put s ls = as_placed after_value (string s) ls ∙ late_string (begins_colon ls) s (λ next. punctuate next ls)
 
 pub never_late : (P : List Token → Type 0) (s : List ℕ) (ls : List Lexeme) → (P (bad ∷ []) → ⊥)
     → P (punctuate after_value (token (string s) ∷ ls)) ↔ ⊥

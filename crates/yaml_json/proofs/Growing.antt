@@ -2,13 +2,13 @@
 use Rattle.yaml_json.proofs.Common.{[], append-nil, subst, sym, Option, None, Some, Ok, Err, List, ◌≡◌, inl, inr, some_from_result, Event, failure_of, refl}
 use Rattle.yaml_json.proofs.Common.{WriterState, PassedEvents}
 use Rattle.yaml_base.specs.declared.errors.yaml_error_t.{yaml_error_t}
-use Rattle.yaml_json.specs.{Failing.writers_error, Sent.IsByReader, Sent.emitter_error, declared.error.JsonError.JsonError}
-use Rattle.yaml_json.specs.declared.error.StreamError.{StreamError}
-use Rattle.yaml_json.specs.declared.error.StreamError.TheVariants as faults
 use Rattle.yaml_emitter.specs.State.{with_all_taken}
-use Rattle.yaml_pen.{proofs.Composing.grows_itself, proofs.Composing.grows_then, proofs.Writing.none_from_result}
-use Rattle.yaml_json.{proofs.TextStops.said_as, specs.Failing.Grew, specs.Failing.Kept, specs.declared.values.Stop.Stop}
+use Rattle.yaml_json.proofs.TextStops.{said_as}
 use Rattle.yaml_writer.specs.Failing.{HasErrorSaid}
+use Rattle.yaml_json.specs.{Failing.writers_error, Failing.Grew, Failing.Kept, Sent.IsByReader, Sent.emitter_error, declared.error.JsonError.JsonError}
+use Rattle.yaml_json.specs.{declared.error.StreamError.StreamError, declared.values.Stop.Stop}
+use Rattle.yaml_pen.proofs.{Composing.grows_itself, Composing.grows_then, Writing.none_from_result}
+use Rattle.yaml_json.specs.declared.error.StreamError.TheVariants as faults
 
 pub grew_itself : (writer : WriterState) → Grew writer None writer
 grew_itself writer = record { grows = grows_itself writer.emitter.page; sound = λ none. none }
@@ -26,7 +26,7 @@ grew_then before between after found one other =
 pub grew_kept : (before after : WriterState) → Kept before (Ok tt) after → Grew before None after
 grew_kept before after kept = record { grows = kept.grows; sound = λ none. kept.sound }
 
-pub grew_said : (before after : WriterState) (stop : Stop) (found : Option yaml_error_t) → found ≡ failure_of after stop → Kept before (Err stop) after
+pub grew_said : (before after : WriterState) (stop : Stop) (found : Option yaml_error_t) → found ≡ failure_of stop → Kept before (Err stop) after
     → Grew before found after
 grew_said before after stop found is kept = record { grows = kept.grows; sound = said_as before after stop found is kept }
 

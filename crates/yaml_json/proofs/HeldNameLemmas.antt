@@ -1,15 +1,14 @@
 -- The lists and sets that hold the names of the objects that are open.
 use Rattle.yaml_base.proofs.Common.{bytes_eq-Decides, ap, arith, inl, inr, length-append, subst, sym, ◌∙◌, or_parts, or_cases, same_from_decides, list_any}
-use Rattle.yaml_base.proofs.Common.{Bool, List, [], cond, drop, false, length, not, refl, slice_index_or as get_or, take, true, ℕ, ◌++◌, ◌-◌, ◌||◌, ◌∷◌, ◌≡◌}
 use Rattle.yaml_base.proofs.Common.{bytes_eq, ◌<◌, ◌≤◌, ◌+◌, ◌⊎◌}
+use Rattle.std.specs.{BTreeSet.BTreeSet, BTreeSet.Updates, BTreeSet.contains_by, Borrow.Bor, Cmp.Lexicographic.slice_cmp, List.slice_range, Ordering.nat_cmp}
+use Rattle.std.specs.{declared.cmp.Ordering.Ordering}
+use Rattle.std.proofs.{lemmas.Bool.not-true, lemmas.Bool.not-false, lemmas.Bool.both_ways, lemmas.Bool.Decides.Decides-like, lemmas.Map.Text.is_eq-slice_cmp}
 use Rattle.std.proofs.{Common.ap₂, Common.set, Common.length-drop, Common.take_all, Math.Seq.get_or-append_seam, Math.Seq.set-append_seam}
-use Rattle.std.proofs.{lemmas.Bool.both_ways}
-use Rattle.std.proofs.lemmas.List.{Folds.list_any-append, drop-append-le, take-append-le}
-use Rattle.std.{proofs.lemmas.Bool.Decides.Decides-like, proofs.lemmas.Map.Text.is_eq-slice_cmp, specs.BTreeSet.BTreeSet, specs.BTreeSet.Updates}
-use Rattle.std.{specs.BTreeSet.contains_by, specs.Borrow.Bor, specs.Cmp.Lexicographic.slice_cmp, specs.List.slice_range, specs.Ordering.nat_cmp}
-use Rattle.std.specs.declared.cmp.Ordering.{Ordering}
-use Rattle.yaml_json.specs.{HeldNames.AddsName, HeldNames.HasNames, HeldNames.HaveNames, Names.IsNewName, Names.outer_names}
-use Rattle.yaml_json.specs.declared.names.{Level.Level, Names.Names}
+use Rattle.std.proofs.{lemmas.List.Folds.list_any-append, lemmas.List.drop-append-le, lemmas.List.take-append-le}
+use Rattle.yaml_json.specs.{HeldNames.AddsName, HeldNames.HasNames, HeldNames.HaveNames, Names.IsNewName, Names.outer_names, declared.names.Level.Level}
+use Rattle.yaml_json.specs.{declared.names.Names.Names}
+use Rattle.yaml_base.proofs.Common.{Bool, List, [], cond, drop, false, length, not, refl, slice_index_or as get_or, take, true, ℕ, ◌++◌, ◌-◌, ◌||◌, ◌∷◌, ◌≡◌}
 
 -- A name is new if and only if it is none of those.
 pub new_among : (names : List (List ℕ)) (name : List ℕ) → list_any (bytes_eq name) names ≡ false → IsNewName names name
@@ -106,14 +105,6 @@ last_of : {A : Type 0} (levels init : List A) (last d : A) (n : ℕ) → levels 
 last_of levels init last d n is long =
     let e : n - 1 ≡ length init = omega (arith, long, ap length is, length-append init (last ∷ [])) in
     ap₂ (λ all i. get_or all i d) is e ∙ get_or-append_seam init last [] d
-
-false_from_not : (b : Bool) → not b ≡ true → b ≡ false
-false_from_not true is = sym is
-false_from_not false is = refl
-
-true_from_not : (b : Bool) → not b ≡ false → b ≡ true
-true_from_not true is = refl
-true_from_not false is = sym is
 
 none_in_empty : (keys : Keys) (p : Bor (List ℕ) → Bool) → length keys ≡ 0 → list_any p keys ≡ false
 none_in_empty [] p none = refl
@@ -247,6 +238,6 @@ module _ {A : Type 0} (few : Keys) (levels : List (Level A)) (n : ℕ) (long : n
         let known_so : (b : Bool) → contains_by (name_cmp key) level.many ≡ b → list_any (bytes_eq key.now) names ≡ b =
         λ b is. known_by_set part level.many names has key none ∙ is in (
           λ same. have_more many (has_more part level.many names has key many updates),
-          λ is same. new_among names key.now (known_so false (false_from_not (contains_by (name_cmp key) level.many) (sym added ∙ is))),
-          λ is. (is_kept, among_new names key.now (known_so true (true_from_not (contains_by (name_cmp key) level.many) (sym added ∙ is)))),
+          λ is same. new_among names key.now (known_so false (not-true (contains_by (name_cmp key) level.many) (sym added ∙ is))),
+          λ is. (is_kept, among_new names key.now (known_so true (not-false (contains_by (name_cmp key) level.many) (sym added ∙ is)))),
         )

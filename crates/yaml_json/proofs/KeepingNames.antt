@@ -5,8 +5,7 @@ use Rattle.yaml_json.proofs.Common.{IsScalar, opener, closer, KeepsNames, FitsNa
 use Rattle.std.proofs.lemmas.Bool.{cases_Bool}
 use Rattle.yaml_json.proofs.NameLemmas.{once_both, names_after_both}
 use Rattle.yaml_json.specs.{Names.outer_names, Walk.KeepsTo, Walk.LeavesNames, declared.names.Names.Names}
-use Rattle.yaml_base.specs.declared.kinds.CollectionKind.{CollectionKind}
-use Rattle.yaml_base.specs.declared.kinds.CollectionKind.TheVariants.{Mapping, Sequence}
+use Rattle.yaml_base.specs.declared.kinds.CollectionKind.{CollectionKind, TheVariants.Mapping, TheVariants.Sequence}
 
 abbrev Taken : Type 0
 Taken = List (List (List ℕ))

@@ -1,13 +1,13 @@
 -- Bytes that stop the plain text of a string, sixteen at a time.
 use Rattle.std.proofs.Common.{◌≡◌, ℕ, suc, ◌+◌, ◌*◌, ◌%◌, ◌^◌, ◌<◌, ◌≤◌, ltb, Bool, true, false, not, cond, eqb, ◌||◌, List, [], ◌∷◌, map, length, get_or}
 use Rattle.std.proofs.Common.{replicate, inl, inr, refl, ap, ap₂, ◌∙◌, arith}
-use Rattle.std.proofs.lemmas.Simd.{zip2_splat, zip2_of_maps, map-map, mask_l-mod, length-chunk, trailing_mask_l, run_in_chunk_fails, run_in_chunk_stops}
-use Rattle.std.proofs.{lemmas.Simd.none_from_empty_mask, lemmas.List.length-map, lemmas.Bool.cases_lt}
 use lib.Bits.{bit_or}
 use lib.Count.{count_trailing_zeros}
 use lib.Lanes.{zip2, chunk, mask_l, top}
 use Rattle.std.specs.List.{prefix_len}
 use Rattle.yaml_json.specs.Lexemes.{ArePlain, is_stop}
+use Rattle.std.proofs.lemmas.{Simd.zip2_splat, Simd.zip2_of_maps, Simd.map-map, Simd.mask_l-mod, Simd.length-chunk, Simd.trailing_mask_l}
+use Rattle.std.proofs.lemmas.{Simd.run_in_chunk_fails, Simd.run_in_chunk_stops, Simd.none_from_empty_mask, List.length-map, Bool.cases_lt}
 
 abbrev equal : ℕ → ℕ → ℕ
 equal a b = cond (eqb a b) 255 0

@@ -3,25 +3,19 @@ use Rattle.std.proofs.Common.{◌≡◌, ◌⊎◌, inl, inr, ℕ, Bool, true, f
 use Rattle.std.proofs.Common.{append_assoc}
 use Rattle.std.specs.Prelude.{if◌then◌else◌}
 use Rattle.std.proofs.lemmas.Bool.{true≢false, or_parts}
+use Rattle.yaml_json.specs.Expected.{StandingInJson, after_word_byte, open_by, standing_after, standing_over}
+use Rattle.yaml_json.specs.Lexing.{mode_after, mode_over}
 use Rattle.json.specs.Lex.{Class, Lexeme, Mode, backslash, between, class, in_escape, in_string, in_word, lex, lex_byte, operator, other, quote, space}
 use Rattle.json.specs.Lex.{string_token, token}
 use Rattle.json.specs.Text.{content, plain}
 use Rattle.json.specs.Token.{Token, number, boolean, null, bad}
 use Rattle.json.specs.Word.{is_operator, is_space, word}
-use Rattle.yaml_base.specs.declared.kinds.CollectionKind.{CollectionKind}
-use Rattle.yaml_base.specs.declared.kinds.CollectionKind.TheVariants.{Mapping, Sequence}
-use Rattle.yaml_json.proofs.Following.{kinds_by, kinds_next, last_by, last_next}
-use Rattle.yaml_json.proofs.LexSteps.{each_operator, each_space, value_is}
-use Rattle.yaml_json.proofs.Possible.{kinds_over, last_over}
-use Rattle.yaml_json.proofs.PunctuateSteps.{IsWord, IsWord-word}
-use Rattle.yaml_json.proofs.WordBytes.{QuoteFree, good_word}
-use Rattle.yaml_json.proofs.WordSteps.{other_inner}
-use Rattle.yaml_json.specs.Expected.{StandingInJson, after_word_byte, open_by, standing_after, standing_over}
-use Rattle.yaml_json.specs.Lexing.{mode_after, mode_over}
-use Rattle.yaml_json.specs.declared.expecting.Last.{Last}
-use Rattle.yaml_json.specs.declared.expecting.Last.TheVariants.{Nothing, Opener, Comma, Colon, Value}
-use Rattle.yaml_json.specs.declared.expecting.Quoting.{Quoting}
-use Rattle.yaml_json.specs.declared.expecting.Quoting.TheVariants.{Outside, Inside, Escaped}
+use Rattle.yaml_json.proofs.{Following.kinds_by, Following.kinds_next, Following.last_by, Following.last_next, LexSteps.each_operator, LexSteps.each_space}
+use Rattle.yaml_json.proofs.{LexSteps.value_is, Possible.kinds_over, Possible.last_over, PunctuateSteps.IsWord, PunctuateSteps.IsWord-word}
+use Rattle.yaml_json.proofs.{WordBytes.QuoteFree, WordBytes.good_word, WordSteps.other_inner}
+use Rattle.yaml_base.specs.declared.kinds.CollectionKind.{CollectionKind, TheVariants.Mapping, TheVariants.Sequence}
+use Rattle.yaml_json.specs.declared.expecting.Quoting.{Quoting, TheVariants.Outside, TheVariants.Inside, TheVariants.Escaped}
+use Rattle.yaml_json.specs.declared.expecting.Last.{Last, TheVariants.Nothing, TheVariants.Opener, TheVariants.Comma, TheVariants.Colon, TheVariants.Value}
 
 -- ---- the lexemes of some bytes of a text
 

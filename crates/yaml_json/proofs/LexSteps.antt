@@ -1,14 +1,13 @@
 -- The lexer byte by byte.
 use Rattle.std.proofs.Common.{◌≡◌, ℕ, zero, suc, ◌+◌, ◌<◌, ◌≤◌, Bool, true, false, cond, ◌||◌, ◌==◌, List, [], ◌∷◌, drop, get_or, length, refl, sym, ap, ◌∙◌}
 use Rattle.std.proofs.Common.{subst, arith}
-use Rattle.std.proofs.lemmas.Bool.{true≢false, eqb-true, or_parts}
-use Rattle.std.proofs.lemmas.List.{drop_more, drop-drop}
-use Rattle.json.specs.Ascii as ascii
 use Rattle.json.specs.Word.{is_operator, is_space}
 use Rattle.json.specs.Lex.{Class, quote, backslash, operator, space, other, class, Lexeme, Mode, between, in_word, in_string, in_escape, lex_byte, lex}
 use Rattle.yaml_json.specs.Lexemes.{is_stop}
+use Rattle.std.proofs.lemmas.{Bool.true≢false, Bool.eqb-true, Bool.or_parts, List.drop_more, List.drop-drop}
+use Rattle.json.specs.Ascii as ascii
 
-or_elim : {C : Type 0} (a b : Bool) → (a ≡ true → C) → (b ≡ true → C) → (a || b) ≡ true → C
+pub or_elim : {C : Type 0} (a b : Bool) → (a ≡ true → C) → (b ≡ true → C) → (a || b) ≡ true → C
 or_elim true b f g e = f refl
 or_elim false b f g e = g e
 

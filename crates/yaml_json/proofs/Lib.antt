@@ -36,6 +36,9 @@ pub mod Boundaries
 pub mod LexSteps
 pub mod WordSteps
 pub mod ContentSteps
+pub mod StringFaults
+pub mod BadFaults
+pub mod FaultPlaces
 pub mod PunctuateSteps
 pub mod Lanes
 pub mod DigitLanes
@@ -47,6 +50,7 @@ pub mod PassingLexemes
 pub mod Faults
 pub mod Placing
 pub mod RowsPlaces
+pub mod RowsFaults
 pub mod PlacesAfter
 pub mod ModeSteps
 pub mod WordModes

@@ -1,9 +1,9 @@
 -- The meaning of the tree of a JSON value, at every place of its scalars.
-use Rattle.yaml_json.proofs.Common.{Option, None, Bool, List, [], ◌++◌, ◌∷◌, ◌≡◌, append-nil, append_assoc, subst, sym, ◌∙◌, chars, Json, null, boolean, number}
-use Rattle.yaml_json.proofs.Common.{string, Items, array, Members, object, no_items, item, no_members, member, HasNumbers, node_tree, Text, scalar_node, Nodes}
-use Rattle.yaml_json.proofs.Common.{Pairs, no_nodes, nodes_and, no_pairs, pairs_and, Effective, Tree, text_content, collection_in, Schema}
-use Rattle.yaml_base.proofs.Common.{TagDirective, as_item, as_key, as_value, Place, has_no_nodes, has_no_pairs, is_simple, is_written_in_flow}
-use Rattle.yaml_base.proofs.Common.{entry_place, sequence_tree, mapping_tree}
+use Rattle.yaml_json.proofs.Common.{Option, None, Bool, List, [], ◌++◌, ◌∷◌, ◌≡◌, append-nil, append_assoc, subst, sym, ◌∙◌, chars, Json, null, boolean}
+use Rattle.yaml_json.proofs.Common.{number, string, Items, array, Members, object, no_items, item, no_members, member, HasNumbers, node_tree, Text}
+use Rattle.yaml_json.proofs.Common.{scalar_node, Nodes, Pairs, no_nodes, nodes_and, no_pairs, pairs_and, Effective, Tree, text_content, collection_in, Schema}
+use Rattle.yaml_base.proofs.Common.{TagDirective, as_item, as_key, as_value, Place, has_no_nodes, has_no_pairs, is_simple, is_written_in_flow, entry_place}
+use Rattle.yaml_base.proofs.Common.{sequence_tree, mapping_tree}
 use Rattle.json.specs.Tree.{ItemsHaveNumbers, MembersHaveNumbers}
 use Rattle.yaml_base.proofs.stream_nodes.StreamAgrees.{nodes_tree, pairs_tree}
 use Rattle.yaml_json.proofs.NumberBridge.{number_is}

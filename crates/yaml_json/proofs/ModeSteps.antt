@@ -1,13 +1,12 @@
 -- The lexer's mode, byte by byte.
+use Rattle.yaml_json.proofs.LexSteps.{or_elim, each_operator, each_space}
 use Rattle.std.proofs.Common.{◌≡◌, ℕ, zero, suc, ◌+◌, ◌-◌, ◌<◌, ◌≤◌, Bool, true, false, cond, ◌||◌, ◌==◌, List, [], ◌∷◌, ◌++◌, drop, get_or, length, refl, sym}
 use Rattle.std.proofs.Common.{ap, ◌∙◌, subst, arith, append_assoc, inl, inr}
-use Rattle.std.proofs.lemmas.Bool.{true≢false, or_parts, cases_lt}
-use Rattle.std.proofs.lemmas.List.{drop_all, drop_more}
 use Rattle.json.specs.Word.{head, is_operator, is_space}
 use Rattle.json.specs.Lex.{Class, Mode, backslash, between, class, in_escape, in_string, in_word, operator, other, quote, space}
-use Rattle.yaml_json.proofs.LexSteps.{each_operator, each_space}
 use Rattle.yaml_json.specs.Lexemes.{ArePlain, is_stop}
 use Rattle.yaml_json.specs.Lexing.{EndsBefore, GoesOver, Leads, LeadsFrom, mode_after, mode_over}
+use Rattle.std.proofs.lemmas.{Bool.true≢false, Bool.or_parts, Bool.cases_lt, List.drop_all, List.drop_more}
 
 mode_over-append : (mode : Mode) (front back : List ℕ) → mode_over mode (front ++ back) ≡ mode_over (mode_over mode front) back
 mode_over-append mode [] back = refl
@@ -39,12 +38,8 @@ leads_on text left rest one two from may =
     (second.0, goes_on from first.0 second.0 text left rest first.1 second.1, second.2)
 
 -- a blank or an operator
-pub or_case : {C : Type 0} (a b : Bool) → (a ≡ true → C) → (b ≡ true → C) → (a || b) ≡ true → C
-or_case true b f g e = f refl
-or_case false b f g e = g e
-
 parts_class : (x : ℕ) → (is_operator x || is_space x) ≡ true → (mode_after between (class x) ≡ between) × (mode_after in_word (class x) ≡ between)
-parts_class x e = or_case (is_operator x) (is_space x)
+parts_class x e = or_elim (is_operator x) (is_space x)
     (each_operator (λ y. (mode_after between (class y) ≡ between) × (mode_after in_word (class y) ≡ between)) (refl, refl) (refl, refl) (refl, refl)
     (refl, refl) (refl, refl) (refl, refl) x)
     (each_space (λ y. (mode_after between (class y) ≡ between) × (mode_after in_word (class y) ≡ between)) (refl, refl) (refl, refl) (refl, refl)

@@ -1,10 +1,11 @@
 -- That no name comes twice among the tokens of a value is that each object has it once.
 use Rattle.yaml_json.proofs.Common.{suc, ℕ, ◌<◌, length, slice_index_or, List, [], ◌++◌, ◌∷◌, refl, ◌≡◌, append-nil, append_assoc, subst, sym, arith, Json}
-use Rattle.yaml_json.proofs.Common.{Items, array, Members, object, no_items, item, no_members, member, Token, json_tokens}
-use Rattle.yaml_json.proofs.Common.{items_tokens, members_tokens, IsNewName, names_after, NamesOnce, all_names_after}
+use Rattle.yaml_json.proofs.Common.{Items, array, Members, object, no_items, item, no_members, member, Token, json_tokens, items_tokens, members_tokens}
+use Rattle.yaml_json.proofs.Common.{IsNewName, names_after, NamesOnce, all_names_after}
 use Rattle.yaml_base.proofs.Common.{⊤, All}
-use Rattle.std.{proofs.lemmas.List.Elements.All-nil, proofs.lemmas.List.Elements.All-cons, proofs.lemmas.List.Kept.AllPairs-cons, specs.Prelude.◌≢◌}
+use Rattle.std.specs.Prelude.{◌≢◌}
 use Rattle.json.specs.Strict.{keys, AreDistinct, HasUniqueKeys, ItemsHaveUniqueKeys, MembersHaveUniqueKeys}
+use Rattle.std.proofs.lemmas.List.{Elements.All-nil, Elements.All-cons, Kept.AllPairs-cons}
 
 -- some tokens, and then others
 pub once_both : (levels : List (List (List ℕ))) (first second : List Token) → NamesOnce levels first → NamesOnce (all_names_after levels first) second

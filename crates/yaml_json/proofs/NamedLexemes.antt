@@ -55,15 +55,15 @@ either true b f g e = inl (f refl)
 either false b f g e = inr (g e)
 
 pub named : (e : Expected) (l : Lexeme) → names e l ≡ true → Names e (Some l)
+named expected.Text l is = value_named l is
+named expected.Value l is = value_named l is
 named expected.ItemOrEnd l is = either (by_token begins l) (by_token (λ t. closes t Sequence) l) (value_named l) (array_end l) is
 named expected.NameOrEnd l is = either (by_token is_text l) (by_token (λ t. closes t Mapping) l) (text_named l) (object_end l) is
 named expected.Name l is = text_named l is
 named expected.Colon l is = colon_named l is
 named expected.CommaOrBracket l is = either (is_comma l) (by_token (λ t. closes t Sequence) l) (comma_named l) (array_end l) is
 named expected.CommaOrBrace l is = either (is_comma l) (by_token (λ t. closes t Mapping) l) (comma_named l) (object_end l) is
-named expected.End l is = absurd (true≢false (sym is))
-named expected.Utf8 l is = absurd (true≢false (sym is))
-named _ l is = value_named l is
+named _ l is = absurd (true≢false (sym is))
 
 -- ---- and no others
 
@@ -107,6 +107,8 @@ none_is : (l : Lexeme) → Some l ≡ None → ⊥
 none_is l e = cc
 
 pub only : (e : Expected) (l : Lexeme) → Names e (Some l) → names e l ≡ true
+only expected.Text l so = value_only l so
+only expected.Value l so = value_only l so
 only expected.ItemOrEnd l so =
     either_only (by_token begins l) (by_token (λ t. closes t Sequence) l) (value_only l)
     (is_so (by_token (λ t. closes t Sequence)) l (token end_array) refl) so
@@ -122,8 +124,7 @@ only expected.CommaOrBrace l so =
     either_only (is_comma l) (by_token (λ t. closes t Mapping) l) (is_so is_comma l comma refl)
     (is_so (by_token (λ t. closes t Mapping)) l (token end_object) refl) so
 only expected.End l so = absurd (none_is l so)
-only expected.Utf8 l so = absurd so
-only _ l so = value_only l so
+only _ l so = absurd so
 
 -- ---- the end of the text
 
@@ -145,6 +146,8 @@ is_end expected.End = true
 is_end _ = false
 
 pub no_end : (e : Expected) → is_end e ≡ false → Names e None → ⊥
+no_end expected.Text isn't so = no_value so
+no_end expected.Value isn't so = no_value so
 no_end expected.ItemOrEnd isn't so = neither no_value (nothing_is (token end_array)) so
 no_end expected.NameOrEnd isn't so = neither no_text (nothing_is (token end_object)) so
 no_end expected.Name isn't so = no_text so
@@ -152,5 +155,4 @@ no_end expected.Colon isn't so = nothing_is colon so
 no_end expected.CommaOrBracket isn't so = neither (nothing_is comma) (nothing_is (token end_array)) so
 no_end expected.CommaOrBrace isn't so = neither (nothing_is comma) (nothing_is (token end_object)) so
 no_end expected.End isn't so = true≢false isn't
-no_end expected.Utf8 isn't so = so
-no_end _ isn't so = no_value so
+no_end _ isn't so = so

@@ -3,11 +3,12 @@ use Rattle.yaml_json.proofs.Common.{ℕ, if◌then◌else◌, ◌==◌, option_a
 use Rattle.yaml_json.proofs.Common.{◌||◌, [], ◌++◌, ◌∷◌, refl, ◌≡◌, eqb-true, take-append-drop, append-nil, append_assoc, ap, sym, ◌∙◌, arith, and_parts, Text}
 use Rattle.yaml_json.proofs.Common.{and_from, not_from_false, false≢true, list_all, JsonNumber, minus, are_digits, number_in, IsNumber}
 use Rattle.yaml_base.proofs.Common.{take_while-cons, leb-true, or_right, agree_below_at, take_while, nat_le, is_word, JsonExponent, is_decimal}
-use Rattle.std.{proofs.lemmas.List.Folds.length-prefix_len, specs.Char.is_ascii_digit, specs.List.prefix_len}
+use Rattle.std.proofs.lemmas.List.Folds.{length-prefix_len}
 use Rattle.json.specs.Word.{after_digits, after_minus, after_sign, after_whole, after_fraction, after_exponent, after_number}
 use Rattle.yaml_base.specs.values.JsonNumbers.{is_whole_part, exponent_text}
-use Rattle.json.specs.Print as json
 use Rattle.yaml_writer.proofs.PartLemmas.{number_in_text}
+use Rattle.std.specs.{Char.is_ascii_digit, List.prefix_len}
+use Rattle.json.specs.Print as json
 
 -- Parts that were passed over
 

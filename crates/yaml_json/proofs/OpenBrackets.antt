@@ -1,10 +1,9 @@
 -- The brackets that are open are counted as they are listed.
 use Rattle.std.proofs.Common.{◌≡◌, ◌==◌, ◌+◌, ◌-◌, ◌<◌, ◌≤◌, ℕ, suc, false, None, List, [], ◌∷◌, drop, get_or, length, refl, sym, subst, ap, ◌∙◌, arith}
-use Rattle.std.proofs.lemmas.Bool.Decides.{nat_tests}
-use Rattle.std.proofs.lemmas.List.{at_drop_more, drop_all}
 use Rattle.yaml_base.specs.declared.kinds.CollectionKind.{CollectionKind}
 use Rattle.yaml_json.specs.Expected.{IsDepth, IsFront, StandingInJson, kind_at, standing_after, standing_over, start}
-use Rattle.yaml_json.specs.{declared.expecting.Depth.Depth, declared.expecting.Front.Front}
+use Rattle.yaml_json.specs.declared.expecting.{Depth.Depth, Front.Front}
+use Rattle.std.proofs.lemmas.{Bool.Decides.nat_tests, List.at_drop_more, List.drop_all}
 
 -- no bracket is open with more than are open
 none_above : (deep : ℕ) (kinds : List CollectionKind) → length kinds < deep → kind_at deep kinds ≡ None

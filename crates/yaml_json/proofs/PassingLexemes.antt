@@ -1,19 +1,18 @@
 -- One lexeme is passed.
+use Rattle.yaml_json.proofs.LexSteps.{or_elim, each_operator, each_space, lex-delimiter, lex-in_word, lex-none}
 use Rattle.std.proofs.Common.{◌≡◌, ℕ, ◌+◌, ◌-◌, ◌<◌, ◌≤◌, true, false, ◌||◌, List, [], ◌∷◌, ◌++◌, drop, get_or, length, refl, sym, subst, ap, ◌∙◌, arith, inr}
 use Rattle.std.proofs.Common.{append_assoc, take, take-append-drop}
-use Rattle.std.proofs.lemmas.Bool.{true≢false}
-use Rattle.std.proofs.lemmas.List.{drop_all, drop_more}
 use Rattle.json.specs.Lex.{Lexeme, between, colon, comma, in_string, in_word, lex, string_token, token}
 use Rattle.json.specs.Text.{content, plain}
 use Rattle.json.specs.Token.{begin_array, begin_object, end_array, end_object}
 use Rattle.json.specs.Word.{ends_word, head, is_operator, is_space, word}
-use Rattle.yaml_json.specs.{Ahead.IsTrimmed, Offsets.PassesLexeme}
-use Rattle.yaml_json.specs.Lexing.{EndsWord, Leads, LeadsFrom}
-use Rattle.yaml_json.proofs.LexSteps.{each_operator, each_space, lex-delimiter, lex-in_word, lex-none}
-use Rattle.yaml_json.proofs.ModeSteps.{goes_by_one_at, goes_nowhere, goes_on, leads_on, leads_past, or_case, quote_leads}
+use Rattle.yaml_json.proofs.ModeSteps.{goes_by_one_at, goes_nowhere, goes_on, leads_on, leads_past, quote_leads}
 use Rattle.yaml_json.proofs.PunctuateSteps.{begins_word, lex-string, lex-word}
-use Rattle.yaml_json.proofs.{Reaching.last_is, WordSteps.other_inner}
+use Rattle.yaml_json.proofs.Reaching.{last_is}
+use Rattle.yaml_json.proofs.WordSteps.{other_inner}
 use Rattle.yaml_json.proofs.WordModes.{InWord, byte_stays, one_goes, then_goes, word_leads}
+use Rattle.yaml_json.specs.{Ahead.IsTrimmed, Offsets.PassesLexeme, Lexing.EndsWord, Lexing.Leads, Lexing.LeadsFrom}
+use Rattle.std.proofs.lemmas.{Bool.true≢false, List.drop_all, List.drop_more}
 
 pub head_at : (d : List ℕ) (i : ℕ) → i < length d → head (drop i d) ≡ get_or d i 0
 head_at d i h = ap head (drop_more d i 0 h)
@@ -46,7 +45,7 @@ word_on d from at less inner so = (
 
 pub delimiter_small : (x : ℕ) → (is_operator x || is_space x) ≡ true → x < 128
 delimiter_small x e =
-    or_case (is_operator x) (is_space x)
+    or_elim (is_operator x) (is_space x)
     (each_operator (λ v. v < 128) (omega arith) (omega arith) (omega arith) (omega arith) (omega arith) (omega arith) x)
     (each_space (λ v. v < 128) (omega arith) (omega arith) (omega arith) (omega arith) x) e
 

@@ -1,15 +1,13 @@
 -- A scan passes the bytes within an array, an object or a string that aren't special.
 use Rattle.yaml_json.proofs.Common.{false, suc, zero, ℕ, ◌+◌, ◌-◌, ◌<◌, ◌≤◌, Some, length, slice_index_or as get_or, List, ◌≡◌, inl, inr, ap}
-use Rattle.yaml_json.proofs.Common.{subst, sym, ◌∙◌, arith, HasScanned, after_byte, cases_lt}
-use Rattle.std.proofs.Common.{◌^◌, w64, bit_and}
-use Rattle.std.proofs.{lemmas.Bool.true≢false, lemmas.Nat.and_le_r, lemmas.Simd.get_or-chunk}
-use Rattle.std.proofs.lemmas.Nat.Bits.{bit_at-trailing_zeros, bit_at_above, bit_at-zero}
 use lib.Lanes.{chunk}
 use Rattle.std.specs.Int.{bit_at, trailing_zeros}
-use Rattle.yaml_json.specs.declared.{cuts.Cut.Cut, cuts.Scan.Scan}
-use Rattle.yaml_json.specs.Specials.{IsInside, MayBeSpecial, may_change_scan}
+use Rattle.std.proofs.Common.{◌^◌, w64, bit_and}
+use Rattle.yaml_json.proofs.Common.{subst, sym, ◌∙◌, arith, HasScanned, after_byte, cases_lt}
 use Rattle.yaml_json.proofs.LowestBit.{lowest_cleared}
 use Rattle.yaml_json.proofs.Cutting.{within_stays, string_stays, one_scanned}
+use Rattle.std.proofs.lemmas.{Bool.true≢false, Nat.and_le_r, Simd.get_or-chunk, Nat.Bits.bit_at-trailing_zeros, Nat.Bits.bit_at_above, Nat.Bits.bit_at-zero}
+use Rattle.yaml_json.specs.{declared.cuts.Cut.Cut, declared.cuts.Scan.Scan, Specials.IsInside, Specials.MayBeSpecial, Specials.may_change_scan}
 
 plain_stays : (scan : Scan) (byte : ℕ) → IsInside scan → may_change_scan byte ≡ false → after_byte scan byte ≡ Some scan
 plain_stays scan byte inside none =

@@ -1,19 +1,17 @@
 -- The line and the column of an offset in a text that follows others.
 use Prim.Native.Nat.{min}
-use Rattle.std.proofs.Common.{◌≡◌, ℕ, ◌+◌, ◌-◌, ◌<◌, ◌≤◌, Bool, true, false, cond, not, ◌==◌, List, [], ◌∷◌, ◌++◌, drop, take, length, refl, sym, subst}
-use Rattle.std.proofs.Common.{ap, ◌∙◌, arith, inl, inr}
+use Rattle.std.proofs.Common.{◌≡◌, ℕ, ◌+◌, ◌-◌, ◌<◌, ◌≤◌, Bool, true, false, cond, not, ◌==◌, List, [], ◌∷◌, ◌++◌, drop, take, length, refl, sym, subst, ap}
+use Rattle.std.proofs.Common.{◌∙◌, arith, inl, inr}
 use Rattle.std.proofs.Math.Seq.{drop-append-add, take-append-add, take-length}
 use Rattle.std.proofs.lemmas.Bool.{cases_lt, ne_eqb}
-use Rattle.std.proofs.lemmas.List.{drop-append-le, length-append, length-drop, length-reverse, length-take-le, reverse-append, append-nil, take-append-drop}
-use Rattle.std.proofs.lemmas.List.Folds.{prefix_len-append}
-use Rattle.std.proofs.lemmas.List.Sums.{count_by-le-length, suffix_len-le-length, sum_by-append}
 use mathlib.Core.List.{reverse}
-use Rattle.std.specs.Fmt.{is_char_start}
-use Rattle.std.specs.List.{after_last, count_by, prefix_len, suffix_len}
-use Rattle.yaml_base.specs.values.LinesAndColumns.{column_of, is_line_feed, line_of}
 use Rattle.yaml_json.specs.Places.{IsPositionAfter, MovesPosition, many_bytes}
+use Rattle.yaml_base.specs.values.LinesAndColumns.{column_of, is_line_feed, line_of}
 use Rattle.yaml_base.specs.Positions.{IsPositionOf}
 use Rattle.yaml_base.specs.declared.places.Position.{Position}
+use Rattle.std.proofs.lemmas.List.{drop-append-le, length-append, length-drop, length-reverse, length-take-le, reverse-append, append-nil, take-append-drop}
+use Rattle.std.proofs.lemmas.List.{Folds.prefix_len-append, Sums.count_by-le-length, Sums.suffix_len-le-length, Sums.sum_by-append}
+use Rattle.std.specs.{Fmt.is_char_start, List.after_last, List.count_by, List.prefix_len, List.suffix_len}
 
 count_more : {X : Type 0} (p : X → Bool) (xs ys : List X) → count_by p (xs ++ ys) ≡ count_by p xs + count_by p ys
 count_more p xs ys = sum_by-append (λ x. cond (p x) 1 0) xs ys

@@ -1,27 +1,23 @@
 -- The place at which the writing is stopped, by the reason.
+use Rattle.yaml_json.proofs.Spelling.{head_same}
 use Rattle.std.proofs.Common.{◌≡◌, ℕ, ◌≤◌, Bool, true, false, List, [], ◌∷◌, ◌++◌, drop, refl, sym, subst, ap, ◌∙◌, arith, inl, inr, append_assoc, append-nil}
-use Rattle.json.specs.{Json.Json, Strict.HasUniqueKeys}
-use Rattle.json.specs.Lex.{between, lex, tokens}
-use Rattle.json.specs.Token.{Token, key}
-use Rattle.json.specs.Tree.{depth as nesting, json_tokens}
 use Rattle.yaml_base.specs.Prefix.{IsPrefix}
+use Rattle.yaml_writer.specs.Writing.{WriterState}
+use Rattle.yaml_json.proofs.Faults.{StandsHere, at_token, none_again, none_here, past_string, past_value, some_append, stands_here}
 use Rattle.yaml_json.specs.Begins.{BeginsAllowed, NoneGoesOn}
 use Rattle.yaml_json.specs.Offsets.{IsOffset, IsPast, StopsAtLexeme}
 use Rattle.yaml_json.specs.Places.{CannotStandAt, IsAny, IsWithinDepth}
-use Rattle.yaml_json.specs.{Reached.AreFrom, declared.values.Stop.Stop}
+use Rattle.yaml_json.specs.Reached.{AreFrom}
 use Rattle.yaml_json.specs.Refused.{TokensBreakAt, NamesTwiceAt, OpensTooDeepAt}
-use Rattle.yaml_writer.specs.Writing.{WriterState}
 use Rattle.yaml_json.specs.Walk.{TextStopsWriting, CouldStandOther, GoesOn, NoStringNext, NoStringStands}
-use Rattle.yaml_json.specs.declared.values.Spot.TheVariants.{At, PastString, PastValue}
+use Rattle.json.specs.{Json.Json, Strict.HasUniqueKeys, Lex.between, Lex.lex, Lex.tokens, Token.Token, Token.key}
+use Rattle.yaml_json.specs.declared.values.{Stop.Stop, Spot.TheVariants.At, Spot.TheVariants.PastString, Spot.TheVariants.PastValue}
+use Rattle.json.specs.Tree.{depth as nesting, json_tokens}
 use Rattle.yaml_json.specs.declared.values.Stop.TheVariants as stops
-use Rattle.yaml_json.proofs.Faults.{StandsHere, at_token, none_again, none_here, past_string, past_value, some_append, stands_here}
 
 no_value : (left taken : List Token) → NoneGoesOn taken left → (json : Json) → taken ++ left ≡ json_tokens json → ⊥
 no_value [] taken none json e = none json (sym e ∙ append-nil taken)
 no_value (x ∷ u) taken none json e = none (json, some_append taken x u json e)
-
-token_same : (a b : Token) (one other : List Token) → a ∷ one ≡ b ∷ other → a ≡ b
-token_same a b one other e = cc
 
 module _ (depth : ℕ) (unique in_flow : Bool) (text : List ℕ) (before : List Token) (was now : WriterState) (last at : ℕ) (from : AreFrom text before last) where
   reader_here : (taken left : List Token) → before ≡ left → taken ++ left ≡ tokens text → BeginsAllowed depth unique taken → StandsHere text taken left last
@@ -60,7 +56,7 @@ module _ (depth : ℕ) (unique in_flow : Bool) (text : List ℕ) (before : List 
       at_itself (IsWithinDepth depth) taken left were parts deep.begins goes goes.begins.allowed.nested other
       (λ json fits e. never json fits (some_append taken deep.next deep.after json (ap (λ (l : List Token). taken ++ l) (sym deep.first) ∙ e)))
       (λ x u is json fits begins. never json fits
-      (subst (λ (y : Token). IsPrefix (taken ++ y ∷ []) (json_tokens json)) (token_same x deep.next u deep.after (sym is ∙ deep.first)) begins)) where
+      (subst (λ (y : Token). IsPrefix (taken ++ y ∷ []) (json_tokens json)) (head_same x deep.next u deep.after (sym is ∙ deep.first)) begins)) where
         never : (json : Json) → nesting json ≤ depth → IsPrefix (taken ++ deep.next ∷ []) (json_tokens json) → ⊥
         never json fits begins = let less = deep.deeper json begins in omega (arith, less, fits)
 

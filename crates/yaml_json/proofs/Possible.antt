@@ -1,22 +1,21 @@
 -- The lexemes that may follow those with which a value of JSON begins are those that the possible input names.
 use Rattle.std.proofs.Common.{◌≡◌, ◌↔◌, ℕ, Bool, true, false, Option, None, Some, List, [], ◌∷◌, ◌++◌, refl, sym, subst, ap, ◌∙◌, append-nil, append_assoc}
 use Rattle.std.proofs.lemmas.Bool.{true≢false}
+use Rattle.yaml_json.specs.Expected.{Names, expected_by, innermost}
+use Rattle.yaml_json.specs.Places.{BeginLexemes, IsAny, MayFollow}
 use Rattle.json.specs.Json.{Json}
 use Rattle.json.specs.Lex.{Lexeme, colon, comma, fresh, punctuate, token}
 use Rattle.json.specs.Token.{end_object, end_array, key, string, number, boolean, null, bad}
 use Rattle.json.specs.Tree.{json_tokens}
-use Rattle.yaml_base.specs.declared.kinds.CollectionKind.{CollectionKind}
-use Rattle.yaml_base.specs.declared.kinds.CollectionKind.TheVariants.{Mapping, Sequence}
+use Rattle.yaml_json.specs.declared.expecting.Expected.{Expected}
+use Rattle.yaml_json.specs.declared.expecting.Last.{Last}
+use Rattle.yaml_json.specs.declared.expecting.Last.TheVariants.{Nothing, Opener, Comma, First, Value}
 use Rattle.yaml_json.proofs.Completing.{Completes, is_value, of_value}
 use Rattle.yaml_json.proofs.Following.{If, IsReachable, Rest, kinds_next, last_next, names}
 use Rattle.yaml_json.proofs.FollowingSteps.{goes}
 use Rattle.yaml_json.proofs.NamedLexemes.{named, no_end, only}
-use Rattle.yaml_json.specs.Expected.{Names, expected_by, innermost}
-use Rattle.yaml_json.specs.Places.{BeginLexemes, IsAny, MayFollow}
-use Rattle.yaml_json.specs.declared.expecting.Expected.{Expected}
+use Rattle.yaml_base.specs.declared.kinds.CollectionKind.{CollectionKind, TheVariants.Mapping, TheVariants.Sequence}
 use Rattle.yaml_json.specs.declared.expecting.Expected.TheVariants as expected
-use Rattle.yaml_json.specs.declared.expecting.Last.{Last}
-use Rattle.yaml_json.specs.declared.expecting.Last.TheVariants.{Nothing, Opener, Comma, Colon, First, Value}
 
 -- ---- after some lexemes
 
@@ -101,9 +100,9 @@ closes_all (Mapping ∷ kinds) = closes_all kinds
 some_rest : (last : Last) (kinds : List CollectionKind) → IsReachable last kinds → (more : List Lexeme) × Rest last kinds more
 unfolding punctuate
 some_rest Opener [] r = absurd r
+some_rest Comma [] r = absurd r
 some_rest Opener (Sequence ∷ kinds) r = (token end_array ∷ closing kinds, closes_all kinds)
 some_rest Opener (Mapping ∷ kinds) r = (token end_object ∷ closing kinds, closes_all kinds)
-some_rest Comma [] r = absurd r
 some_rest Comma (Sequence ∷ kinds) r = (token null ∷ token end_array ∷ closing kinds, closes_all kinds)
 some_rest Comma (Mapping ∷ kinds) r = (token (string []) ∷ colon ∷ token null ∷ token end_object ∷ closing kinds, closes_all kinds)
 some_rest First [] r = ([], tt)
@@ -116,20 +115,14 @@ some_rest _ kinds r = (token null ∷ closing kinds, closes_all kinds)
 
 ends_here : (last : Last) (kinds : List CollectionKind) → IsReachable last kinds → Rest last kinds [] → Names (expected_by last (innermost kinds)) None
 unfolding punctuate
-ends_here Nothing kinds r so = absurd so
 ends_here Opener [] r so = absurd r
-ends_here Opener (Sequence ∷ kinds) r so = absurd so
-ends_here Opener (Mapping ∷ kinds) r so = absurd so
-ends_here Comma [] r so = absurd so
-ends_here Comma (Sequence ∷ kinds) r so = absurd so
-ends_here Comma (Mapping ∷ kinds) r so = absurd so
-ends_here Colon kinds r so = absurd so
 ends_here First [] r so = refl
-ends_here First (Sequence ∷ kinds) r so = absurd so
-ends_here First (Mapping ∷ kinds) r so = absurd so
 ends_here Value [] r so = refl
+ends_here Opener (Sequence ∷ kinds) r so = absurd so
+ends_here Comma (Sequence ∷ kinds) r so = absurd so
+ends_here First (Sequence ∷ kinds) r so = absurd so
 ends_here Value (Sequence ∷ kinds) r so = absurd so
-ends_here Value (Mapping ∷ kinds) r so = absurd so
+ends_here _ _ r so = absurd so
 
 ended : (last : Last) (kinds : List CollectionKind) → Names (expected_by last (innermost kinds)) None → Rest last kinds []
 unfolding punctuate

@@ -1,16 +1,17 @@
 -- The rules for commas and colons, token by token.
 use Rattle.std.proofs.Common.{◌≡◌, ℕ, Bool, true, false, cond, ◌&&◌, ◌==◌, ◌-◌, List, [], ◌∷◌, length, take, drop, Option, Some, None, refl, sym, ap, ◌∙◌}
 use Rattle.std.proofs.Common.{arith}
-use Rattle.std.specs.{List.starts_with, Prelude.nat_eq}
 use Rattle.std.proofs.lemmas.Bool.{true≢false, ne_eqb, false_from_ne_true}
-use Rattle.json.specs.Ascii as ascii
 use Rattle.json.specs.Token.{Token, begin_object, end_object, begin_array, end_array, key, string, number, boolean, null, bad}
 use Rattle.json.specs.Text.{content, plain}
 use Rattle.json.specs.Word.{after_number, ends_word, head, is_operator, is_space, literal, number_before, word}
 use Rattle.yaml_json.specs.Ahead.{IsTrimmed}
 use Rattle.yaml_json.proofs.LexSteps.{each_operator}
-use Rattle.json.specs.Lex.{Lexeme, Place, after_comma, after_key, after_value, backslash, begins_colon, between, class, colon, comma, fresh, in_string, in_word}
-use Rattle.json.specs.Lex.{lex, lex_byte, may_begin, may_close, Mode, if_allowed, operator, other, place_token, punctuate, quote, space, string_token, token}
+use Rattle.json.specs.Lex.{Lexeme, Place, after_comma, after_key, after_value, backslash, begins_colon, between, class, colon, comma, fresh, in_string}
+use Rattle.json.specs.Lex.{in_word, lex, lex_byte, may_begin, may_close, Mode, if_allowed, operator, other, place_token, punctuate, quote, space, string_token}
+use Rattle.json.specs.Lex.{token}
+use Rattle.std.specs.{List.starts_with, Prelude.nat_eq}
+use Rattle.json.specs.Ascii as ascii
 
 -- ---- the first lexeme of a text
 
@@ -196,9 +197,6 @@ late_byte true b x xs k = late_token (string_token (content plain xs)) (k in_str
 late_byte false true x xs k = late_token bad (k in_word) tt
 late_byte false false x xs k = late_token (word (x ∷ xs)) (k in_word) (word_no_closer (word (x ∷ xs)) (IsWord-word (x ∷ xs)))
 
-some_apart : (x : ℕ) (xs : List ℕ) → (x ∷ xs) ≡ [] → ⊥
-some_apart x xs e = cc
-
 -- Nothing may follow a value but a comma and a bracket that closes.
 pub stray-behind : (t : List ℕ) → IsTrimmed t → (t ≡ [] → ⊥) → (head t ≡ 44 → ⊥) → (head t ≡ 125 → ⊥) → (head t ≡ 93 → ⊥)
     → punctuate after_value (lex between t) ≡ bad ∷ []
@@ -210,7 +208,7 @@ stray-behind (x ∷ xs) trimmed some a b c = go (is_operator x) (is_space x) ref
     go true s e f =
         each_operator (λ v. (v ≡ 44 → ⊥) → (v ≡ 125 → ⊥) → (v ≡ 93 → ⊥) → punctuate after_value (lex between (v ∷ xs)) ≡ bad ∷ [])
         (λ p q r. refl) (λ p q r. absurd (q refl)) (λ p q r. refl) (λ p q r. absurd (r refl)) (λ p q r. refl) (λ p q r. absurd (p refl)) x e a b c
-    go false true e f = absurd (some_apart x xs (trimmed f))
+    go false true e f = let none = trimmed f in cc
     go false false e f =
         (λ i. punctuate after_value (lex_byte between
         (cond (x == ascii.quote) quote (cond (x == ascii.backslash) backslash (cond (e i) operator (cond (f i) space other))))
@@ -232,7 +230,7 @@ no_colon (x ∷ xs) trimmed apart = go (is_operator x) (is_space x) refl refl
     go true s e f =
         each_operator (λ v. (v ≡ 58 → ⊥) → begins_colon (lex between (v ∷ xs)) ≡ false)
         (λ p. refl) (λ p. refl) (λ p. refl) (λ p. refl) (λ p. absurd (p refl)) (λ p. refl) x e apart
-    go false true e f = absurd (some_apart x xs (trimmed f))
+    go false true e f = let none = trimmed f in cc
     go false false e f =
         (λ i. begins_colon (lex_byte between
         (cond (x == ascii.quote) quote (cond (x == ascii.backslash) backslash (cond (e i) operator (cond (f i) space other))))

@@ -1,14 +1,15 @@
 -- The reader of tokens, from token to token.
 use Rattle.std.proofs.Common.{◌≡◌, ◌⊎◌, ℕ, ◌+◌, ◌-◌, List, [], ◌∷◌, ◌++◌, drop, length, refl, sym, subst, ap, ◌∙◌, append_assoc, arith, inl, inr}
 use Rattle.std.proofs.lemmas.Bool.{true≢false}
-use Rattle.yaml_json.proofs.{Common.length-append, ModeSteps.goes_on}
 use Rattle.json.specs.Lex.{Place, after_comma, after_key, after_value, between, fresh, lex, punctuate, token}
-use Rattle.json.specs.{Reads.token_of, Token.Token}
+use Rattle.json.specs.Reads.{token_of}
+use Rattle.json.specs.Token.{Token}
 use Rattle.yaml_json.specs.Ahead.{IsTidy, IsTrimmed, Passes, PassesOrEnds, ReadsFirst, ahead, place_of}
-use Rattle.yaml_json.specs.{Lexing.Leads, declared.tokens.Stage.Stage, declared.tokens.Step.Step}
+use Rattle.yaml_json.specs.Lexing.{Leads}
+use Rattle.yaml_json.specs.declared.tokens.Step.{Step}
 use Rattle.yaml_json.specs.Reached.{HasReadTokens, HaveTokens, IsReader, LastRead, Passed, Reader, last_bytes}
-use Rattle.yaml_json.specs.declared.tokens.Stage.TheVariants.{Open, Behind, Owed, Over}
-use Rattle.yaml_json.proofs.FirstLexemes.{some_after_comma, some_ahead}
+use Rattle.yaml_json.proofs.{Common.length-append, ModeSteps.goes_on, FirstLexemes.some_after_comma, FirstLexemes.some_ahead}
+use Rattle.yaml_json.specs.declared.tokens.Stage.{Stage, TheVariants.Open, TheVariants.Behind, TheVariants.Owed, TheVariants.Over}
 
 -- ---- the rest is the text's end
 
@@ -38,16 +39,13 @@ pub is_placed : (text : List ℕ) (taken : List Token) (stage : Stage) (rest : L
 is_placed text taken Over rest some have = absurd (some refl)
 is_placed text taken _ rest some have = have
 
-open_behind : Open ≡ Behind → ⊥
-open_behind e = cc
-
 -- before the first token
 pub reads_none : (text rest : List ℕ) → lex between rest ≡ lex between text → Leads text rest → IsTrimmed rest → HasReadTokens text [] Open rest
 reads_none text rest same leads trimmed = record {
   all = ap (punctuate fresh) same;
   passed = record { passed = []; parts = same; reads = λ more f. refl };
   leads = leads between (inr tt);
-  tidy = record { trimmed = trimmed; comma = λ e. absurd (open_behind e) };
+  tidy = record { trimmed = trimmed; comma = λ e. absurd cc };
 }
 
 -- ---- one token more

@@ -1,22 +1,19 @@
 -- Why the walk over the tokens of a value is stopped by them.
-use Rattle.json.proofs.Unique.Spelling.{value-json_tokens_back}
-use Rattle.yaml_json.proofs.Common.{suc, ℕ, ◌-◌, ◌<◌, ◌≤◌, IfErr, None, Some, Result, Err, Ok, length, Bool, true, List, [], ◌++◌, ◌∷◌, ◌⊎◌, refl, ◌≡◌, inl, ap}
-use Rattle.yaml_json.proofs.Common.{append-nil, append_assoc, inr, subst, sym, ◌∙◌, arith, le-max_left, le-max_right, append_cancel_right, left, value_is, Json}
-use Rattle.yaml_json.proofs.Common.{members_no_key, value-depth, read_key, value, skip_value, tokens, Token, json_tokens, depth as nesting, IsPrefix, IsNewName}
-use Rattle.yaml_json.proofs.Common.{NoneGoesOn, inner_names, NamesOnce, all_names_after, RefusesText, TokensBreakOff, OpensTooDeep, ExplainsError, unwind, zero}
-use Rattle.yaml_json.proofs.Common.{LeavesOpen, opener, HasUniqueNames, RefusesToken, RefusesFirst, WhyStopped, ◌+◌, IsScalar}
+use Rattle.yaml_base.specs.declared.errors.yaml_error_t.{yaml_error_t}
+use Rattle.yaml_json.proofs.Common.{suc, ℕ, ◌-◌, ◌<◌, ◌≤◌, None, Some, length, Bool, true, List, [], ◌++◌, ◌∷◌, ◌⊎◌, refl, ◌≡◌, inl, ap, append-nil}
+use Rattle.yaml_json.proofs.Common.{append_assoc, inr, subst, sym, ◌∙◌, arith, le-max_left, le-max_right, append_cancel_right, left, value_is, Json}
+use Rattle.yaml_json.proofs.Common.{NoneGoesOn, inner_names, NamesOnce, all_names_after, TokensBreakOff, OpensTooDeep, ExplainsError, unwind, zero, LeavesOpen}
+use Rattle.yaml_json.proofs.Common.{opener, HasUniqueNames, RefusesToken, RefusesFirst, WhyStopped, ◌+◌, IsScalar}
 use Rattle.std.specs.Prelude.{max}
-use Rattle.json.proofs.Printed.Trees.{value-json_tokens}
-use Rattle.yaml_json.{specs.Refused.DeniesJson, specs.Refused.IsNotJson, specs.Walk.BeginsNone}
-use Rattle.yaml_json.specs.Refused.{TokensBreakAt, OpensTooDeepAt, NamesTwiceAt}
-use Rattle.yaml_json.{specs.declared.error.JsonError.JsonError, specs.declared.values.Stop.Stop}
 use Rattle.yaml_json.proofs.NameLemmas.{once_first, once_second, once_is_unique, unique_is_once, once_both}
 use Rattle.yaml_json.proofs.Walking.{unwind_none, unwind_inner, Awaits, opener_too_deep, next_stands_at, closes_value, closes_allowed, value_begins_at}
 use Rattle.yaml_json.proofs.Walking.{value_closes, Awaiting, Closes, awaiting_named, next_stands}
-use Rattle.yaml_json.specs.{Begins.BeginsSome, declared.values.Spot.Spot}
-use Rattle.yaml_json.specs.Walk.{CouldStandOther, GoesOn, IsSpot, NoStringNext, NoStringStands, WhereStopped, spot_of}
-use Rattle.yaml_base.specs.declared.kinds.CollectionKind.{CollectionKind}
-use Rattle.yaml_base.specs.declared.kinds.CollectionKind.TheVariants.{Mapping, Sequence}
+use Rattle.yaml_json.specs.{Refused.IsByText, Refused.DeniesJson, Refused.IsNotJson, Refused.TokensBreakAt, Refused.OpensTooDeepAt, Refused.NamesTwiceAt}
+use Rattle.yaml_json.specs.{Walk.BeginsNone, Walk.CouldStandOther, Walk.GoesOn, Walk.IsSpot, Walk.NoStringNext, Walk.NoStringStands, Walk.WhereStopped}
+use Rattle.yaml_json.specs.{Walk.spot_of, declared.error.JsonError.JsonError, declared.values.Stop.Stop, Begins.BeginsSome, declared.values.Spot.Spot}
+use Rattle.yaml_base.specs.declared.kinds.CollectionKind.{CollectionKind, TheVariants.Mapping, TheVariants.Sequence}
+use Rattle.json.proofs.{Unique.Spelling.value-json_tokens_back, Printed.Trees.value-json_tokens}
+use Rattle.yaml_json.proofs.Common.{members_no_key, value-depth, read_key, value, skip_value, tokens, Token, json_tokens, depth as nesting, IsPrefix, IsNewName}
 use Rattle.yaml_json.specs.declared.error.JsonError.TheVariants as errors
 use Rattle.yaml_json.specs.declared.values.Stop.TheVariants as stops
 
@@ -125,8 +122,7 @@ pub first_refused : (depth : ℕ) (unique : Bool) (taken : List Token) (levels :
     → Awaiting depth taken levels ahead → (unique ≡ true → NamesOnce [] taken) → RefusesFirst depth levels ahead stop
     → WhyStopped depth unique taken ahead stop
 first_refused depth unique taken levels [] (stops.NotJson spot) place once isn't = nothing_left depth unique taken levels place once
-first_refused depth unique taken levels [] stops.Memory place once isn't = tt
-first_refused depth unique taken levels [] stops.Failed place once isn't = tt
+first_refused depth unique taken levels [] (stops.Failed error) place once isn't = tt
 first_refused depth unique taken levels (token ∷ after) stop place once isn't = token_refused depth unique taken levels token after stop place once isn't
 first_refused depth unique taken levels [] _ place once isn't = absurd isn't
 
@@ -348,8 +344,6 @@ why_no_json depth unique text (errors.Emitter error) why is = absurd is
 why_no_json depth unique text _ why is = broken_is_none depth unique (tokens text) why.0
 
 -- a call that doesn't refuse the text says nothing of it
-pub unrefused : (answer : Result (Unit {0}) Stop) → (RefusesText answer → ⊥) → (P : Stop → Type 0) → P stops.Memory → P stops.Failed → IfErr answer P
-unrefused (Ok done) never P memory failed = tt
-unrefused (Err stops.Memory) never P memory failed = memory
-unrefused (Err stops.Failed) never P memory failed = failed
-unrefused _ never P memory failed = absurd (never tt)
+pub unrefused : (stop : Stop) → (IsByText stop → ⊥) → (P : Stop → Type 0) → ((error : yaml_error_t) → P (stops.Failed error)) → P stop
+unrefused (stops.Failed error) never P failed = failed error
+unrefused _ never P failed = absurd (never tt)

@@ -1,11 +1,9 @@
 -- The places at which lexemes begin, computed on small texts.
 use Rattle.std.specs.Prelude.{codes}
 use Rattle.yaml_json.proofs.Common.{◌≡◌, ℕ, ◌++◌, List, [], ◌∷◌, drop, take, refl, inl, inr}
-use Rattle.json.specs.Lex.{Lexeme, between, colon, comma, lex, token}
-use Rattle.json.specs.Text.{content}
-use Rattle.json.specs.Word.{after_number, word}
-use Rattle.json.specs.Token.{begin_array, begin_object, number, string}
 use Rattle.yaml_json.specs.Lexing.{MayBegin, mode_over}
+use Rattle.json.specs.{Lex.Lexeme, Lex.between, Lex.colon, Lex.comma, Lex.lex, Lex.token, Text.content, Word.after_number, Word.word, Token.begin_array}
+use Rattle.json.specs.{Token.begin_object, Token.number, Token.string}
 
 -- before the offset are these lexemes, and one may begin there, or the text ends
 abbrev Begins : (text : List ℕ) → (at : ℕ) → List Lexeme → Type 0

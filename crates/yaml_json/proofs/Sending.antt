@@ -1,22 +1,20 @@
 -- JSON texts that come part by part, in turn.
 use Rattle.yaml_writer.proofs.OpenLevels.{usable_same}
-use Rattle.yaml_writer.specs.WasGiven.{GaveEvents}
+use Rattle.yaml_writer.specs.WasGiven.{GaveEvents, EmitsTaking, IsAllTaken, WroteTaking, BeginsNext, NextUnsent}
 use Rattle.yaml_json.proofs.TokenLemmas.{texts_closed}
 use Rattle.yaml_json.proofs.Common.{ℕ, flat_map, Option, Bool, true, List, [], map, ◌++◌, ◌∷◌, ◌⊎◌, refl, ◌≡◌, append-nil, append_assoc, inl, inr, ap, subst}
 use Rattle.yaml_json.proofs.Common.{sym, ◌∙◌, arith, map-append, Appends, Event, Json, tokens, FailedHaving, between, events_with_separators, json_events}
-use Rattle.yaml_json.proofs.Common.{IsBare}
-use Rattle.yaml_json.proofs.Common.{NamesOnce, HaveNamesOnce, texts_in, WasGiven, WroteText, AreJson, parts_events, State, Token, WriterState}
-use Rattle.std.proofs.lemmas.Str.{IsUtf8-append, IsUtf8-nil}
-use Rattle.std.specs.{Prelude.IsUtf8, declared.io.Error.Error}
+use Rattle.yaml_json.proofs.Common.{IsBare, NamesOnce, HaveNamesOnce, texts_in, WasGiven, WroteText, AreJson, parts_events, State, Token, WriterState}
 use Rattle.yaml_base.specs.declared.errors.yaml_error_t.{yaml_error_t}
 use Rattle.yaml_json.proofs.YamlOf.{HaveScalarTexts, sent_reads}
-use Rattle.yaml_json.specs.{declared.error.StreamError.StreamError, Places.HasPlaceWithin}
+use Rattle.yaml_json.specs.declared.error.StreamError.{StreamError}
+use Rattle.yaml_json.specs.Places.{HasPlaceWithin}
 use Rattle.yaml_json.proofs.TextsInTurn.{ends_with, one_more, joined_more, text_names, more_names, some_text, begins_nothing}
 use Rattle.yaml_json.specs.Sent.{AreUtf8, MayBeUnsent, SentTexts, SentSoFar, SentDocuments, StopsPartAt, StopsSending}
-use Rattle.yaml_writer.specs.WasGiven.{EmitsTaking, IsAllTaken, WroteTaking, BeginsNext, NextUnsent}
-use Rattle.std.proofs.KnownBytes.{Appends-nil, Appends-trans}
 use Rattle.yaml_json.proofs.SentParts.{gives_all, separated}
 use Rattle.yaml_writer.proofs.GivenAndTaken.{took_nothing, emits_taking_then, taking_then, took_none, taking_same}
+use Rattle.std.specs.{Prelude.IsUtf8, declared.io.Error.Error}
+use Rattle.std.proofs.{lemmas.Str.IsUtf8-append, lemmas.Str.IsUtf8-nil, KnownBytes.Appends-nil, KnownBytes.Appends-trans}
 use Rattle.yaml_json.specs.declared.error.JsonError.TheVariants as errors
 use Rattle.yaml_json.specs.declared.error.StreamError.TheVariants as faults
 

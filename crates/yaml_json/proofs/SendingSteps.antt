@@ -1,22 +1,18 @@
 -- The reasons that stop the sending of texts that come part by part, and the events that one of them adds.
-use Rattle.yaml_writer.proofs.OpenLevels.{closed_then, usable_by}
-use Rattle.yaml_writer.specs.WasGiven.{GaveEvents}
+use Rattle.yaml_writer.specs.WasGiven.{GaveEvents, BeginsNext}
 use Rattle.yaml_json.proofs.TokenLemmas.{texts_closed}
 use Rattle.yaml_json.proofs.Sending.{sending_same, placed_nowhere, documents_so, stops_between, sending_goes_on, sending_fails, sending_unbegun}
 use Rattle.yaml_json.proofs.Common.{ℕ, ◌+◌, ◌-◌, ◌≤◌, flat_map, Option, drop, length, take, Bool, true, List, [], map, ◌++◌, ◌∷◌, refl, ◌≡◌, length-drop}
-use Rattle.yaml_json.proofs.Common.{take-append-drop, append_assoc, inr, ap, subst, sym, ◌∙◌, arith, Token, tokens, HasScanned, CutsAt}
-use Rattle.yaml_json.proofs.Common.{events_with_separators, NamesOnce, Advances, StopsWithin, texts_in, tokens_events, WroteText, WriterState}
-use Rattle.yaml_json.proofs.Common.{append_cancel_right}
+use Rattle.yaml_json.proofs.Common.{take-append-drop, append_assoc, inr, ap, subst, sym, ◌∙◌, arith, Token, tokens, HasScanned, CutsAt, events_with_separators}
+use Rattle.yaml_json.proofs.Common.{NamesOnce, Advances, StopsWithin, texts_in, tokens_events, WroteText, WriterState, append_cancel_right}
 use Rattle.std.proofs.lemmas.List.{drop-drop}
 use Rattle.std.specs.Prelude.{IsUtf8}
-use Rattle.yaml_base.specs.declared.errors.yaml_error_t.TheVariants.{Memory}
-use Rattle.yaml_json.specs.{declared.cuts.Cut.Cut, declared.error.StreamError.StreamError, declared.error.JsonError.JsonError}
-use Rattle.yaml_base.specs.declared.places.Position.{Position}
 use Rattle.yaml_json.proofs.TextsInTurn.{begins_nothing}
 use Rattle.yaml_json.specs.Sent.{SentSoFar, FailsNext, IsByReader, StopsInPart, StopsPartAt, StopsSending, LeavesLast}
-use Rattle.yaml_writer.specs.WasGiven.{BeginsNext}
-use Rattle.yaml_writer.proofs.GivenAndTaken.{emits_taking_more}
 use Rattle.yaml_json.specs.Places.{HasPlaceWithin, IsPositionAfter}
+use Rattle.yaml_json.specs.declared.{cuts.Cut.Cut, error.StreamError.StreamError, error.JsonError.JsonError}
+use Rattle.yaml_base.specs.declared.{errors.yaml_error_t.TheVariants.Memory, places.Position.Position}
+use Rattle.yaml_writer.proofs.{OpenLevels.closed_then, OpenLevels.usable_by, GivenAndTaken.emits_taking_more}
 use Rattle.yaml_json.specs.declared.error.JsonError.TheVariants as errors
 use Rattle.yaml_json.specs.declared.error.StreamError.TheVariants as faults
 

@@ -3,9 +3,8 @@ use Rattle.yaml_json.proofs.Common.{ℕ, Option, Bool, List, [], ◌++◌, ◌�
 use Rattle.yaml_json.proofs.Common.{Event, Token, between, events_with_separators, json_events, WriterState}
 use Rattle.std.specs.Prelude.{IsUtf8}
 use Rattle.yaml_json.proofs.TextStops.{given_by}
-use Rattle.yaml_json.specs.{Stopped.StopsInText, declared.error.JsonError.JsonError}
-use Rattle.yaml_json.specs.{Places.HasPlaceWithin, declared.error.StreamError.StreamError}
-use Rattle.yaml_json.specs.Sent.{GivesSink, StopsInPart, StopsPartAt}
+use Rattle.yaml_json.specs.{Stopped.StopsInText, declared.error.JsonError.JsonError, Places.HasPlaceWithin, declared.error.StreamError.StreamError}
+use Rattle.yaml_json.specs.{Sent.GivesSink, Sent.StopsInPart, Sent.StopsPartAt}
 use Rattle.yaml_json.specs.declared.error.StreamError.TheVariants as faults
 
 -- All bytes were given, whichever error there is.

@@ -1,9 +1,11 @@
 -- No text has two of the faults of JSON: it breaks off, opens too many arrays and objects, or gives a name twice.
 use Rattle.std.proofs.Common.{ap, append-nil, append_assoc, ap₂, arith, drop, get_or, inl, inr, refl, subst, sym, ℕ, ◌∙◌, ◌≡◌, ◌≤◌}
 use Rattle.std.specs.Prelude.{Bool, List, [], ◌++◌, ◌∷◌, ◌⊎◌}
+use Rattle.yaml_base.proofs.Prefixes.{prefix_then}
+use Rattle.yaml_base.specs.Prefix.{IsPrefix}
+use Rattle.yaml_json.specs.Begins.{BeginsSome, IsAllowed, NoneGoesOn}
+use Rattle.yaml_json.specs.Refused.{TokensBreakOff, OpensTooDeep, NamesTwice}
 use Rattle.json.specs.{Json.Json, Token.Token, Token.key, Tree.json_tokens, Tree.depth as nesting}
-use Rattle.yaml_base.{proofs.Prefixes.prefix_then, specs.Prefix.IsPrefix}
-use Rattle.yaml_json.specs.{Begins.BeginsSome, Begins.IsAllowed, Begins.NoneGoesOn, Refused.TokensBreakOff, Refused.OpensTooDeep, Refused.NamesTwice}
 
 -- of two prefixes of a list one is a prefix of the other
 either_prefix : {A : Type 0} (a b c d : List A) → a ++ b ≡ c ++ d

@@ -1,15 +1,16 @@
 -- Lexemes of some tokens, and that they are read as those.
-use Rattle.std.proofs.Common.{◌≡◌, ℕ, Bool, true, false, List, [], ◌∷◌, ◌++◌, refl, sym, ap, ◌∙◌}
+use Rattle.std.proofs.Common.{◌≡◌, Bool, true, false, List, [], ◌∷◌, ◌++◌, refl, sym, ap, ◌∙◌}
 use Rattle.std.proofs.lemmas.Bool.{true≢false}
 use Rattle.json.specs.Json.{Json, Items, Members}
-use Rattle.json.specs.Json as json
 use Rattle.json.specs.Tree.{items_tokens, json_tokens, members_tokens}
 use Rattle.json.specs.Lex.{Lexeme, Place, after_comma, after_key, after_value, begins_colon, colon, comma, fresh, may_begin, may_close, punctuate, token}
 use Rattle.json.specs.Token.{Token, begin_object, end_object, begin_array, end_array, key, string, number, boolean, null, bad}
-use Rattle.yaml_json.specs.{Ahead.place_of, Walk.IsBeginner, declared.tokens.Stage.Stage}
-use Rattle.yaml_json.specs.declared.tokens.Stage.TheVariants.{Open, Behind, Owed, Over}
+use Rattle.yaml_json.specs.Ahead.{place_of}
+use Rattle.yaml_json.specs.Walk.{IsBeginner}
 use Rattle.yaml_json.proofs.PunctuateSteps.{put-begin_array, put-begin_object, put-end_array, put-end_object, put-key, put-string, put-word}
-use Rattle.yaml_json.proofs.FirstLexemes.{EndsValue, boolean_good, null_good, number_good}
+use Rattle.yaml_json.proofs.FirstLexemes.{EndsValue}
+use Rattle.yaml_json.specs.declared.tokens.Stage.{Stage, TheVariants.Open, TheVariants.Behind, TheVariants.Owed, TheVariants.Over}
+use Rattle.json.specs.Json as json
 
 -- ---- no token of a value is bad
 
@@ -29,40 +30,22 @@ pub good_back : (front back : List Token) → AllGood (front ++ back) → AllGoo
 good_back [] back all = all
 good_back (t ∷ front) back all = good_back front back all.1
 
-begin_object_good : begin_object ≡ bad → ⊥
-begin_object_good e = cc
-
-end_object_good : end_object ≡ bad → ⊥
-end_object_good e = cc
-
-begin_array_good : begin_array ≡ bad → ⊥
-begin_array_good e = cc
-
-end_array_good : end_array ≡ bad → ⊥
-end_array_good e = cc
-
-key_good : (s : List ℕ) → key s ≡ bad → ⊥
-key_good s e = cc
-
-string_good : (s : List ℕ) → string s ≡ bad → ⊥
-string_good s e = cc
-
 mutual
   pub json_good : (j : Json) → AllGood (json_tokens j)
-  json_good json.null = (null_good, tt)
-  json_good (json.boolean v) = (boolean_good v, tt)
-  json_good (json.number s) = (number_good s, tt)
-  json_good (json.string s) = (string_good s, tt)
-  json_good (json.array inner) = (begin_array_good, items_good inner)
-  json_good (json.object inner) = (begin_object_good, members_good inner)
+  json_good json.null = ((λ e. cc), tt)
+  json_good (json.boolean v) = ((λ e. cc), tt)
+  json_good (json.number s) = ((λ e. cc), tt)
+  json_good (json.string s) = ((λ e. cc), tt)
+  json_good (json.array inner) = ((λ e. cc), items_good inner)
+  json_good (json.object inner) = ((λ e. cc), members_good inner)
 
   items_good : (inner : Items) → AllGood (items_tokens inner)
-  items_good json.no_items = (end_array_good, tt)
+  items_good json.no_items = ((λ e. cc), tt)
   items_good (json.item j more) = good_both (json_tokens j) (items_tokens more) (json_good j) (items_good more)
 
   members_good : (inner : Members) → AllGood (members_tokens inner)
-  members_good json.no_members = (end_object_good, tt)
-  members_good (json.member k j more) = (key_good k, good_both (json_tokens j) (members_tokens more) (json_good j) (members_good more))
+  members_good json.no_members = ((λ e. cc), tt)
+  members_good (json.member k j more) = ((λ e. cc), good_both (json_tokens j) (members_tokens more) (json_good j) (members_good more))
 
 -- ---- the last token of a value ends it
 
@@ -102,7 +85,7 @@ mutual
 tail_same : (x y : Token) (a b : List Token) → x ∷ a ≡ y ∷ b → a ≡ b
 tail_same x y a b e = cc
 
-head_same : (x y : Token) (a b : List Token) → x ∷ a ≡ y ∷ b → x ≡ y
+pub head_same : (x y : Token) (a b : List Token) → x ∷ a ≡ y ∷ b → x ≡ y
 head_same x y a b e = cc
 
 not_nothing : (b : List Token) (y : Token) → [] ≡ b ++ y ∷ [] → ⊥
@@ -160,10 +143,10 @@ begun_so p may begin_array is ts so = put-begin_array p (spelled false ts) may �
 begun_so p may (key s) is ts so = put-key p s (spelled false ts) may ∙ ap (λ (l : List Token). key s ∷ l) so.0
 begun_so p may (string s) is ts so = put-string p s (spelled true ts) may (spelled_colon true ts) ∙ ap (λ (l : List Token). string s ∷ l) so.1
 begun_so p may (number s) is ts so =
-    put-word p (number s) (spelled true ts) tt (number_good s) may ∙ ap (λ (l : List Token). number s ∷ l) so.1
+    put-word p (number s) (spelled true ts) tt (λ e. cc) may ∙ ap (λ (l : List Token). number s ∷ l) so.1
 begun_so p may (boolean v) is ts so =
-    put-word p (boolean v) (spelled true ts) tt (boolean_good v) may ∙ ap (λ (l : List Token). boolean v ∷ l) so.1
-begun_so p may null is ts so = put-word p null (spelled true ts) tt null_good may ∙ ap (λ (l : List Token). null ∷ l) so.1
+    put-word p (boolean v) (spelled true ts) tt (λ e. cc) may ∙ ap (λ (l : List Token). boolean v ∷ l) so.1
+begun_so p may null is ts so = put-word p null (spelled true ts) tt (λ e. cc) may ∙ ap (λ (l : List Token). null ∷ l) so.1
 begun_so p may _ is ts so = absurd is
 
 -- and a comma before it

@@ -2,6 +2,14 @@
 use Rattle.std.proofs.Common.{◌≡◌, ℕ, ◌+◌, ◌-◌, ◌<◌, Bool, true, false, ◌⊎◌, inl, inr, List, [], ◌∷◌, ◌++◌, take, drop, get_or, length, Some, None, refl, sym}
 use Rattle.std.proofs.Common.{subst, ap, ◌∙◌, arith}
 use Rattle.std.proofs.lemmas.Bool.{true≢false, false_from_ne_true}
+use Rattle.json.proofs.Numbered.{ArePrintableOrBad-tokens_at}
+use Rattle.yaml_json.specs.Ahead.{Ends, FollowsAs, IsTidy, IsTrimmed, Opens, Passes, ReadsFirst, StepsFrom, ahead, begins_here, closes_here, place_of}
+use Rattle.yaml_json.specs.Lexemes.{ArePlain}
+use Rattle.yaml_json.specs.declared.tokens.Step.{Step}
+use Rattle.yaml_json.proofs.LexSteps.{plain_over, quote_at}
+use Rattle.yaml_json.proofs.PunctuateSteps.{IsWord, IsWord-word, lex-begin_array, lex-begin_object, lex-colon, lex-end_array, lex-end_object, lex-string}
+use Rattle.yaml_json.proofs.PunctuateSteps.{lex-word, no_colon, put-bad, put-begin_array, put-begin_object, put-end_array, put-end_object, put-key, put-string}
+use Rattle.yaml_json.proofs.PunctuateSteps.{put-word, stray-behind}
 use Rattle.json.specs.Lex.{Lexeme, Place, after_comma, after_value, begins_colon, between, class, colon, fresh, in_string, in_word, lex, may_begin, may_close}
 use Rattle.json.specs.Lex.{other, punctuate, string_token, token}
 use Rattle.json.specs.Reads.{token_of}
@@ -10,17 +18,10 @@ use Rattle.json.specs.Token.{Token, begin_array, begin_object, end_array, end_ob
 use Rattle.json.specs.Print.{ArePrintableOrBad, IsPrintable, IsPrintableOrBad}
 use Rattle.json.specs.Word.{head, word}
 use Rattle.json.specs.declared.reader.Place.TheVariants.{Fresh, AfterValue, AfterComma}
+use Rattle.yaml_json.specs.declared.tokens.Stage.{Stage, TheVariants.Open, TheVariants.Behind, TheVariants.Owed, TheVariants.Over}
 use Rattle.json.specs.declared.token.Token as variants
 use Rattle.json.specs.declared.token.Token.TheVariants as tokens
-use Rattle.json.proofs.Numbered.{ArePrintableOrBad-tokens_at}
-use Rattle.yaml_json.specs.Ahead.{Ends, FollowsAs, IsTidy, IsTrimmed, Opens, Passes, ReadsFirst, StepsFrom, ahead, begins_here, closes_here, place_of}
-use Rattle.yaml_json.specs.{Lexemes.ArePlain, declared.tokens.Stage.Stage, declared.tokens.Step.Step}
-use Rattle.yaml_json.specs.declared.tokens.Stage.TheVariants.{Open, Behind, Owed, Over}
-use Rattle.yaml_json.proofs.LexSteps.{plain_over, quote_at}
 use Rattle.yaml_json.proofs.ContentSteps.{closes_here as string_closes, prepend-nothing, run_more}
-use Rattle.yaml_json.proofs.PunctuateSteps.{IsWord, IsWord-word, lex-begin_array, lex-begin_object, lex-colon, lex-end_array, lex-end_object, lex-string}
-use Rattle.yaml_json.proofs.PunctuateSteps.{lex-word, no_colon, put-bad, put-begin_array, put-begin_object, put-end_array, put-end_object, put-key, put-string}
-use Rattle.yaml_json.proofs.PunctuateSteps.{put-word, stray-behind}
 
 -- ---- a bad token
 

@@ -3,23 +3,22 @@ use Rattle.yaml_writer.specs.WasGiven.{GaveEvents}
 use Rattle.yaml_json.proofs.Common.{ℕ, Bool, false, true, List, [], ◌++◌, ◌∷◌, ◌≡◌, ap, append-nil, subst, sym, ◌∙◌, Token, HoldsNames, AddsName, FitsNames}
 use Rattle.yaml_json.proofs.Common.{IfSome, failure_of, refl, WriterState, RefusesToken, RefusesFirst, WhyStopped, Refuses, tokens_events, IsScalar}
 use Rattle.yaml_json.proofs.Common.{LeavesOpen, KeepsNames}
-use Rattle.yaml_json.specs.{Refused.IsByText, Walk.GivesTaken, Walk.GaveTokens, Walk.ReadsNone, declared.names.Names.Names, declared.values.Stop.Stop}
+use Rattle.yaml_json.specs.Refused.{IsByText}
+use Rattle.yaml_json.specs.Walk.{GivesTaken, GaveTokens, ReadsNone, StopsInside, NoStringNext, TextStopsWriting, WereLeft, WhereStopped, spot_of}
+use Rattle.yaml_json.specs.declared.names.Names.{Names}
 use Rattle.yaml_json.proofs.KeepingNames.{keeps_name, name_again, names_once}
 use Rattle.yaml_json.proofs.Refusing.{IsNoKey, first_placed, first_refused, key_could_stand, key_refused, member_goes_on, name_refused, no_member_left}
 use Rattle.yaml_json.proofs.Refusing.{no_string_stands}
 use Rattle.yaml_json.proofs.Walking.{Awaiting, awaiting_item, awaiting_named, awaiting_no_item, awaiting_whole}
-use Rattle.yaml_json.specs.Walk.{StopsInside, NoStringNext, TextStopsWriting, WereLeft, WhereStopped, spot_of}
-use Rattle.yaml_json.specs.declared.values.Spot.{Spot}
-use Rattle.yaml_json.specs.declared.values.Spot.TheVariants.{At, PastString, PastValue}
-use Rattle.yaml_base.specs.{declared.errors.yaml_error_t.TheVariants.Memory, declared.kinds.CollectionKind.CollectionKind}
-use Rattle.yaml_base.specs.declared.kinds.CollectionKind.TheVariants.{Mapping, Sequence}
+use Rattle.yaml_base.specs.declared.errors.yaml_error_t.TheVariants.{Memory}
+use Rattle.yaml_json.specs.declared.values.{Stop.Stop, Spot.Spot, Spot.TheVariants.At, Spot.TheVariants.PastString, Spot.TheVariants.PastValue}
+use Rattle.yaml_base.specs.declared.kinds.CollectionKind.{CollectionKind, TheVariants.Mapping, TheVariants.Sequence}
 use Rattle.yaml_json.specs.declared.values.Stop.TheVariants as stops
 
 -- no token is read
-pub unread_memory : (ahead : List Token) (now : WriterState) (stop : Stop) → ReadsNone ahead stop → IfSome (failure_of now stop) (λ error. error ≡ Memory)
-unread_memory ahead now stops.Memory none = refl
-unread_memory ahead now stops.Failed none = absurd none
-unread_memory ahead now _ none = tt
+pub unread_memory : (ahead : List Token) (stop : Stop) → ReadsNone ahead stop → IfSome (failure_of stop) (λ error. error ≡ Memory)
+unread_memory ahead (stops.Failed error) none = none
+unread_memory ahead _ none = tt
 
 -- Tokens that are refused within a value.
 spot_inside : (token : Token) → StopsInside (stops.NotJson (spot_of token))
@@ -50,8 +49,8 @@ pub first_unread : (depth : ℕ) (levels : List CollectionKind) (ahead : List To
     → RefusesFirst depth levels ahead stop
 first_unread depth levels ahead (stops.NotJson spot) none =
     subst (λ (all : List Token). RefusesFirst depth levels all (stops.NotJson spot)) (sym none.0) none.1
-first_unread depth levels [] stops.Memory none = tt
-first_unread depth levels (token ∷ after) stops.Memory none = tt
+first_unread depth levels [] (stops.Failed error) none = tt
+first_unread depth levels (token ∷ after) (stops.Failed error) none = tt
 first_unread depth levels ahead _ none = absurd none
 
 pub first_stopped : (depth : ℕ) (levels : List CollectionKind) (ahead : List Token) (token : Token) (after : List Token) → ahead ≡ token ∷ after
@@ -167,7 +166,7 @@ module _ {A : Type 0} (depth : ℕ) (unique in_flow : Bool) (levels outer : List
         → Refuses depth unique in_flow levels held ahead last before stop now
     unread kind is (stops.NotJson spot) none by_text =
         subst (λ (s : Spot). Refuses depth unique in_flow levels held ahead last before (stops.NotJson s) now) (sym none.1) (unread_so kind is none.0)
-    unread kind is stops.Memory none by_text = absurd by_text
+    unread kind is (stops.Failed error) none by_text = absurd by_text
     unread kind is _ none by_text = absurd none
 
   -- The token after a name is refused.
@@ -196,9 +195,9 @@ module _ {A : Type 0} (depth : ℕ) (unique in_flow : Bool) (levels outer : List
 
 -- the first token of all
 pub first_stopped_writing : (depth : ℕ) (unique in_flow : Bool) (ahead last : List Token) → last ≡ ahead → (was now : WriterState) (stop : Stop)
-    → RefusesFirst depth [] ahead stop → GaveEvents was (tokens_events was.canonical in_flow []) now
+    → RefusesFirst depth [] ahead stop → GaveEvents was (tokens_events was.canonical in_flow []) now → now ≡ was
     → TextStopsWriting depth unique in_flow ahead last was stop now
-first_stopped_writing depth unique in_flow ahead last were was now stop refuses gave =
+first_stopped_writing depth unique in_flow ahead last were was now stop refuses gave same =
     record {
       taken = [];
       left = last;
@@ -209,4 +208,5 @@ first_stopped_writing depth unique in_flow ahead last were was now stop refuses 
           (first_placed depth unique [] [] (λ token scalar. awaiting_whole depth (token ∷ [])) (λ wanted. tt) ahead stop refuses);
       were = all_left stop [] last (inside_first depth [] ahead stop refuses);
       gave = gave;
+      unchanged = λ none. same;
     }

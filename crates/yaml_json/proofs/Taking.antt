@@ -1,21 +1,19 @@
 -- The events that the writer was given in the walk over the tokens of a value.
 use Rattle.yaml_json.proofs.Common.{ℕ, ◌-◌, ◌<◌, length, take, Bool, List, [], ◌++◌, ◌∷◌, refl, ◌≡◌, append-nil, append_assoc, inl, inr, ap, subst, sym, ◌∙◌}
-use Rattle.yaml_json.proofs.Common.{arith, Token, Event, BeginsWithinDepth, FailedHaving, token_events, tokens_events, LeavesOpen, IsScalar, opener}
-use Rattle.yaml_json.proofs.Common.{closer, BeganValue, BeginFailed, BeganFirstValue, FirstFailed, IsBare, WroteEvent, start_event, IfSome, failure_of}
-use Rattle.yaml_json.proofs.Common.{WriterState, end_event, GaveEvent, with_collection, Ok, EndsInnermost}
+use Rattle.yaml_json.proofs.Common.{arith, Token, Event, BeginsWithinDepth, FailedHaving, token_events, tokens_events, LeavesOpen, IsScalar, opener, closer}
+use Rattle.yaml_json.proofs.Common.{BeganValue, BeginFailed, BeganFirstValue, FirstFailed, IsBare, WroteEvent, start_event, IfSome, failure_of, WriterState}
+use Rattle.yaml_json.proofs.Common.{end_event, GaveEvent, with_collection, Ok, EndsInnermost}
 use Rattle.std.proofs.Math.Seq.{take-append_seam}
-use Rattle.yaml_base.specs.{declared.errors.yaml_error_t.yaml_error_t, declared.errors.yaml_error_t.TheVariants.Memory}
-use Rattle.yaml_base.specs.{declared.kinds.CollectionKind.CollectionKind}
-use Rattle.yaml_json.proofs.Stopping.{FailedAt, end_failed, if_some}
+use Rattle.yaml_json.proofs.Stopping.{if_some}
 use Rattle.yaml_json.proofs.Stops.{unread_memory, gave_no_more}
 use Rattle.yaml_json.proofs.TokenLemmas.{some_then}
 use Rattle.yaml_writer.proofs.GivenLemmas.{ended}
-use Rattle.yaml_json.specs.{Failing.FailedAtEnd, declared.values.Stop.Stop}
 use Rattle.yaml_json.proofs.Walking.{longer, closed_stands, closes_value, value_begins, awaiting_item, awaiting_named, next_stands}
-use Rattle.yaml_json.specs.Walk.{ReadsNone, GaveTokens, GivesTaken, FailsGiving, WalkedOn, StepFailed}
-use Rattle.yaml_base.specs.declared.kinds.CollectionKind.TheVariants.{Mapping, Sequence}
 use Rattle.yaml_writer.proofs.OpenLevels.{gave_event, gave_events_then, gave_none, gave_same, levels_after-append, levels_after_end, levels_after_start}
-use Rattle.yaml_writer.specs.WasGiven.{GaveEvents, levels_after, levels_after_event}
+use Rattle.yaml_base.specs.declared.{errors.yaml_error_t.yaml_error_t, errors.yaml_error_t.TheVariants.Memory, kinds.CollectionKind.CollectionKind}
+use Rattle.yaml_base.specs.declared.{kinds.CollectionKind.TheVariants.Mapping, kinds.CollectionKind.TheVariants.Sequence}
+use Rattle.yaml_writer.specs.{Answering.FailsAt, WasGiven.GaveEvents, WasGiven.levels_after, WasGiven.levels_after_event}
+use Rattle.yaml_json.specs.{declared.values.Stop.Stop, Walk.ReadsNone, Walk.GaveTokens, Walk.GivesTaken, Walk.FailsGiving, Walk.WalkedOn, Walk.StepFailed}
 
 -- ---- the writer
 
@@ -98,7 +96,7 @@ closer_events Sequence canonical in_flow = refl
 closer_events Mapping canonical in_flow = refl
 
 -- these are open
-open_levels : (in_flow : Bool) (was now : WriterState) (so : List Token) (outer : List CollectionKind) (kind : CollectionKind)
+pub open_levels : (in_flow : Bool) (was now : WriterState) (so : List Token) (outer : List CollectionKind) (kind : CollectionKind)
     → GaveTokens in_flow was so (outer ++ kind ∷ []) now → now.levels ≡ (was.levels ++ outer) ++ kind ∷ []
 open_levels in_flow was now so outer kind stood = stood.gave.levels ∙ stood.opened ∙ sym (append_assoc was.levels outer (kind ∷ []))
 
@@ -124,29 +122,14 @@ failed_on : (in_flow : Bool) (was now later : WriterState) (so : List Token) (to
 failed_on in_flow was now later so token event error one is failed =
     record { gave = given_on in_flow was now later so token event one is failed.gave; is_error = failed.is_error }
 
-pub fails_scalar : (in_flow : Bool) (levels : List CollectionKind) (before after : WriterState) (token : Token) (event : Bool → Event)
+pub fails_event : (in_flow : Bool) (levels : List CollectionKind) (before after : WriterState) (token : Token) (event : Bool → Event)
     (error : yaml_error_t) → ((canonical : Bool) → token_events canonical in_flow token ≡ event canonical ∷ [])
-    → FailedAt before (event before.canonical) error after → FailsGiving in_flow levels before (token ∷ []) error after
-fails_scalar in_flow levels before after token event error is (inl memory) = inl memory
-fails_scalar in_flow levels before after token event error is (inr gave) =
+    → FailsAt before (event before.canonical) error after → FailsGiving in_flow levels before (token ∷ []) error after
+fails_event in_flow levels before after token event error is (inl memory) = inl memory
+fails_event in_flow levels before after token event error is (inr gave) =
     inr
     (λ was so stood. failed_on in_flow was before after so token (event before.canonical) error stood.gave
     (is was.canonical ∙ ap (λ c. event c ∷ []) (sym stood.gave.canonical)) gave)
-
-pub fails_start : (in_flow : Bool) (levels : List CollectionKind) (before after : WriterState) (kind : CollectionKind) (error : yaml_error_t)
-    → FailedAt before (start_event in_flow kind) error after → FailsGiving in_flow levels before (opener kind ∷ []) error after
-fails_start in_flow levels before after kind error (inl memory) = inl memory
-fails_start in_flow levels before after kind error (inr gave) =
-    inr
-    (λ was so stood. failed_on in_flow was before after so (opener kind) (start_event in_flow kind) error stood.gave
-    (opener_events kind was.canonical in_flow) gave)
-
-pub fails_end : (in_flow : Bool) (outer : List CollectionKind) (before after : WriterState) (kind : CollectionKind) (error : yaml_error_t)
-    → FailedAtEnd before error after → (was : WriterState) (so : List Token) → GaveTokens in_flow was so (outer ++ kind ∷ []) before
-    → FailedHaving was (tokens_events was.canonical in_flow (so ++ closer kind ∷ [])) error after
-fails_end in_flow outer before after kind error ends was so stood =
-    failed_on in_flow was before after so (closer kind) (end_event kind) error stood.gave (closer_events kind was.canonical in_flow)
-    (end_failed (was.levels ++ outer) kind before after error (open_levels in_flow was before so outer kind stood) stood.gave.bare ends)
 
 -- ---- one token
 
@@ -157,13 +140,13 @@ module _ (depth : ℕ) (in_flow : Bool) (levels : List CollectionKind) (before a
     pub scalar_began : WroteEvent before (event before.canonical) after → BeganValue depth in_flow token levels before levels after
     scalar_began wrote = record { begins = inl (is, refl); gives = gives_scalar in_flow levels before after token event (scalar_keeps token is) events wrote }
 
-    pub scalar_failed : (error : yaml_error_t) → FailedAt before (event before.canonical) error after
+    pub scalar_failed : (error : yaml_error_t) → FailsAt before (event before.canonical) error after
         → BeginFailed depth in_flow token levels before error after
     scalar_failed error failed =
         record {
           opened = levels;
           begins = inl (is, refl);
-          fails = fails_scalar in_flow levels before after token event error events failed;
+          fails = fails_event in_flow levels before after token event error events failed;
         }
 
   -- a collection begins
@@ -176,13 +159,14 @@ module _ (depth : ℕ) (in_flow : Bool) (levels : List CollectionKind) (before a
             (gives_start in_flow levels before after kind starts);
       }
 
-  pub opener_failed : (kind : CollectionKind) → length levels < depth → (error : yaml_error_t) → FailedAt before (start_event in_flow kind) error after
+  pub opener_failed : (kind : CollectionKind) → length levels < depth → (error : yaml_error_t) → FailsAt before (start_event in_flow kind) error after
       → BeginFailed depth in_flow (opener kind) levels before error after
   opener_failed kind fits error failed =
       record {
         opened = levels ++ kind ∷ [];
         begins = inr (kind, refl, fits, refl);
-        fails = fails_start in_flow levels before after kind error failed;
+        fails = fails_event in_flow levels before after (opener kind) (λ canonical. start_event in_flow kind) error
+            (λ canonical. opener_events kind canonical in_flow) failed;
       }
 
   pub opener_without_memory : (kind : CollectionKind) → length levels < depth → after ≡ before
@@ -217,19 +201,6 @@ module _ (depth : ℕ) (in_flow : Bool) (ahead : List Token) (levels outer : Lis
             (closed_stands depth so outer kind (subst (LeavesOpen depth so) is stands));
       }
 
-  pub step_unclosed : (after : List Token) (error : yaml_error_t) (now : WriterState) → ahead ≡ closer kind ∷ after
-      → FailedAtEnd before error now → StepFailed depth in_flow ahead levels before error now
-  step_unclosed after error now first ends =
-      record {
-        taken = closer kind ∷ [];
-        left = after;
-        parts = sym first;
-        fails = λ was so stood. fails_end in_flow outer before now kind error ends was so
-            (subst (λ (all : List CollectionKind). GaveTokens in_flow was so all before) is stood);
-        begins = λ so stands. value_begins depth (so ++ closer kind ∷ []) outer
-            (closed_stands depth so outer kind (subst (LeavesOpen depth so) is stands));
-      }
-
 -- an allocation failed before anything was given
 pub step_without_memory : (depth : ℕ) (in_flow : Bool) (ahead : List Token) (levels : List CollectionKind) (before now : WriterState) → now ≡ before
     → StepFailed depth in_flow ahead levels before Memory now
@@ -252,14 +223,23 @@ step_at_first depth in_flow ahead levels before token after error now first (inl
 step_at_first depth in_flow ahead levels before token after error now first (inr fails) begins =
     record { taken = token ∷ []; left = after; parts = sym first; fails = fails; begins = begins }
 
+-- the end of a collection fails
+pub step_unclosed : (depth : ℕ) (in_flow : Bool) (ahead : List Token) (levels outer : List CollectionKind) (kind : CollectionKind)
+    → levels ≡ outer ++ kind ∷ [] → (before : WriterState) (after : List Token) (error : yaml_error_t) (now : WriterState) → ahead ≡ closer kind ∷ after
+    → FailsAt before (end_event kind) error now → StepFailed depth in_flow ahead levels before error now
+step_unclosed depth in_flow ahead levels outer kind is before after error now first fails =
+    step_at_first depth in_flow ahead levels before (closer kind) after error now first
+    (fails_event in_flow levels before now (closer kind) (λ canonical. end_event kind) error (λ canonical. closer_events kind canonical in_flow) fails)
+    (λ so stands. value_begins depth (so ++ closer kind ∷ []) outer (closed_stands depth so outer kind (subst (LeavesOpen depth so) is stands)))
+
 -- or no token is read
 pub step_unread : (depth : ℕ) (in_flow : Bool) (ahead : List Token) (levels : List CollectionKind) (before : WriterState) (stop : Stop)
-    → ReadsNone ahead stop → IfSome (failure_of before stop) (λ error. StepFailed depth in_flow ahead levels before error before)
+    → ReadsNone ahead stop → IfSome (failure_of stop) (λ error. StepFailed depth in_flow ahead levels before error before)
 step_unread depth in_flow ahead levels before stop none =
-    if_some (failure_of before stop)
+    if_some (failure_of stop)
     (λ error memory. subst (λ (code : yaml_error_t). StepFailed depth in_flow ahead levels before code before) (sym memory)
     (step_without_memory depth in_flow ahead levels before before refl))
-    (unread_memory ahead before stop none)
+    (unread_memory ahead stop none)
 
 -- an item begins
 module _ (depth : ℕ) (in_flow : Bool) (levels outer : List CollectionKind) (is : levels ≡ outer ++ Sequence ∷ []) (token : Token)

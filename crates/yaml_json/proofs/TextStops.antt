@@ -1,17 +1,19 @@
 -- The meaning of an error for a text, and for the writer that was given its first tokens.
 use Rattle.yaml_writer.proofs.OpenLevels.{usable_by}
-use Rattle.yaml_writer.specs.WasGiven.{GaveEvents}
-use Rattle.yaml_json.specs.TokenEvents.{tokens_events}
-use Rattle.yaml_json.proofs.Common.{ℕ, IfSome, Option, None, Some, Err, Bool, List, ◌≡◌, refl, inl, inr, subst, sym, unwrap_or, failure_of, FailedInText, ap}
-use Rattle.yaml_json.proofs.Common.{◌∙◌, ◌++◌, ◌⊎◌, WriterState, Token, ExplainsError, WhyStopped, ◌+◌, ◌≤◌, [], arith, length}
-use Rattle.yaml_base.specs.declared.errors.{yaml_error_t.yaml_error_t, yaml_error_t.TheVariants.Memory}
-use Rattle.yaml_json.specs.{Failing.Kept, Failing.SoundAfter, Failing.writers_error, Refused.IsByText}
-use Rattle.yaml_base.specs.{Positions.IsPositionOf, declared.places.Position.Position}
-use Rattle.yaml_writer.specs.Failing.{HasErrorSaid}
-use Rattle.yaml_json.specs.{Refused.TokensStopAt, Stopped.StopsInText, Walk.MatchesStop, Walk.StopsText, declared.error.JsonError.JsonError}
-use Rattle.yaml_json.specs.{Offsets.StopsAtLexeme, Places.HasPlaceAfter, Places.HasPlaceWithin, Places.IsAt, Places.IsPlacedAt}
-use Rattle.yaml_json.specs.{Expected.SaysExpected, declared.values.Stop.Stop}
+use Rattle.yaml_json.proofs.Common.{ℕ, IfSome, Option, Some, Err, Bool, List, ◌≡◌, inl, inr, refl, subst, sym, failure_of, FailedInText, ap, ◌∙◌, ◌++◌, ◌⊎◌}
+use Rattle.yaml_json.proofs.Common.{WriterState, Token, ExplainsError, WhyStopped, ◌+◌, ◌<◌, ◌≤◌, [], arith, length}
+use Rattle.yaml_base.specs.Positions.{IsPositionOf}
 use Rattle.std.specs.Str.{IsValidUpTo}
+use Rattle.yaml_json.specs.{TokenEvents.tokens_events, Failing.Kept, Failing.writers_error, Refused.IsByText, Refused.TokensStopAt, Stopped.StopsInText}
+use Rattle.yaml_json.specs.{Walk.MatchesStop, Walk.StopsText, declared.error.JsonError.JsonError, Offsets.StopsAtLexeme, Places.HasPlaceAfter}
+use Rattle.yaml_json.specs.{Places.HasPlace, Places.HasPlaceWithin, Places.IsAt, Places.IsAtIn, Places.IsPlacedAt, Places.SaysFault, Places.offset_by}
+use Rattle.yaml_json.specs.declared.values.Stop.{Stop}
+use Rattle.yaml_json.proofs.FaultPlaces.{said_within}
+use Rattle.yaml_json.specs.Faults.{said_at}
+use Rattle.yaml_json.specs.Places.{IsPositionAfter, many_bytes}
+use Rattle.yaml_json.specs.declared.expecting.Expected.{Expected}
+use Rattle.yaml_base.specs.declared.{errors.yaml_error_t.yaml_error_t, errors.yaml_error_t.TheVariants.Memory, places.Position.Position}
+use Rattle.yaml_writer.specs.{WasGiven.GaveEvents, Failing.HasErrorSaid}
 use Rattle.yaml_json.specs.declared.error.StreamError.TheVariants as faults
 use Rattle.yaml_json.specs.declared.error.JsonError.TheVariants as errors
 use Rattle.yaml_json.specs.declared.values.Stop.TheVariants as stops
@@ -23,8 +25,7 @@ module _ (depth : ℕ) (unique in_flow : Bool) (text : List ℕ) (was now : Writ
   why_returned taken left (stops.NotJson spot) (errors.Marked position) same is why = (why, same)
   why_returned taken left stops.TooDeep (errors.TooDeep position) same is why = why
   why_returned taken left stops.NameAgain (errors.DuplicateName position) same is why = why
-  why_returned taken left stops.Memory error same is why = absurd is
-  why_returned taken left stops.Failed error same is why = absurd is
+  why_returned taken left (stops.Failed code) error same is why = absurd is
   why_returned taken left _ _ same is why = absurd same
 
   stopped_by_text : (stop : Stop) (error : JsonError) → MatchesStop text stop error → IsByText stop
@@ -37,6 +38,7 @@ module _ (depth : ℕ) (unique in_flow : Bool) (text : List ℕ) (was now : Writ
         why = why_returned stopped.1.taken stopped.1.left stop error same is stopped.1.why;
         emits = stopped.1.gave.emits;
         usable = usable_by was now (tokens_events was.canonical in_flow stopped.1.taken) stopped.1.gave;
+        unchanged = stopped.1.unchanged;
       }
 
   stopped_by_writer : (code returned : yaml_error_t) → FailedInText depth in_flow text was code now
@@ -49,17 +51,17 @@ module _ (depth : ℕ) (unique in_flow : Bool) (text : List ℕ) (was now : Writ
         why = failed.1.1;
         emits = failed.1.0.gave.gave.emits;
         usable = usable_by was now (tokens_events was.canonical in_flow failed.0) failed.1.0.gave.gave;
+        unchanged = failed.1.0.unchanged;
       }
 
   -- An error has the same meaning as the stop.
   pub text_stopped : (stop : Stop) (error : JsonError) → MatchesStop text stop error
       → (IsByText stop → StopsText depth unique in_flow text was stop now)
-      → IfSome (failure_of now stop) (λ code. FailedInText depth in_flow text was code now) → StopsInText depth unique in_flow text was error now
+      → IfSome (failure_of stop) (λ code. FailedInText depth in_flow text was code now) → StopsInText depth unique in_flow text was error now
   text_stopped (stops.NotJson spot) error same refused failed = stopped_by_text (stops.NotJson spot) error same tt (refused tt)
   text_stopped stops.TooDeep error same refused failed = stopped_by_text stops.TooDeep error same tt (refused tt)
   text_stopped stops.NameAgain error same refused failed = stopped_by_text stops.NameAgain error same tt (refused tt)
-  text_stopped stops.Memory (errors.Emitter returned) same refused failed = stopped_by_writer Memory returned failed
-  text_stopped stops.Failed (errors.Emitter returned) same refused failed = stopped_by_writer (unwrap_or now.emitter.error Memory) returned failed
+  text_stopped (stops.Failed code) (errors.Emitter returned) same refused failed = stopped_by_writer code returned failed
   text_stopped _ _ same refused failed = absurd same
 
   -- which explains the error
@@ -107,57 +109,89 @@ module _ (depth : ℕ) (unique in_flow : Bool) (text : List ℕ) (was now : Writ
       → IfSome (writers_error error) (λ code. FailedInText depth in_flow text was code now)
   writer_failed (errors.Emitter code) stops said = (
     stops.taken,
-    (record { left = stops.left; parts = stops.split; gave = record { gave = given_by stops; is_error = code_said code said } }, stops.why),
+    (
+      record {
+        left = stops.left;
+        parts = stops.split;
+        gave = record { gave = given_by stops; is_error = code_said code said };
+        unchanged = stops.unchanged;
+      },
+      stops.why,
+    ),
   )
   writer_failed _ stops said = tt
 
 -- the emitter's error is the one that is said
-said_so : (was now : WriterState) (found : Option yaml_error_t) → now.emitter.error ≡ found → HasErrorSaid was (Some (unwrap_or found Memory)) now
-said_so was now None none = inl (refl, λ sound. none)
-said_so was now (Some code) has = inr has
-
-pub said_by : (was now : WriterState) (stop : Stop) → SoundAfter was (Err stop) now → HasErrorSaid was (failure_of now stop) now
-said_by was now stops.Memory (inl sound) = inl (refl, sound)
-said_by was now stops.Memory (inr has) = inr has
-said_by was now stops.Failed sound = said_so was now now.emitter.error refl
-said_by was now _ sound = sound
-
-pub said_as : (was now : WriterState) (stop : Stop) (found : Option yaml_error_t) → found ≡ failure_of now stop → Kept was (Err stop) now
+pub said_as : (was now : WriterState) (stop : Stop) (found : Option yaml_error_t) → found ≡ failure_of stop → Kept was (Err stop) now
     → HasErrorSaid was found now
-said_as was now stop found is kept = subst (λ (f : Option yaml_error_t). HasErrorSaid was f now) (sym is) (said_by was now stop kept.sound)
+said_as was now stop found is kept = subst (λ (f : Option yaml_error_t). HasErrorSaid was f now) (sym is) kept.sound
 
--- The error is at the place of the stop.
-pub placed_as : (depth : ℕ) (part text : List ℕ) (at : ℕ) (stop : Stop) (error : JsonError) → MatchesStop part stop error
-    → (IsByText stop → StopsAtLexeme depth text at stop) → SaysExpected text at error → IsPlacedAt depth text at error
-placed_as depth part text at (stops.NotJson spot) (errors.NotJson position says) same placed expects = (placed tt, expects)
-placed_as depth part text at (stops.NotJson spot) (errors.Marked position) same placed expects = placed tt
-placed_as depth part text at stops.TooDeep (errors.TooDeep position) same placed expects = placed tt
-placed_as depth part text at stops.NameAgain (errors.DuplicateName position) same placed expects = placed tt
-placed_as depth part text at stop (errors.Emitter returned) same placed expects = tt
-placed_as depth part text at _ _ same placed expects = absurd same
+-- The error is at the place of the stop, or at the fault there.
+pub placed_as : (depth : ℕ) (text : List ℕ) (lexeme : ℕ) (stop : Stop) (error : JsonError) → MatchesStop text stop error
+    → (IsByText stop → StopsAtLexeme depth text lexeme stop) → SaysFault text lexeme error → IsPlacedAt depth text (offset_by text lexeme error) error
+placed_as depth text lexeme (stops.NotJson spot) (errors.NotJson position says) same placed fault =
+    (lexeme, (placed tt, (λ i. (sym fault i, (said_at text lexeme).1))))
+placed_as depth text lexeme (stops.NotJson spot) (errors.Marked position) same placed fault = placed tt
+placed_as depth text lexeme stops.TooDeep (errors.TooDeep position) same placed fault = placed tt
+placed_as depth text lexeme stops.NameAgain (errors.DuplicateName position) same placed fault = placed tt
+placed_as depth text lexeme stop (errors.Emitter returned) same placed fault = tt
+placed_as depth text lexeme _ _ same placed fault = absurd same
+
+offset_within : (text : List ℕ) (lexeme : ℕ) (error : JsonError) → lexeme ≤ length text → offset_by text lexeme error ≤ length text
+offset_within text lexeme (errors.NotJson position says) within = said_within text lexeme within
+offset_within text lexeme _ within = within
 
 -- and in the text that it is in
-module _ (depth : ℕ) (text part front : List ℕ) (at whole : ℕ) where
-  placed_there : (error : JsonError) → IsAt text whole error → whole ≡ length front + at → IsPlacedAt depth part at error
-      → HasPlaceAfter depth text front part error
-  placed_there error is sum placed = (at, (subst (λ n. IsAt text n error) sum is, placed))
+module _ (depth : ℕ) (text part front : List ℕ) (lexeme before : ℕ) (is_front : before ≡ length front) (fits : length front + length part ≤ length text) where
+  placed_there : (stop : Stop) (error : JsonError) → MatchesStop part stop error → (IsByText stop → StopsAtLexeme depth part lexeme stop)
+      → IsAtIn text before part lexeme error → SaysFault part lexeme error → lexeme ≤ length part → HasPlaceAfter depth text front part error
+  placed_there stop error same placed is fault within =
+      let at = offset_by part lexeme error in
+      let less : at ≤ length part = offset_within part lexeme error within in (
+        at,
+        (
+          subst (λ n. IsAt text (n + at) error) is_front (is (omega (arith, is_front, fits, less))),
+          placed_as depth part lexeme stop error same placed fault,
+        ),
+      )
 
-  pub placed_after : (stop : Stop) (error : JsonError) → MatchesStop part stop error → (IsByText stop → StopsAtLexeme depth part at stop)
-      → IsAt text whole error → (at ≤ length part → whole ≡ length front + at) → SaysExpected part at error → HasPlaceAfter depth text front part error
-  placed_after stop (errors.Emitter returned) same placed is sum expects = (0, (tt, tt))
-  placed_after (stops.NotJson spot) error same placed is sum expects =
-      placed_there error is (sum (placed tt).start.within) (placed_as depth part part at (stops.NotJson spot) error same placed expects)
-  placed_after stops.TooDeep error same placed is sum expects =
-      placed_there error is (sum (placed tt).start.within) (placed_as depth part part at stops.TooDeep error same placed expects)
-  placed_after stops.NameAgain error same placed is sum expects =
-      placed_there error is (sum (placed tt).start.within) (placed_as depth part part at stops.NameAgain error same placed expects)
-  placed_after _ _ same placed is sum expects = absurd same
+  pub placed_after : (stop : Stop) (error : JsonError) → MatchesStop part stop error → (IsByText stop → StopsAtLexeme depth part lexeme stop)
+      → IsAtIn text before part lexeme error → SaysFault part lexeme error → HasPlaceAfter depth text front part error
+  placed_after stop (errors.Emitter returned) same placed is fault = (0, (tt, tt))
+  placed_after (stops.NotJson spot) error same placed is fault =
+      placed_there (stops.NotJson spot) error same placed is fault (placed tt).start.within
+  placed_after stops.TooDeep error same placed is fault = placed_there stops.TooDeep error same placed is fault (placed tt).start.within
+  placed_after stops.NameAgain error same placed is fault = placed_there stops.NameAgain error same placed is fault (placed tt).start.within
+  placed_after _ _ same placed is fault = absurd same
 
 -- in a text before which none came
-pub placed_first : (depth : ℕ) (text : List ℕ) (at : ℕ) (error : JsonError) → IsAt text at error → IsPlacedAt depth text at error
-    → HasPlaceWithin depth [] text (faults.Refused error)
-placed_first depth text at error is placed =
-    let e : at ≡ length {A = ℕ} [] + at = omega arith in (at, ((λ less. subst (λ n. IsAt text n error) e is), placed))
+pub placed_whole : (depth : ℕ) (text : List ℕ) (lexeme : ℕ) (stop : Stop) (error : JsonError) → MatchesStop text stop error
+    → (IsByText stop → StopsAtLexeme depth text lexeme stop) → IsAtIn text 0 text lexeme error → SaysFault text lexeme error → HasPlace depth text error
+placed_whole depth text lexeme stop error same placed is fault =
+    let (at, (is_at, placed_at)) = placed_after depth text text [] lexeme 0 refl (omega arith) stop error same placed is fault in
+    let whole : length {A = ℕ} [] + at ≡ at = omega arith in
+    (at, (subst (λ n. IsAt text n error) whole is_at, placed_at))
+
+pub placed_first : (depth : ℕ) (text : List ℕ) (error : JsonError) → HasPlace depth text error → HasPlaceWithin depth [] text (faults.Refused error)
+placed_first depth text error (at, (is, placed)) =
+    let whole : at ≡ length {A = ℕ} [] + at = omega arith in
+    (at, ((λ less. subst (λ n. IsAt text n error) whole is), placed))
+
+-- The position is counted from a place before the text, and the fault stays.
+pub fault_shifted : (depth : ℕ) (front part : List ℕ) (start position later : Position) (says : Expected) → IsPositionAfter front start
+    → ((before text : List ℕ) (at : ℕ) → IsPositionAfter before start → IsPositionOf text at position → at ≤ length text
+    → length before + at < many_bytes → IsPositionOf (before ++ text) (length before + at) later)
+    → HasPlaceWithin depth [] part (faults.Refused (errors.NotJson position says))
+    → HasPlaceWithin depth front part (faults.Refused (errors.NotJson later says))
+fault_shifted depth front part start position later says follows moves (at, (is, (lexeme, (cannot, said)))) =
+    let within : at ≤ length part = subst (λ (found : Expected × ℕ). found.1 ≤ length part) said (said_within part lexeme cannot.start.within) in
+    let whole : length {A = ℕ} [] + at ≡ at = omega arith in (
+      at,
+      (
+        (λ less. moves front part at follows (subst (λ n. IsPositionOf part n position) whole (is (omega (arith, less)))) within less),
+        (lexeme, (cannot, said)),
+      ),
+    )
 
 pub placed_no_text : (depth : ℕ) (bytes : List ℕ) (at : ℕ) (position : Position) → IsPositionOf bytes at position → IsValidUpTo bytes at
     → HasPlaceWithin depth [] bytes (faults.NotText position)

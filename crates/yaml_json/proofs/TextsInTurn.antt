@@ -5,19 +5,20 @@ use Rattle.yaml_json.proofs.TokenLemmas.{texts_closed}
 use Rattle.json.proofs.Unique.Spelling.{value-json_tokens_back}
 use Rattle.yaml_json.proofs.Common.{ℕ, ◌<◌, ◌==◌, flat_map, Some, Result, Err, length, Bool, false, true, List, [], map, ◌++◌, ◌∷◌, refl, ◌≡◌, eqb-true}
 use Rattle.yaml_json.proofs.Common.{append-nil, append_assoc, inl, inr, ap, subst, sym, ◌∙◌, false≢true, flat_map-append, map-append, Json, value, tokens}
-use Rattle.yaml_json.proofs.Common.{Option, None, json_tokens, Event, between, events_with_separators}
-use Rattle.yaml_json.proofs.Common.{json_events, NamesOnce, HaveNamesOnce, texts_in, after_byte, CutsFirstText, tokens_events, IsBare, WasGiven, WroteText}
-use Rattle.yaml_json.proofs.Common.{AreJson, BeginsWithinDepth, parts_events, ReadsTexts, WriterState, PassedEvents}
+use Rattle.yaml_json.proofs.Common.{Option, None, json_tokens, Event, between, events_with_separators, json_events, NamesOnce, HaveNamesOnce, texts_in}
+use Rattle.yaml_json.proofs.Common.{after_byte, CutsFirstText, tokens_events, IsBare, WasGiven, WroteText, AreJson, BeginsWithinDepth, parts_events}
+use Rattle.yaml_json.proofs.Common.{ReadsTexts, WriterState, PassedEvents}
 use Rattle.std.proofs.lemmas.List.{nil_from_length}
 use Rattle.yaml_base.specs.declared.errors.yaml_error_t.{yaml_error_t}
-use Rattle.yaml_json.{proofs.NameLemmas.once_is_unique, proofs.Walking.awaiting_whole, proofs.Walking.closes_value}
-use Rattle.yaml_json.specs.Texts.{texts_after, onto_first, cut_text_before, scan_first_byte}
-use Rattle.yaml_json.specs.declared.cuts.{Mode.TheVariants.Before, Scan.Scan}
-use Rattle.yaml_json.specs.declared.error.JsonError.TheVariants as errors
+use Rattle.yaml_json.proofs.NameLemmas.{once_is_unique}
+use Rattle.yaml_json.proofs.Walking.{awaiting_whole, closes_value}
 use Rattle.yaml_writer.proofs.GivenLemmas.{leaves_same, wrote_nothing, wrote_then, wrote_same}
-use Rattle.yaml_json.proofs.{TextStops.given_by, YamlOf.HaveScalarTexts, YamlOf.last_reads}
-use Rattle.yaml_json.{specs.Refused.HasNamesOnce, specs.Stopped.StopsInText, specs.Stopped.StopsInTexts, specs.Places.HasPlaceAfter}
-use Rattle.yaml_json.{specs.Wrote.WroteTexts, specs.declared.error.JsonError.JsonError}
+use Rattle.yaml_json.proofs.TextStops.{given_by}
+use Rattle.yaml_json.proofs.YamlOf.{HaveScalarTexts, last_reads}
+use Rattle.yaml_json.specs.{Texts.texts_after, Texts.onto_first, Texts.cut_text_before, Texts.scan_first_byte, declared.cuts.Mode.TheVariants.Before}
+use Rattle.yaml_json.specs.{declared.cuts.Scan.Scan, Refused.HasNamesOnce, Stopped.StopsInText, Stopped.StopsInTexts, Places.HasPlaceAfter, Wrote.WroteTexts}
+use Rattle.yaml_json.specs.{declared.error.JsonError.JsonError}
+use Rattle.yaml_json.specs.declared.error.JsonError.TheVariants as errors
 
 -- the events of some texts, after each of which a document begins, and then those of one more, the last
 pub ends_with : (canonical in_flow : Bool) (parts : List (List ℕ × Json)) (last : List ℕ × Json)

@@ -1,101 +1,100 @@
 -- The calls of a walk over the tokens of a text, by the calls of its writer and its lists.
-use Rattle.yaml_writer.proofs.OpenLevels.{levels_after_start}
-use Rattle.yaml_json.proofs.Common.{suc, ℕ, ◌-◌, ◌<◌, IfSome, OnErr, OnOk, Result, Ok, Err, length, take, Bool, true, List, [], ◌++◌, ◌∷◌, refl, ◌≡◌, inl, inr, ap}
-use Rattle.yaml_json.proofs.Common.{sym, ◌∙◌, arith, chars, Event, scalar, Token, token_events, HoldsNames, AddsName, text_content, failure_of}
-use Rattle.yaml_json.proofs.Common.{emitter_error_of, RefusesText, IsScalar, opener, closer, KeepsNamesAfter, BeganValue, BeginFailed, RefusesToken, Refuses}
-use Rattle.yaml_json.proofs.Common.{append-nil, subst, Some, NamesOnce, IsBare, WroteEvent, start_event, WriterState, text_event, with_collection, GaveEvent}
-use Rattle.yaml_json.proofs.{Common.EndsInnermost, Reaching.one_read, Refusing.unrefused, Stopping.start_failed, Walking.longer}
-use Rattle.yaml_base.specs.{declared.errors.yaml_error_t.yaml_error_t, declared.kinds.CollectionKind.CollectionKind}
-use Rattle.yaml_base.specs.declared.kinds.CollectionKind.TheVariants.{Mapping, Sequence}
-use Rattle.yaml_writer.proofs.Taken.{begins_err, begins_ok, gives_err, gives_ok}
-use Rattle.yaml_writer.specs.Writing.{Begins, Gives}
+use Rattle.yaml_json.proofs.Common.{suc, ℕ, ◌-◌, ◌<◌, IfSome, OnOk, Result, Ok, Err, length, take, Bool, true, List, [], ◌++◌, ◌∷◌, refl, ◌≡◌, inl, inr, ap}
+use Rattle.yaml_json.proofs.Common.{sym, ◌∙◌, arith, chars, Event, scalar, Token, token_events, HoldsNames, AddsName, text_content, failure_of, IsScalar}
+use Rattle.yaml_json.proofs.Common.{opener, closer, KeepsNamesAfter, BeganValue, BeginFailed, RefusesToken, Refuses, append-nil, subst, Some, NamesOnce}
+use Rattle.yaml_json.proofs.Common.{IsBare, WroteEvent, start_event, WriterState, text_event, with_collection, GaveEvent, EndsInnermost, end_event}
+use Rattle.yaml_json.proofs.Reaching.{one_read}
+use Rattle.yaml_json.proofs.Refusing.{unrefused}
+use Rattle.yaml_json.proofs.Stopping.{Answered, answered, if_some, kept_by_text, kept_unread}
+use Rattle.yaml_writer.proofs.AnswerLemmas.{answers_end, answers_event, answers_start, kept_memory, kept_then}
+use Rattle.yaml_json.proofs.Walking.{longer}
 use Rattle.yaml_json.proofs.KeepingNames.{keeps_closer, keeps_name, keeps_scalar, keeps_then}
-use Rattle.yaml_json.proofs.Stopping.{FailedAt, answered_at, answered_end, event_failed, if_some, kept_end, kept_event, kept_memory, kept_same, kept_then, kept_unread, level_end}
-use Rattle.yaml_json.proofs.Stopping.{unmoved_event}
 use Rattle.yaml_json.proofs.Stops.{first_stopped, first_unread, item_stopped, named_stopped, unread, unread_memory}
-use Rattle.yaml_json.proofs.Taking.{event_keeps, fails_scalar, gives_scalar, innermost_gone, opener_began, opener_failed, opener_without_memory, scalar_began}
-use Rattle.yaml_json.proofs.Taking.{scalar_failed, scalar_keeps, step_closes, step_item, step_member, step_no_item, step_no_member, step_unclosed, step_unnamed}
-use Rattle.yaml_json.proofs.Taking.{step_unread, step_without_memory}
-use Rattle.yaml_writer.proofs.GivenLemmas.{on_err, on_ok, text_is, wrote_event}
-use Rattle.yaml_json.specs.Failing.{IsWritersAnswer, Kept, StaysUnlessFailed}
-use Rattle.yaml_json.specs.{Nests.IsNesting, Reached.Reader, Refused.IsByText, declared.names.Names.Names, declared.settings.JsonSettings.JsonSettings}
-use Rattle.yaml_json.specs.{declared.values.Nesting.Nesting, declared.values.Spot.Spot, declared.values.Stop.Stop}
+use Rattle.yaml_json.proofs.Taking.{event_keeps, fails_event, gives_scalar, innermost_gone, opener_began, opener_failed, opener_without_memory, scalar_began}
+use Rattle.yaml_json.proofs.Taking.{scalar_failed, scalar_keeps, step_closes, step_item, step_member, step_no_item, step_no_member, step_unclosed}
+use Rattle.yaml_json.proofs.Taking.{step_unnamed, step_unread, step_without_memory}
+use Rattle.yaml_writer.proofs.Taken.{begins_ok, gives_ok}
+use Rattle.yaml_writer.proofs.GivenLemmas.{on_ok, text_is, wrote_event}
+use Rattle.yaml_json.specs.{Walk.IsInnermost, Failing.IsStopOf, Failing.Kept, Nests.IsNesting, Reached.Reader, Refused.IsByText, declared.names.Names.Names}
+use Rattle.yaml_json.specs.{declared.settings.JsonSettings.JsonSettings, declared.values.Nesting.Nesting, declared.values.Spot.Spot, declared.values.Stop.Stop}
+use Rattle.yaml_json.specs.{WalkSteps.FirstStep, WalkSteps.OnlyGiven, WalkSteps.TokenStep, WalkSteps.ValueGiven, WalkSteps.JsonWalk, WalkSteps.WalkStep}
+use Rattle.yaml_json.specs.{WalkSteps.at}
+use Rattle.yaml_writer.specs.{Answering.FailsAt, WasGiven.levels_after_event, Writing.Begins, Writing.Gives}
+use Rattle.yaml_base.specs.declared.{errors.yaml_error_t.TheVariants.Memory, errors.yaml_error_t.yaml_error_t, kinds.CollectionKind.CollectionKind}
+use Rattle.yaml_base.specs.declared.{kinds.CollectionKind.TheVariants.Mapping, kinds.CollectionKind.TheVariants.Sequence}
 use Rattle.yaml_json.specs.Walk.{GivesTaken as GivesTokens, LeavesNames, ReadsNone, StepFailed}
-use Rattle.yaml_json.specs.WalkSteps.{FirstStep, OnlyGiven, TokenStep, ValueGiven, JsonWalk, WalkStep, at}
 use Rattle.yaml_json.specs.declared.values.Stop.TheVariants as stops
 
 -- ---- by their results
 
--- a call that doesn't refuse its token
-unrefused_step : {A : Type 0} (settings : JsonSettings) (token : Token) (before after : JsonWalk A) (result : Result (Unit {0}) Stop)
-    → OnOk result (BeganValue settings.values.depth settings.values.flow token before.nest.kinds.items before.writer after.nest.kinds.items after.writer)
-    → IsNesting settings.values.depth settings.unique_names after.nest → KeepsNamesAfter before.nest.names (token ∷ []) after.nest.names → (RefusesText result → ⊥)
-    → OnErr result (StaysUnlessFailed before.writer after.writer) → Kept before.writer result after.writer
-    → IfSome (emitter_error_of after.writer result)
-    (λ error. BeginFailed settings.values.depth settings.values.flow token before.nest.kinds.items before.writer error after.writer)
+-- a call of the writer that gives the event of a token with which a value begins
+answered_step : {A P : Type 0} (settings : JsonSettings) (token : Token) (event : Event) (before after : JsonWalk A) (result : Result (Unit {0}) Stop)
+    → Answered P before.writer event result after.writer
+    → (P → BeganValue settings.values.depth settings.values.flow token before.nest.kinds.items before.writer after.nest.kinds.items after.writer)
+    → ((error : yaml_error_t) → FailsAt before.writer event error after.writer
+    → BeginFailed settings.values.depth settings.values.flow token before.nest.kinds.items before.writer error after.writer)
+    → IsNesting settings.values.depth settings.unique_names after.nest → KeepsNamesAfter before.nest.names (token ∷ []) after.nest.names
     → TokenStep settings token before result after
-unrefused_step settings token before after (Ok done) began fits names never unmoved kept failed =
-    record { began = began; fits = fits; names = names; kept = record { grows = kept.grows; sound = kept.sound } }
-unrefused_step settings token before after (Err stop) began fits names never unmoved kept failed =
+answered_step settings token event before after (Ok done) all began failed fits names =
+    record { began = began all.done; fits = fits; names = names; kept = record { grows = all.kept.grows; sound = all.kept.sound } }
+answered_step settings token event before after (Err stop) all began failed fits names =
     record {
-      refused = unrefused (Err stop) never (RefusesToken settings.values.depth before.nest.kinds.items token) tt tt;
-      same = λ by_text. absurd (never by_text);
-      unmoved = unmoved;
-      kept = kept;
-      failed = failed;
+      refused = unrefused stop all.never (RefusesToken settings.values.depth before.nest.kinds.items token) (λ error. tt);
+      same = λ by_text. absurd (all.never by_text);
+      unmoved = all.unmoved;
+      kept = all.kept;
+      failed = if_some (failure_of stop) failed all.failed;
     }
 
 -- ---- one token
 
--- a scalar
+-- a scalar or a name
+pub answered_scalar : (before after : WriterState) (given event : Event) → given ≡ event → levels_after_event event before.levels ≡ before.levels
+    → (answer : Result (Unit {0}) yaml_error_t) (result : Result (Unit {0}) Stop) → IsStopOf answer result → Gives before given answer after
+    → Answered (WroteEvent before event after) before event result after
+answered_scalar before after given event same keeps answer result answers gives =
+    answered (WroteEvent before event after) before after event answer result answers
+    (on_ok answer (wrote_event before after given event same) (gives_ok before after given answer gives))
+    (answers_event before after given event answer same keeps gives)
+
 pub scalar_step : {A : Type 0} (settings : JsonSettings) (token : Token) (event : Bool → Event) → IsScalar token
     → ((canonical : Bool) → token_events canonical settings.values.flow token ≡ event canonical ∷ []) → (nest : Nesting A)
     → IsNesting settings.values.depth settings.unique_names nest → (before after : WriterState) (given : Event) → given ≡ event before.canonical
-    → (answer : Result (Unit {0}) yaml_error_t) (result : Result (Unit {0}) Stop) → IsWritersAnswer answer result → Gives before given answer after
+    → (answer : Result (Unit {0}) yaml_error_t) (result : Result (Unit {0}) Stop) → IsStopOf answer result → Gives before given answer after
     → TokenStep settings token (at nest before) result (at nest after)
 scalar_step settings token event is events nest fits before after given same answer result answers gives =
-    let ok = gives_ok before after given answer gives in
-    let err = gives_err before after given answer gives in
-    let all = answered_at (WroteEvent before (event before.canonical) after) before after (event before.canonical) answer result answers
-    (on_ok answer (wrote_event before after given (event before.canonical) same) ok)
-    (on_err answer
-    (λ error. event_failed before after given (event before.canonical) error same
-    (event_keeps settings.values.flow token event (scalar_keeps token is) events before.canonical before.levels))
-    err) in
-    unrefused_step settings token (at nest before) (at nest after) result
-    (on_ok result (scalar_began settings.values.depth settings.values.flow nest.kinds.items before after token event is events) all.0) fits
-    (keeps_scalar token nest.names is) all.1 (unmoved_event before after before given answer result answers err)
-    (kept_event before after before refl given answer result answers ok err)
-    (if_some (emitter_error_of after result) (scalar_failed settings.values.depth settings.values.flow nest.kinds.items before after token event is events) all.2)
+    answered_step settings token (event before.canonical) (at nest before) (at nest after) result
+    (answered_scalar before after given (event before.canonical) same
+    (event_keeps settings.values.flow token event (scalar_keeps token is) events before.canonical before.levels) answer result answers gives)
+    (scalar_began settings.values.depth settings.values.flow nest.kinds.items before after token event is events)
+    (scalar_failed settings.values.depth settings.values.flow nest.kinds.items before after token event is events) fits
+    (keeps_scalar token nest.names is)
 
 -- a collection begins, for which there is room
 pub opener_step : {A : Type 0} (settings : JsonSettings) (kind : CollectionKind) (before after : JsonWalk A)
     → length before.nest.kinds.items < settings.values.depth → after.nest.kinds.items ≡ before.nest.kinds.items ++ kind ∷ []
     → IsNesting settings.values.depth settings.unique_names after.nest → KeepsNamesAfter before.nest.names (opener kind ∷ []) after.nest.names
-    → (answer : Result (Unit {0}) yaml_error_t) (result : Result (Unit {0}) Stop) → IsWritersAnswer answer result
+    → (answer : Result (Unit {0}) yaml_error_t) (result : Result (Unit {0}) Stop) → IsStopOf answer result
     → Begins kind before.writer (start_event settings.values.flow kind) answer after.writer → TokenStep settings (opener kind) before result after
 opener_step settings kind before after room opened fits names answer result answers begins =
     let event = start_event settings.values.flow kind in
     let levels = before.nest.kinds.items in
-    let ok = begins_ok kind before.writer after.writer event answer begins in
-    let err = begins_err kind before.writer after.writer event answer begins in
-    let all = answered_at (GaveEvent (with_collection before.writer kind) event (Ok tt) after.writer) before.writer after.writer event answer result answers ok
-    (on_err answer (λ error. start_failed kind before.writer after.writer event error (levels_after_start settings.values.flow kind before.writer.levels)) err) in
-    unrefused_step settings (opener kind) before after result
-    (on_ok result (opener_began settings.values.depth settings.values.flow levels before.writer after.writer after.nest.kinds.items kind room opened) all.0) fits names
-    all.1 (unmoved_event before.writer after.writer (with_collection before.writer kind) event answer result answers err)
-    (kept_event before.writer after.writer (with_collection before.writer kind) refl event answer result answers ok err)
-    (if_some (emitter_error_of after.writer result) (opener_failed settings.values.depth settings.values.flow levels before.writer after.writer kind room) all.2)
+    answered_step settings (opener kind) event before after result
+    (answered (GaveEvent (with_collection before.writer kind) event (Ok tt) after.writer) before.writer after.writer event answer result answers
+    (begins_ok kind before.writer after.writer event answer begins)
+    (answers_start settings.values.flow kind before.writer after.writer answer begins))
+    (opener_began settings.values.depth settings.values.flow levels before.writer after.writer after.nest.kinds.items kind room opened)
+    (opener_failed settings.values.depth settings.values.flow levels before.writer after.writer kind room) fits names
 
 -- for which there is no memory
 pub opener_without_room : {A : Type 0} (settings : JsonSettings) (kind : CollectionKind) (nest later : Nesting A) (writer : WriterState)
-    → length nest.kinds.items < settings.values.depth → TokenStep settings (opener kind) (at nest writer) (Err stops.Memory) (at later writer)
+    → length nest.kinds.items < settings.values.depth → TokenStep settings (opener kind) (at nest writer) (Err (stops.Failed Memory)) (at later writer)
 opener_without_room settings kind nest later writer room =
     record {
       refused = tt;
       same = λ by_text. refl;
       unmoved = λ sound. refl;
-      kept = kept_memory writer;
+      kept = kept_memory failure_of writer (stops.Failed Memory) refl;
       failed = opener_without_memory settings.values.depth settings.values.flow nest.kinds.items writer writer kind room refl;
     }
 
@@ -108,7 +107,7 @@ refused_step settings token nest writer spot refused =
       refused = refused;
       same = λ by_text. refl;
       unmoved = λ sound. refl;
-      kept = kept_same writer writer (stops.NotJson spot) refl tt;
+      kept = kept_by_text writer (stops.NotJson spot) tt;
       failed = tt;
     }
 
@@ -130,7 +129,7 @@ module _ {A : Type 0} (settings : JsonSettings) (reader left : Reader) where
         same = step.same;
         unmoved = step.unmoved;
         kept = step.kept;
-        failed = if_some (failure_of after.writer stop)
+        failed = if_some (failure_of stop)
             (λ error failed. inr (record { token = token; after = left.ahead; first = first; failed = failed })) step.failed;
       }
 
@@ -143,7 +142,7 @@ module _ {A : Type 0} (settings : JsonSettings) (reader left : Reader) where
         same = λ by_text. refl;
         unmoved = λ sound. refl;
         kept = kept_unread writer reader.ahead stop none;
-        failed = if_some (failure_of writer stop) (λ error memory. inl (memory, refl)) (unread_memory reader.ahead writer stop none);
+        failed = if_some (failure_of stop) (λ error memory. inl (memory, refl)) (unread_memory reader.ahead stop none);
       }
 
 -- ---- an item, a member, or an end
@@ -153,23 +152,23 @@ module _ {A : Type 0} (settings : JsonSettings) (reader left : Reader) (before :
   pub walk_refused : (stop : Stop) → IsByText stop
       → Refuses settings.values.depth settings.unique_names settings.values.flow before.nest.kinds.items before.nest.names reader.ahead left.before before.writer stop
       before.writer
-      → IfSome (failure_of before.writer stop)
+      → IfSome (failure_of stop)
       (λ error. StepFailed settings.values.depth settings.values.flow reader.ahead before.nest.kinds.items before.writer error before.writer)
       → WalkStep settings reader before (Err stop) left (at nest before.writer)
   walk_refused stop by_text refuses failed =
       record {
         refused = λ also. refuses;
         level = λ sound. refl;
-        kept = kept_same before.writer before.writer stop refl by_text;
+        kept = kept_by_text before.writer stop by_text;
         failed = failed;
       }
 
-  pub walk_without_memory : WalkStep settings reader before (Err stops.Memory) left (at nest before.writer)
+  pub walk_without_memory : WalkStep settings reader before (Err (stops.Failed Memory)) left (at nest before.writer)
   walk_without_memory =
       record {
         refused = λ by_text. absurd by_text;
         level = λ sound. refl;
-        kept = kept_memory before.writer;
+        kept = kept_memory failure_of before.writer (stops.Failed Memory) refl;
         failed = step_without_memory settings.values.depth settings.values.flow reader.ahead before.nest.kinds.items before.writer before.writer refl;
       }
 
@@ -204,28 +203,27 @@ module _ {A : Type 0} (settings : JsonSettings) (reader left : Reader) (before a
 
   pub walk_closed : (kind : CollectionKind) → before.nest.kinds.items ≡ outer ++ kind ∷ [] → reader.ahead ≡ closer kind ∷ left.ahead
       → left.before ≡ reader.ahead → after.nest.kinds.items ≡ take (length before.nest.kinds.items - 1) before.nest.kinds.items
-      → LeavesNames before.nest.names after.nest.names → (answer : Result (Unit {0}) yaml_error_t) (result : Result (Unit {0}) Stop)
-      → IsWritersAnswer answer result → EndsInnermost before.writer answer after.writer → WalkStep settings reader before result left after
-  walk_closed kind is first were rest leaves answer (Ok done) answers ends =
-      let kept = kept_end before.writer after.writer answer (Ok done) answers ends in
+      → LeavesNames before.nest.names after.nest.names → (result : Result (Unit {0}) Stop)
+      → Answered (EndsInnermost before.writer (Ok tt) after.writer) before.writer (end_event kind) result after.writer
+      → WalkStep settings reader before result left after
+  walk_closed kind is first were rest leaves (Ok done) all =
       record {
         stepped = step_closes settings.values.depth settings.values.flow reader.ahead before.nest.kinds.items outer kind is before.writer left.ahead
-            after.nest.kinds.items after.writer first rest (answered_end before.writer after.writer answer (Ok done) answers ends).0;
+            after.nest.kinds.items after.writer first rest all.done;
         fits = left_fits kind is rest leaves;
         names = record { taken = closer kind ∷ []; parts = first; keeps = keeps_closer kind before.nest.names after.nest.names leaves };
         last = one_read reader left (closer kind) were first;
-        kept = record { grows = kept.grows; sound = kept.sound };
+        kept = record { grows = all.kept.grows; sound = all.kept.sound };
       }
-  walk_closed kind is first were rest leaves answer (Err stop) answers ends =
-      let all = answered_end before.writer after.writer answer (Err stop) answers ends in
+  walk_closed kind is first were rest leaves (Err stop) all =
       record {
-        refused = λ by_text. absurd (all.1 by_text);
-        level = level_end before.writer after.writer answer (Err stop) answers ends;
-        kept = kept_end before.writer after.writer answer (Err stop) answers ends;
-        failed = if_some (failure_of after.writer stop)
+        refused = λ by_text. absurd (all.never by_text);
+        level = λ sound. ap (λ (w : WriterState). w.levels) (all.unmoved sound);
+        kept = all.kept;
+        failed = if_some (failure_of stop)
             (λ error. step_unclosed settings.values.depth settings.values.flow reader.ahead before.nest.kinds.items outer kind is before.writer left.ahead error
             after.writer first)
-            all.2;
+            all.failed;
       }
 
   -- an item
@@ -247,65 +245,59 @@ module _ {A : Type 0} (settings : JsonSettings) (reader left : Reader) (before a
             reader.ahead before.writer after.writer (step.same by_text) left.before were is token left.ahead first isn't stop step.refused;
         level = λ sound. ap (λ (w : WriterState). w.levels) (step.unmoved sound);
         kept = step.kept;
-        failed = if_some (failure_of after.writer stop)
+        failed = if_some (failure_of stop)
             (λ error. step_no_item settings.values.depth settings.values.flow before.nest.kinds.items outer is token isn't before.writer reader.ahead left.ahead first
             error after.writer)
             step.failed;
       }
 
--- a key
-module _ (before after : WriterState) (key : List ℕ) (bare : IsBare before) (answer : Result (Unit {0}) yaml_error_t) (result : Result (Unit {0}) Stop)
-    (answers : IsWritersAnswer answer result) (gives : Gives before (text_event before (chars key)) answer after) where
-  abbrev key_event : Event
-  key_event = scalar (text_content (chars key))
+-- the end of a collection
+pub answered_end : (before after : WriterState) (kind : CollectionKind) → IsInnermost kind before.levels → IsBare before
+    → (answer : Result (Unit {0}) yaml_error_t) (result : Result (Unit {0}) Stop) → IsStopOf answer result → EndsInnermost before answer after
+    → Answered (EndsInnermost before (Ok tt) after) before (end_event kind) result after
+answered_end before after kind inner bare answer result answers ends =
+    answered (EndsInnermost before (Ok tt) after) before after (end_event kind) answer result answers (ended answer ends)
+    (answers_end before after answer inner.outer kind inner.is bare ends) where
+      ended : (answer : Result (Unit {0}) yaml_error_t) → EndsInnermost before answer after → OnOk answer (EndsInnermost before (Ok tt) after)
+      ended (Ok done) ends = ends
+      ended (Err error) ends = tt
 
-  pub key_wrote : OnOk result (WroteEvent before key_event after) × (RefusesText result → ⊥)
-      × IfSome (emitter_error_of after result) (λ error. FailedAt before key_event error after)
-  key_wrote =
-      let given = text_event before (chars key) in
-      let same = text_is before (chars key) bare in
-      answered_at (WroteEvent before key_event after) before after key_event answer result answers
-      (on_ok answer (wrote_event before after given key_event same) (gives_ok before after given answer gives))
-      (on_err answer (λ error. event_failed before after given key_event error same refl) (gives_err before after given answer gives))
+-- the event of a key
+abbrev pub key_event : List ℕ → Event
+key_event key = scalar (text_content (chars key))
 
-  pub key_unmoved : OnErr result (StaysUnlessFailed before after)
-  key_unmoved =
-      let given = text_event before (chars key) in
-      unmoved_event before after before given answer result answers (gives_err before after given answer gives)
-
-  pub key_kept : Kept before result after
-  key_kept =
-      let given = text_event before (chars key) in
-      kept_event before after before refl given answer result answers (gives_ok before after given answer gives) (gives_err before after given answer gives)
+pub answered_key : (before after : WriterState) (key : List ℕ) → IsBare before → (answer : Result (Unit {0}) yaml_error_t) (result : Result (Unit {0}) Stop)
+    → IsStopOf answer result → Gives before (text_event before (chars key)) answer after
+    → Answered (WroteEvent before (key_event key) after) before (key_event key) result after
+answered_key before after key bare answer result answers gives =
+    answered_scalar before after (text_event before (chars key)) (key_event key) (text_is before (chars key) bare) refl answer result answers gives
 
 module _ {A : Type 0} (settings : JsonSettings) (reader middle left : Reader) (before after : JsonWalk A) (outer : List CollectionKind)
     (fits : IsNesting settings.values.depth settings.unique_names before.nest) (is : before.nest.kinds.items ≡ outer ++ Mapping ∷ []) (key : List ℕ)
     (first : reader.ahead ≡ Token.key key ∷ middle.ahead) (later : Names A) (named : WriterState) where
   -- at which the writer failed
-  pub walk_unnamed : (stop : Stop) → (IsByText stop → ⊥) → StaysUnlessFailed before.writer named → Kept before.writer (Err stop) named
-      → IfSome (failure_of named stop) (λ error. FailedAt before.writer (scalar (text_content (chars key))) error named)
+  pub walk_unnamed : (stop : Stop) → Answered (WroteEvent before.writer (key_event key) named) before.writer (key_event key) (Err stop) named
       → WalkStep settings reader before (Err stop) middle (at (record before.nest { names = later }) named)
-  walk_unnamed stop never unmoved kept failed =
+  walk_unnamed stop all =
       record {
-        refused = λ by_text. absurd (never by_text);
-        level = λ sound. ap (λ (w : WriterState). w.levels) (unmoved sound);
-        kept = kept;
-        failed = if_some (failure_of named stop)
-            (λ error failed_here. step_unnamed settings.values.depth settings.values.flow before.nest.kinds.items outer is key before.writer reader.ahead middle.ahead
+        refused = λ by_text. absurd (all.never by_text);
+        level = λ sound. ap (λ (w : WriterState). w.levels) (all.unmoved sound);
+        kept = all.kept;
+        failed = if_some (failure_of stop)
+            (λ error failed. step_unnamed settings.values.depth settings.values.flow before.nest.kinds.items outer is key before.writer reader.ahead middle.ahead
             first error named
-            (fails_scalar settings.values.flow before.nest.kinds.items before.writer named (Token.key key) (λ k. scalar (text_content (chars key))) error
-            (λ k. refl) failed_here))
-            failed;
+            (fails_event settings.values.flow before.nest.kinds.items before.writer named (Token.key key) (λ k. key_event key) error (λ k. refl) failed))
+            all.failed;
       }
 
   -- and the value after it begins
   module _ (same : later.are_kept ≡ before.nest.names.are_kept) (new : Bool)
       (adds :
       (names : List (List ℕ)) → (more : List (List (List ℕ))) → HoldsNames (names ∷ more) before.nest.names → AddsName names more key new later)
-      (fresh : new ≡ true) (wrote : WroteEvent before.writer (scalar (text_content (chars key))) named) (kept : Kept before.writer (Ok tt) named)
+      (fresh : new ≡ true) (wrote : WroteEvent before.writer (key_event key) named) (kept : Kept before.writer (Ok tt) named)
       (were : left.before ≡ middle.ahead) where
     gave : GivesTokens settings.values.flow before.nest.kinds.items before.writer (Token.key key ∷ []) before.nest.kinds.items named
-    gave = gives_scalar settings.values.flow before.nest.kinds.items before.writer named (Token.key key) (λ k. scalar (text_content (chars key))) (λ c f l. refl) (λ k. refl) wrote
+    gave = gives_scalar settings.values.flow before.nest.kinds.items before.writer named (Token.key key) (λ k. key_event key) (λ c f l. refl) (λ k. refl) wrote
 
     pub walk_member : (result : Result (Unit {0}) Stop)
         → FirstStep settings middle (at (record before.nest { names = later }) named) result left after → WalkStep settings reader before result left after
@@ -336,7 +328,7 @@ module _ {A : Type 0} (settings : JsonSettings) (reader middle left : Reader) (b
               stop step.refused;
           level = λ sound. ap (λ (w : WriterState). w.levels) (step.unmoved sound) ∙ wrote.levels;
           kept = kept_then before.writer named after.writer (Err stop) kept step.kept;
-          failed = if_some (failure_of after.writer stop)
+          failed = if_some (failure_of stop)
               (λ error. step_no_member settings.values.depth settings.values.flow before.nest.kinds.items outer is key before.writer reader.ahead middle.ahead first
               named gave error after.writer)
               step.failed;

@@ -3,14 +3,13 @@ use Rattle.json.proofs.Unique.Spelling.{value-json_tokens_back}
 use Rattle.yaml_json.proofs.Common.{suc, zero, ℕ, ◌-◌, ◌<◌, ◌≤◌, option_and_then, Option, None, Some, length, Bool, true, List, [], ◌++◌, ◌∷◌, refl, ◌≡◌}
 use Rattle.yaml_json.proofs.Common.{append-nil, append_assoc, inl, inr, ap, subst, sym, ◌∙◌, arith, left, value_is, members_no_key, left_some, value-depth}
 use Rattle.yaml_json.proofs.Common.{Json, array, object, item, member, parse_map, after_end_array, read_key, value, skip_value, Token, json_tokens}
-use Rattle.yaml_json.proofs.Common.{depth as nesting, BeginsWithinDepth, NamesOnce, all_names_after, unwind, LeavesOpen, IsScalar, opener, closer}
 use Rattle.json.proofs.Grammar.{left-parse_map, value-begin_array, value-begin_object, read_key-shorter, items_end, items_fail, items_more, members_end}
 use Rattle.json.proofs.Grammar.{members_fail, members_more, skip_value-shorter}
+use Rattle.yaml_json.proofs.NameLemmas.{once_both, once_is_unique}
+use Rattle.yaml_base.specs.declared.kinds.CollectionKind.{CollectionKind, TheVariants.Mapping, TheVariants.Sequence}
+use Rattle.yaml_json.specs.{Begins.BeginsAllowed, Walk.skip_rest, Walk.LeavesOpenAt, Walk.BeginsValueBy}
 use Rattle.json.specs.{Json.items, Json.members, Reads.skip_items, Reads.skip_members}
-use Rattle.yaml_json.{proofs.NameLemmas.once_both, proofs.NameLemmas.once_is_unique, specs.Begins.BeginsAllowed}
-use Rattle.yaml_json.{specs.Walk.skip_rest, specs.Walk.LeavesOpenAt, specs.Walk.BeginsValueBy}
-use Rattle.yaml_base.specs.declared.kinds.CollectionKind.{CollectionKind}
-use Rattle.yaml_base.specs.declared.kinds.CollectionKind.TheVariants.{Mapping, Sequence}
+use Rattle.yaml_json.proofs.Common.{depth as nesting, BeginsWithinDepth, NamesOnce, all_names_after, unwind, LeavesOpen, IsScalar, opener, closer}
 
 -- ---- the number that bounds the turns plays no part
 

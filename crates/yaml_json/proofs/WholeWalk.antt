@@ -1,18 +1,22 @@
 -- The whole walk over the tokens of a value.
 use Rattle.json.proofs.Unique.Spelling.{value-json_tokens_back}
-use Rattle.yaml_json.proofs.{Taking.stood_nothing, KeepingNames.NamesSoFar}
-use Rattle.yaml_json.proofs.Common.{ℕ, Bool, List, [], ◌++◌, ◌∷◌, refl, ◌≡◌, append-nil, append_assoc, inl, inr, ap, subst, sym, ◌∙◌, arith}
-use Rattle.yaml_json.proofs.Common.{◌+◌, ◌≤◌, length, length-append}
-use Rattle.yaml_json.proofs.Common.{append_cancel_right, left_some, value, skip_value, Token, json_tokens, BeginsWithinDepth, tokens_events, LeavesOpen}
-use Rattle.yaml_json.proofs.Common.{KeepsNames, BeganFirstValue, FirstFailed, Refuses, WalkProgress, IsBare, WriterState, json_events}
-use Rattle.yaml_base.specs.{declared.errors.yaml_error_t.yaml_error_t, declared.errors.yaml_error_t.TheVariants.Memory}
-use Rattle.yaml_base.specs.{declared.kinds.CollectionKind.CollectionKind}
+use Rattle.yaml_json.proofs.Taking.{open_levels, stood_nothing}
+use Rattle.yaml_json.proofs.KeepingNames.{NamesSoFar}
+use Rattle.yaml_json.proofs.Common.{ℕ, Bool, List, [], ◌++◌, ◌∷◌, refl, ◌≡◌, append-nil, append_assoc, inl, inr, ap, subst, sym, ◌∙◌, arith, ◌+◌, ◌≤◌, length}
+use Rattle.yaml_json.proofs.Common.{length-append, append_cancel_right, left_some, value, skip_value, Token, json_tokens, BeginsWithinDepth, tokens_events}
+use Rattle.yaml_json.proofs.Common.{LeavesOpen, KeepsNames, BeganFirstValue, FirstFailed, Refuses, WalkProgress, IsBare, WriterState, json_events}
 use Rattle.yaml_json.proofs.Stops.{gave_no_more, all_left}
 use Rattle.yaml_json.proofs.TokenLemmas.{value_given}
-use Rattle.yaml_writer.{proofs.GivenLemmas.leaves_same, proofs.GivenLemmas.wrote_same, specs.WasGiven.levels_after}
-use Rattle.yaml_json.specs.{Failing.FailedInValue, Wrote.WroteValue, declared.names.Names.Names, declared.values.Stop.Stop}
+use Rattle.yaml_writer.proofs.GivenLemmas.{leaves_same, wrote_same}
+use Rattle.yaml_writer.specs.WasGiven.{levels_after}
 use Rattle.yaml_json.proofs.Walking.{closes_value, value_begins, awaiting_whole, next_stands}
-use Rattle.yaml_json.specs.Walk.{GaveTokens, TextStopsWriting, FailsGiving, WalkedOn, StepFailed}
+use Rattle.yaml_json.specs.{Walk.IsInnermost, Walk.GaveTokens, Walk.TextStopsWriting, Walk.FailsGiving, Walk.WalkedOn, Walk.StepFailed, Failing.FailedInValue}
+use Rattle.yaml_json.specs.{Wrote.WroteValue, declared.names.Names.Names, declared.values.Stop.Stop}
+use Rattle.yaml_base.specs.declared.{errors.yaml_error_t.yaml_error_t, errors.yaml_error_t.TheVariants.Memory, kinds.CollectionKind.CollectionKind}
+
+no_first : (first more : List Token) → first ++ more ≡ [] → first ≡ []
+no_first [] more none = refl
+no_first (token ∷ first) more none = absurd (cc none)
 
 module _ (depth : ℕ) (in_flow : Bool) (start : List Token) (was : WriterState) where
   -- the first token of the value was given
@@ -35,6 +39,7 @@ module _ (depth : ℕ) (in_flow : Bool) (start : List Token) (was : WriterState)
         left = start;
         parts = refl;
         gave = record { gave = gave_no_more in_flow [] was now same was [] (stood_nothing in_flow was bare); is_error = inl memory };
+        unchanged = λ none. same;
       },
       closes_value depth [] (awaiting_whole depth start).begins,
     ),
@@ -43,8 +48,13 @@ module _ (depth : ℕ) (in_flow : Bool) (start : List Token) (was : WriterState)
   first_given : (error : yaml_error_t) (now : WriterState) → IsBare was → (token : Token) (after : List Token) → start ≡ token ∷ after
       → FailsGiving in_flow [] was (token ∷ []) error now → BeginsWithinDepth depth (token ∷ []) → FailedInValue depth in_flow start was error now
   first_given error now bare token after first (inl memory) begins = nothing_given error now bare memory.0 memory.1
-  first_given error now bare token after first (inr fails) begins =
-      (token ∷ [], (record { left = after; parts = sym first; gave = fails was [] (stood_nothing in_flow was bare) }, begins))
+  first_given error now bare token after first (inr fails) begins = (
+    token ∷ [],
+    (
+      record { left = after; parts = sym first; gave = fails was [] (stood_nothing in_flow was bare); unchanged = λ none. absurd (cc none) },
+      begins,
+    ),
+  )
 
   pub first_failed : (error : yaml_error_t) (now : WriterState) → IsBare was → FirstFailed depth in_flow start [] was error now
       → FailedInValue depth in_flow start was error now
@@ -66,25 +76,37 @@ module _ (depth : ℕ) (in_flow : Bool) (start : List Token) (was : WriterState)
           stands = step.moves so_far.taken so_far.stands;
         }
 
-    pub step_failed : (error : yaml_error_t) (later : WriterState) → StepFailed depth in_flow ahead levels now error later
-        → FailedInValue depth in_flow start was error later
-    step_failed error later failed = (
+    -- within an open collection a token was taken
+    taken_within : (outer : List CollectionKind) (kind : CollectionKind) → levels ≡ outer ++ kind ∷ [] → (more : List Token)
+        → so_far.taken ++ more ≡ [] → ⊥
+    taken_within outer kind is more none =
+        let first = no_first so_far.taken more none in
+        let count : length was.levels ≡ length was.levels + length levels =
+        ap length (sym (ap (λ (all : List Token). levels_after (tokens_events was.canonical in_flow all) was.levels) first) ∙ so_far.stood.opened)
+        ∙ length-append was.levels levels in
+        let some : length levels ≡ length outer + 1 = ap length is ∙ length-append outer (kind ∷ []) in
+        omega (arith, count, some)
+
+    pub step_failed : (outer : List CollectionKind) (kind : CollectionKind) → levels ≡ outer ++ kind ∷ [] → (error : yaml_error_t)
+        → (later : WriterState) → StepFailed depth in_flow ahead levels now error later → FailedInValue depth in_flow start was error later
+    step_failed outer kind is error later failed = (
       so_far.taken ++ failed.taken,
       (
         record {
           left = failed.left;
           parts = append_assoc so_far.taken failed.taken failed.left ∙ ap (λ (all : List Token). so_far.taken ++ all) failed.parts ∙ so_far.parts;
           gave = failed.fails was so_far.taken so_far.stood;
+          unchanged = λ none. absurd (taken_within outer kind is failed.taken none);
         },
         failed.begins so_far.taken so_far.stands,
       ),
     )
 
     -- or the text stops it
-    pub step_stopped : {A : Type 0} (unique : Bool) (held : Names A) → NamesSoFar start ahead held → (stop : Stop) (later : WriterState)
-        → (left : List Token) → Refuses depth unique in_flow levels held ahead left now stop later
-        → TextStopsWriting depth unique in_flow start left was stop later
-    step_stopped unique held names stop later left refuses =
+    pub step_stopped : {A : Type 0} (outer : List CollectionKind) (kind : CollectionKind) → levels ≡ outer ++ kind ∷ [] → (unique : Bool)
+        → (held : Names A) → NamesSoFar start ahead held → (stop : Stop) (later : WriterState) → (left : List Token)
+        → Refuses depth unique in_flow levels held ahead left now stop later → TextStopsWriting depth unique in_flow start left was stop later
+    step_stopped outer kind is unique held names stop later left refuses =
         let same = append_cancel_right names.taken so_far.taken ahead (names.parts ∙ sym so_far.parts) in
         record {
           taken = so_far.taken ++ refuses.taken;
@@ -94,6 +116,16 @@ module _ (depth : ℕ) (in_flow : Bool) (start : List Token) (was : WriterState)
           place = refuses.place so_far.taken so_far.stands (subst (λ (all : List Token). KeepsNames all held) same names.kept);
           were = all_left stop (so_far.taken ++ refuses.taken) left refuses.inside;
           gave = refuses.gave was so_far.taken so_far.stood;
+          unchanged = λ none. absurd (taken_within outer kind is refuses.taken none);
+        }
+
+    -- the innermost is so in the writer
+    pub innermost_open : (kind : CollectionKind) → IsInnermost kind levels → IsInnermost kind now.levels
+    innermost_open kind inner =
+        record {
+          outer = was.levels ++ inner.outer;
+          is = open_levels in_flow was now so_far.taken inner.outer kind
+              (subst (λ (all : List CollectionKind). GaveTokens in_flow was so_far.taken all now) inner.is so_far.stood);
         }
 
     -- within an open collection more are open than before

@@ -1,22 +1,20 @@
 -- Why a writer failed that was given the events of a text.
 use Rattle.std.proofs.Math.Path.{subst₂}
 use Rattle.json.proofs.Unique.Spelling.{value-json_tokens_back}
-use Rattle.yaml_json.proofs.Common.{ℕ, ◌<◌, Option, None, Some, Bool, List, [], ◌++◌, ◌⊎◌, refl, ◌≡◌, append-nil, append_assoc, inl, inr, ap, subst}
-use Rattle.yaml_json.proofs.Common.{sym, ◌∙◌, arith, unwrap_or, value-depth, Json, value, depth as nesting, tokens, Token, json_tokens, Event, IsPrefix}
-use Rattle.yaml_json.proofs.Common.{most_open, Settings, RefusedAt, State, BeginsWithinDepth, FailedInText, json_events, tokens_events, WroteText}
-use Rattle.yaml_json.proofs.Common.{WriterState, opening, closing, IsNewWriter, Result}
-use Rattle.yaml_emitter.proofs.Common.{IsRefusal, StandsAfter}
-use Rattle.yaml_base.specs.declared.errors.{yaml_error_t.yaml_error_t, yaml_error_t.TheVariants.Memory, yaml_error_t.TheVariants.WriteError}
-use Rattle.yaml_base.specs.declared.errors.{yaml_error_t.TheVariants.TooDeep}
-use Rattle.yaml_emitter.proofs.standing.{StandingPromises.promises_refusal}
-use Rattle.yaml_json.proofs.{Accepting.json_accepted, Accepting.never_passes, Accepting.stream_of, Accepting.stream_sound, Accepting.tree_flat}
-use Rattle.yaml_json.proofs.{Accepting.tree_of, TokenLemmas.some_then, TokenLemmas.value_given}
+use Rattle.yaml_json.proofs.Common.{ℕ, ◌<◌, Option, None, Some, Bool, List, [], ◌++◌, ◌⊎◌, refl, ◌≡◌, append-nil, append_assoc, inl, inr, ap, subst, most_open}
+use Rattle.yaml_json.proofs.Common.{Settings, RefusedAt, State, BeginsWithinDepth, FailedInText, json_events, tokens_events, WroteText, WriterState, opening}
+use Rattle.yaml_json.proofs.Common.{closing, IsNewWriter, Result}
+use Rattle.yaml_json.proofs.Accepting.{json_accepted, never_passes, stream_of, stream_sound, tree_flat, tree_of}
+use Rattle.yaml_json.proofs.TokenLemmas.{some_then, value_given}
 use Rattle.yaml_json.specs.Failing.{JsonFailsBy, NestsPastMost, OverLimit}
 use Rattle.yaml_json.proofs.YamlOf.{opened_events}
 use Rattle.yaml_pen.specs.Page.{result_of_error}
 use Rattle.yaml_emitter.specs.Emits.{Emits}
 use Rattle.yaml_writer.proofs.WhyFailed.{fails_by, first_passes, overflowed_more, refused_deeper, refused_depth, unfinished_deeper, unfinished_depth}
 use Rattle.yaml_writer.specs.Unfinished.{IsNoStream, IsUnfinished, PassesLimit}
+use Rattle.yaml_base.specs.declared.errors.yaml_error_t.{yaml_error_t, TheVariants.Memory, TheVariants.WriteError, TheVariants.TooDeep}
+use Rattle.yaml_emitter.proofs.{Common.IsRefusal, Common.StandsAfter, standing.StandingPromises.promises_refusal}
+use Rattle.yaml_json.proofs.Common.{sym, ◌∙◌, arith, unwrap_or, value-depth, Json, value, depth as nesting, tokens, Token, json_tokens, Event, IsPrefix}
 
 -- a text is one value
 same_json : (a b : Json) → ◌≡◌ {A = Option (Json × List Token)} (Some (a, [])) (Some (b, [])) → a ≡ b

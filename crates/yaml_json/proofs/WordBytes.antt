@@ -1,16 +1,13 @@
 -- A word that is a token has no quote.
-use Rattle.std.proofs.Common.{◌≡◌, ℕ, suc, ◌+◌, ◌-◌, Bool, true, false, cond, ◌||◌, ◌&&◌, ◌==◌, List, [], ◌∷◌, ◌++◌, drop, length, take}
-use Rattle.std.proofs.Common.{Option, Some, None, option_and_then, refl, sym, ap, ◌∙◌, subst, arith, nat_eq, append_assoc}
-use Rattle.std.proofs.lemmas.Bool.{true≢false, eqb-true, and_parts}
-use Rattle.std.proofs.lemmas.Bool.Decides.{nat_tests}
-use Rattle.std.specs.Char.{is_ascii_digit}
-use Rattle.std.specs.List.{prefix_len, starts_with}
-use Rattle.json.specs.Ascii as ascii
+use Rattle.std.proofs.Common.{◌≡◌, ℕ, suc, ◌+◌, ◌-◌, Bool, true, false, cond, ◌||◌, ◌&&◌, ◌==◌, List, [], ◌∷◌, ◌++◌, drop, length, take, Option, Some, None}
+use Rattle.std.proofs.Common.{option_and_then, refl, sym, ap, ◌∙◌, subst, arith, nat_eq, append_assoc}
 use Rattle.json.specs.Token.{Token, bad, boolean, null, number}
-use Rattle.json.specs.Word.{after_digits, after_exponent, after_fraction, after_minus, after_number, after_sign, after_whole, ends_word, head}
-use Rattle.json.specs.Word.{is_operator, is_space, literal, number_before, word}
-use Rattle.yaml_json.proofs.LexSteps.{value_is}
-use Rattle.yaml_json.proofs.WordSteps.{chained, pick}
+use Rattle.json.specs.Word.{after_digits, after_exponent, after_fraction, after_minus, after_number, after_sign, after_whole, ends_word, head, is_operator}
+use Rattle.json.specs.Word.{is_space, literal, number_before, word}
+use Rattle.std.proofs.lemmas.Bool.{true≢false, eqb-true, and_parts, Decides.nat_tests}
+use Rattle.yaml_json.proofs.{LexSteps.value_is, WordSteps.chained, WordSteps.pick}
+use Rattle.std.specs.{Char.is_ascii_digit, List.prefix_len, List.starts_with}
+use Rattle.json.specs.Ascii as ascii
 
 abbrev NoQuote : ℕ → Type 0
 NoQuote x = (x == 34) ≡ false

@@ -1,18 +1,16 @@
 -- The lexer's mode over a word: a number, or the name of a value.
-use Rattle.std.proofs.Common.{◌≡◌, ℕ, suc, ◌+◌, Bool, true, false, cond, ◌||◌, ◌==◌, List, [], ◌∷◌, ◌++◌, drop, length, Some, None}
-use Rattle.std.proofs.Common.{option_and_then, refl, sym, inl, inr, ap, ◌∙◌, subst, arith, nat_eq}
+use Rattle.std.proofs.Common.{◌≡◌, ℕ, suc, ◌+◌, Bool, true, false, cond, ◌||◌, ◌==◌, List, [], ◌∷◌, ◌++◌, drop, length, Some, None, option_and_then, refl, sym}
+use Rattle.std.proofs.Common.{inl, inr, ap, ◌∙◌, subst, arith, nat_eq}
 use Rattle.std.proofs.lemmas.Bool.{true≢false, eqb-true, or_parts, and_parts}
-use Rattle.std.specs.Char.{is_ascii_digit}
-use Rattle.json.specs.Ascii as ascii
-use Rattle.std.specs.List.{prefix_len, starts_with}
 use Rattle.json.specs.Lex.{backslash, between, class, in_word, operator, other, quote, space}
-use Rattle.json.specs.Word.{after_digits, after_exponent, after_fraction, after_minus, after_number, after_sign, after_whole, ends_word, head}
-use Rattle.json.specs.Word.{is_operator, is_space}
-use Rattle.yaml_json.specs.Lexemes.{IsInWord}
-use Rattle.yaml_json.specs.Lexing.{GoesOver, Leads, mode_after, mode_over}
+use Rattle.json.specs.Word.{after_digits, after_exponent, after_fraction, after_minus, after_number, after_sign, after_whole, ends_word, head, is_operator}
+use Rattle.json.specs.Word.{is_space}
 use Rattle.yaml_json.proofs.LexSteps.{value_is}
 use Rattle.yaml_json.proofs.ModeSteps.{goes_nowhere, goes_on}
 use Rattle.yaml_json.proofs.WordSteps.{Inner, chained, digit_inner, letter_inner, other_inner, pick, sign_inner}
+use Rattle.std.specs.{Char.is_ascii_digit, List.prefix_len, List.starts_with}
+use Rattle.yaml_json.specs.{Lexemes.IsInWord, Lexing.GoesOver, Lexing.Leads, Lexing.mode_after, Lexing.mode_over}
+use Rattle.json.specs.Ascii as ascii
 
 abbrev pub InWord : (text rest : List ℕ) → Type 0
 InWord text rest = GoesOver in_word text rest in_word

@@ -1,17 +1,15 @@
 -- The lexer over a word: a number, or the name of a value.
-use Rattle.std.proofs.Common.{◌≡◌, ℕ, suc, ◌+◌, Bool, true, false, cond, ◌||◌, ◌==◌, List, [], ◌∷◌, drop, length, Option, Some, None, option_and_then, refl, ap}
-use Rattle.std.proofs.Common.{sym, ◌∙◌, ◌&&◌, ◌-◌, subst, arith, nat_eq, take, length-drop}
-use Rattle.std.proofs.lemmas.Bool.{true≢false, eqb-true, ne_eqb, or_parts, and_parts}
-use Rattle.std.proofs.lemmas.Bool.Decides.{nat_tests}
-use Rattle.std.specs.Char.{is_ascii_digit}
-use Rattle.json.specs.Ascii as ascii
-use Rattle.std.specs.List.{prefix_len, starts_with}
+use Rattle.std.proofs.Common.{◌≡◌, ℕ, suc, ◌+◌, Bool, true, false, cond, ◌||◌, ◌==◌, List, [], ◌∷◌, drop, length, Option, Some, None, option_and_then, refl}
+use Rattle.std.proofs.Common.{ap, sym, ◌∙◌, ◌&&◌, ◌-◌, subst, arith, nat_eq, take, length-drop}
 use Rattle.json.specs.Lex.{backslash, between, class, in_word, lex, operator, other, quote, space}
-use Rattle.json.specs.Word.{after_digits, after_exponent, after_fraction, after_minus, after_number, after_sign, after_whole, ends_word, head}
+use Rattle.json.specs.Word.{after_digits, after_exponent, after_fraction, after_minus, after_number, after_sign, after_whole, ends_word, head, is_operator}
+use Rattle.json.specs.Word.{is_space, literal, number_before, word}
 use Rattle.json.specs.Token.{Token, bad, boolean, null, number}
-use Rattle.json.specs.Word.{is_operator, is_space, literal, number_before, word}
 use Rattle.yaml_json.specs.Lexemes.{IsInWord, LeavesAt}
 use Rattle.yaml_json.proofs.LexSteps.{lex-delimiter, lex-in_word, lex-none, value_is}
+use Rattle.std.proofs.lemmas.Bool.{true≢false, eqb-true, ne_eqb, or_parts, and_parts, Decides.nat_tests}
+use Rattle.std.specs.{Char.is_ascii_digit, List.prefix_len, List.starts_with}
+use Rattle.json.specs.Ascii as ascii
 
 -- a word goes on over the byte
 abbrev pub Inner : ℕ → Type 0

@@ -1,14 +1,14 @@
 -- The streams of JSON texts.
 use Rattle.yaml_json.proofs.Common.{ℕ, flat_map, Some, Bool, true, List, [], ◌++◌, ◌∷◌, refl, ◌≡◌, append-nil, ap, ap₂, subst, ◌∙◌, and_from, list_all-append}
 use Rattle.yaml_json.proofs.Common.{list_all, Json, value, tokens, HasNumbers, Event, has_scalar_texts, Settings, json_events, WasGiven, WroteText, AreJson}
-use Rattle.yaml_json.proofs.Common.{parts_events, ReadsTexts, State, WriterState, opening, closing, IsNewWriter}
+use Rattle.yaml_json.proofs.Common.{parts_events, ReadsTexts, WriterState, opening, closing, IsNewWriter}
 use Rattle.json.proofs.Numbered.{ArePrintableOrBad-tokens, value-HasNumbers}
-use Rattle.yaml_json.{proofs.JsonReads.HaveNumbers, proofs.JsonReads.reads_as_values, proofs.JsonReads.reads_as_json, proofs.Trees.values_of}
-use Rattle.yaml_writer.proofs.WholeStreams.{stream_whole, whole_by_either}
-use Rattle.yaml_writer.specs.{WasGiven.EmitsTaking, Writing.Finishes}
-use Rattle.yaml_json.{specs.Wrote.IsYamlOfTexts, specs.Wrote.IsYamlOf}
+use Rattle.yaml_json.proofs.JsonReads.{HaveNumbers, reads_as_values, reads_as_json}
+use Rattle.yaml_json.proofs.Trees.{values_of}
+use Rattle.yaml_json.specs.Wrote.{IsYamlOfTexts, IsYamlOf}
 use Rattle.yaml_emitter.specs.State.{bytes_taken}
-use Rattle.yaml_writer.proofs.GivenAndTaken.{emits_untaken, stream_finished}
+use Rattle.yaml_writer.specs.{WasGiven.EmitsTaking, Writing.Finishes}
+use Rattle.yaml_writer.proofs.{WholeStreams.stream_whole, WholeStreams.whole_by_either, GivenAndTaken.emits_untaken, GivenAndTaken.stream_finished}
 
 -- each number of a value that was read is one
 text_has_numbers : (depth : ℕ) (text : List ℕ) (json : Json) → value depth (tokens text) ≡ Some (json, []) → HasNumbers json

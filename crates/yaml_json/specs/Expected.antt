@@ -8,8 +8,6 @@ use Rattle.yaml_base.specs.declared.kinds.CollectionKind.{CollectionKind}
 use Rattle.yaml_base.specs.declared.kinds.CollectionKind.TheVariants.{Mapping, Sequence}
 use Rattle.yaml_json.specs.Texts.{is_closer, is_opener}
 use Rattle.yaml_json.specs.Walk.{IsOpener, IsScalar}
-use Rattle.yaml_json.specs.declared.error.JsonError.{JsonError}
-use Rattle.yaml_json.specs.declared.error.JsonError.TheVariants as errors
 use Rattle.yaml_json.specs.declared.expecting.Depth.{Depth}
 use Rattle.yaml_json.specs.declared.expecting.Expected.{Expected}
 use Rattle.yaml_json.specs.declared.expecting.Expected.TheVariants as expected
@@ -124,11 +122,6 @@ expected_of standing ended =
 abbrev pub expected_at : (text : List ℕ) → (at : ℕ) → Expected
 expected_at text at = expected_of (standing_over start (take at text)) (nat_le (length text) at)
 
--- If the text is no JSON, the error names that input.
-abbrev pub SaysExpected : (text : List ℕ) → (at : ℕ) → JsonError → Type 0
-SaysExpected text at (errors.NotJson position says) = says ≡ expected_at text at
-SaysExpected text at _ = Unit {0}
-
 -- in words
 abbrev pub words : Expected → List ℕ
 words expected.Text = codes "there is no JSON text"
@@ -140,6 +133,12 @@ words expected.Colon = codes "expected ':'"
 words expected.CommaOrBracket = codes "expected ',' or ']'"
 words expected.CommaOrBrace = codes "expected ',' or '}'"
 words expected.End = codes "expected the end of the text"
+words expected.Control = codes "a control character in a string"
+words expected.Escape = codes "invalid escape"
+words expected.Surrogate = codes "half of a surrogate pair"
+words expected.Quote = codes "expected a closing quote"
+words expected.LeadingZero = codes "a leading zero"
+words expected.Digit = codes "expected a digit"
 words expected.Utf8 = codes "not UTF-8"
 
 -- ---- the lexemes of that input
@@ -163,7 +162,7 @@ Names expected.Colon next = next ≡ Some colon
 Names expected.CommaOrBracket next = (next ≡ Some comma) ⊎ (next ≡ Some (token Token.end_array))
 Names expected.CommaOrBrace next = (next ≡ Some comma) ⊎ (next ≡ Some (token Token.end_object))
 Names expected.End next = next ≡ None
-Names expected.Utf8 next = ⊥
+Names _ next = ⊥
 
 -- ---- by counting
 

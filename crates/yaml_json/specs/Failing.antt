@@ -1,5 +1,5 @@
 -- Why a writer fails that is given the events of a text, and the events that it was given until then.
-use Rattle.std.specs.Prelude.{◌≡◌, ◌≢◌, ◌⊎◌, ℕ, ◌<◌, ◌≤◌, Bool, Option, None, Some, unwrap_or, Result, Ok, Err, List, [], ◌++◌, flat_map, length}
+use Rattle.std.specs.Prelude.{◌≡◌, ℕ, ◌<◌, ◌≤◌, Bool, Option, None, Some, Result, Ok, Err, List, [], ◌++◌, flat_map, length}
 use Rattle.json.specs.Token.{Token}
 use Rattle.json.specs.Lex.{tokens}
 use Rattle.json.specs.Json.{Json, value}
@@ -8,13 +8,13 @@ use Rattle.yaml_base.specs.Event.{Event}
 use Rattle.yaml_base.specs.Refusal.{most_open}
 use Rattle.yaml_base.specs.Settings.{Settings}
 use Rattle.yaml_base.specs.declared.errors.yaml_error_t.{yaml_error_t}
-use Rattle.yaml_base.specs.declared.errors.yaml_error_t.TheVariants.{Memory}
 use Rattle.yaml_pen.specs.Wrote.{Grows}
 use Rattle.yaml_emitter.specs.Uncut.{IsUncut}
-use Rattle.yaml_writer.specs.Failing.{FailedHaving, HasErrorSaid, StaysSound}
+use Rattle.yaml_writer.specs.Answering.{IsAnswerBy, KeptBy}
+use Rattle.yaml_writer.specs.Failing.{FailedHaving, HasErrorSaid}
 use Rattle.yaml_writer.specs.Unfinished.{FailsBy, PassesLimit}
 use Rattle.yaml_writer.specs.WasGiven.{between}
-use Rattle.yaml_writer.specs.Writing.{EndedCollection, WriterState, closing, opening}
+use Rattle.yaml_writer.specs.Writing.{WriterState, closing, opening}
 use Rattle.yaml_json.specs.Begins.{BeginsWithinDepth}
 use Rattle.yaml_json.specs.JsonEvents.{json_events}
 use Rattle.yaml_json.specs.TokenEvents.{tokens_events}
@@ -25,31 +25,17 @@ use Rattle.yaml_json.specs.declared.values.Stop.TheVariants as stops
 
 -- ---- the error of the writer, if there is one
 
-abbrev pub failure_of : WriterState → Stop → Option yaml_error_t
-failure_of now (stops.NotJson spot) = None
-failure_of now stops.TooDeep = None
-failure_of now stops.NameAgain = None
-failure_of now stops.Memory = Some Memory
-failure_of now stops.Failed = Some (unwrap_or now.emitter.error Memory)
+abbrev pub failure_of : Stop → Option yaml_error_t
+failure_of (stops.Failed error) = Some error
+failure_of _ = None
 
-abbrev pub emitter_error_of : WriterState → Result (Unit {0}) Stop → Option yaml_error_t
-emitter_error_of now (Ok done) = None
-emitter_error_of now (Err stop) = failure_of now stop
+abbrev pub emitter_error_of : Result (Unit {0}) Stop → Option yaml_error_t
+emitter_error_of (Ok done) = None
+emitter_error_of (Err stop) = failure_of stop
 
--- the stop tells of this error of the writer
-abbrev pub TellsOf : yaml_error_t → Stop → Type 0
-TellsOf error (stops.NotJson spot) = ⊥
-TellsOf error stops.TooDeep = ⊥
-TellsOf error stops.NameAgain = ⊥
-TellsOf error stops.Memory = error ≡ Memory
-TellsOf error stops.Failed = error ≢ Memory
-
--- the writer's answer, without its error
-abbrev pub IsWritersAnswer : Result (Unit {0}) yaml_error_t → Result (Unit {0}) Stop → Type 0
-IsWritersAnswer (Ok done) (Ok same) = Unit {0}
-IsWritersAnswer (Ok done) (Err stop) = ⊥
-IsWritersAnswer (Err error) (Ok done) = ⊥
-IsWritersAnswer (Err error) (Err stop) = TellsOf error stop
+-- the writer's answer
+abbrev pub IsStopOf : Result (Unit {0}) yaml_error_t → Result (Unit {0}) Stop → Type 0
+IsStopOf = IsAnswerBy (λ (error : yaml_error_t). stops.Failed error)
 
 abbrev pub writers_error : JsonError → Option yaml_error_t
 writers_error (errors.Emitter error) = Some error
@@ -57,15 +43,12 @@ writers_error _ = None
 
 -- ---- the events that were given
 
--- the innermost collection was ended, and the emitter has this error now; or none was open, and nothing changed
-abbrev pub FailedAtEnd : WriterState → yaml_error_t → WriterState → Type 0
-FailedAtEnd was error now = ((was.levels ≡ []) × (now ≡ was)) ⊎ EndedCollection was (Err error) now
-
--- the events of the first of some tokens were given
+-- The events of the first of some tokens were given. If there is no first, nothing changed.
 pub record FailedAfter (in_flow : Bool) (taken ahead : List Token) (was : WriterState) (error : yaml_error_t) (now : WriterState) : Type 0 where
   pub left : List Token
   pub parts : taken ++ left ≡ ahead
   pub gave : FailedHaving was (tokens_events was.canonical in_flow taken) error now
+  pub unchanged : taken ≡ [] → now ≡ was
 
 -- the events of the first of these tokens were given to the emitter, and some value nested at most `depth` deep begins with the
 -- tokens of these events; then an allocation failed, or the emitter has this error now
@@ -83,10 +66,6 @@ events_with_separators canonical in_flow parts = flat_map (λ part. json_events 
 
 -- ---- that nothing changed
 
--- If the emitter has no error, nothing changed.
-abbrev pub StaysUnlessFailed : WriterState → WriterState → Type 0
-StaysUnlessFailed was now = now.emitter.error ≡ None → now ≡ was
-
 -- If the emitter has no error, the same collections are open.
 abbrev pub StaysLevelUnlessFailed : WriterState → WriterState → Type 0
 StaysLevelUnlessFailed was now = now.emitter.error ≡ None → now.levels ≡ was.levels
@@ -97,17 +76,9 @@ StaysUnlessOpened was now = now.emitter.error ≡ None → length now.levels ≤
 
 -- ---- the result of a call
 
--- the emitter has no error after a success, and none more after the text stopped the writing, or an allocation of the call's own
-abbrev pub SoundAfter : WriterState → Result (Unit {0}) Stop → WriterState → Type 0
-SoundAfter was (Ok done) now = now.emitter.error ≡ None
-SoundAfter was (Err stops.Memory) now = StaysSound was now ⊎ (now.emitter.error ≡ Some Memory)
-SoundAfter was (Err stops.Failed) now = Unit {0}
-SoundAfter was (Err stop) now = StaysSound was now
-
--- and its text and its output only grow
-pub record Kept (was : WriterState) (result : Result (Unit {0}) Stop) (now : WriterState) : Type 0 where
-  pub grows : Grows was.emitter.page now.emitter.page
-  pub sound : SoundAfter was result now
+-- the emitter has no error after a success, and none more after the text stopped the writing, and its text and its output only grow
+abbrev pub Kept : WriterState → Result (Unit {0}) Stop → WriterState → Type 0
+Kept = KeptBy failure_of
 
 -- the error is the one that the emitter has now, as is said; and its text and its output only grow
 pub record Grew (was : WriterState) (found : Option yaml_error_t) (now : WriterState) : Type 0 where

@@ -11,6 +11,7 @@ pub mod Reached
 pub mod Wrote
 pub mod Begins
 pub mod Expected
+pub mod Faults
 pub mod Refused
 pub mod Failing
 pub mod Names

@@ -29,13 +29,11 @@ IsOffset text last (stops.NotJson PastString) at = IsPast text last at
 IsOffset text last (stops.NotJson PastValue) at = IsPast text last at
 IsOffset text last stops.TooDeep at = at ≡ last
 IsOffset text last stops.NameAgain at = at ≡ last
-IsOffset text last stops.Memory at = at ≡ last
-IsOffset text last stops.Failed at = at ≡ last
+IsOffset text last (stops.Failed error) at = at ≡ last
 
 -- the text stops the writing at the lexeme that begins here
 abbrev pub StopsAtLexeme : (depth : ℕ) → (text : List ℕ) → (at : ℕ) → Stop → Type 0
 StopsAtLexeme depth text at (stops.NotJson spot) = CannotStandAt IsAny text at
 StopsAtLexeme depth text at stops.TooDeep = CannotStandAt (IsWithinDepth depth) text at
 StopsAtLexeme depth text at stops.NameAgain = CannotStandAt HasUniqueKeys text at
-StopsAtLexeme depth text at stops.Memory = Unit {0}
-StopsAtLexeme depth text at stops.Failed = Unit {0}
+StopsAtLexeme depth text at (stops.Failed error) = Unit {0}

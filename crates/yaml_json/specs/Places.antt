@@ -8,6 +8,7 @@ use Rattle.json.specs.Tree.{depth as nesting, json_tokens}
 use Rattle.yaml_base.specs.Positions.{IsPositionOf}
 use Rattle.yaml_json.specs.Ahead.{IsTrimmed}
 use Rattle.yaml_json.specs.Expected.{Names, expected_at}
+use Rattle.yaml_json.specs.Faults.{said_at}
 use Rattle.yaml_json.specs.Lexing.{MayBegin, mode_over}
 use Rattle.yaml_json.specs.declared.error.JsonError.{JsonError}
 use Rattle.yaml_json.specs.declared.error.JsonError.TheVariants as errors
@@ -22,6 +23,20 @@ IsAt text at (errors.Marked position) = IsPositionOf text at position
 IsAt text at (errors.TooDeep position) = IsPositionOf text at position
 IsAt text at (errors.DuplicateName position) = IsPositionOf text at position
 IsAt text at (errors.Emitter error) = Unit {0}
+
+-- The offset of an error by that of the lexeme that isn't possible.
+abbrev pub offset_by : (text : List ℕ) → (lexeme : ℕ) → JsonError → ℕ
+offset_by text lexeme (errors.NotJson position says) = (said_at text lexeme).1
+offset_by text lexeme _ = lexeme
+
+-- If the text is no JSON, the error says what is wrong with the lexeme, or which input is possible there.
+abbrev pub SaysFault : (text : List ℕ) → (lexeme : ℕ) → JsonError → Type 0
+SaysFault text lexeme (errors.NotJson position says) = says ≡ (said_at text lexeme).0
+SaysFault text lexeme _ = Unit {0}
+
+-- The error is at its offset in a part of a text, before which there are so many bytes.
+abbrev pub IsAtIn : (text : List ℕ) → (before : ℕ) → (part : List ℕ) → (lexeme : ℕ) → JsonError → Type 0
+IsAtIn text before part lexeme error = before + offset_by part lexeme error ≤ length text → IsAt text (before + offset_by part lexeme error) error
 
 -- ---- the lexeme that isn't possible at its place
 
@@ -68,15 +83,16 @@ abbrev pub IsWithinDepth : (depth : ℕ) → Json → Type 0
 IsWithinDepth depth json = nesting json ≤ depth
 
 -- The error is at the first lexeme that isn't possible at its place, or at the text's end: in any value; in one that nests at most
--- `depth` deep; in one whose objects have each name once. If the text is no JSON, the error names the input that is possible there.
+-- `depth` deep; in one whose objects have each name once. If the text is no JSON, the error names the input that is possible there; or it
+-- names the lexeme's fault, and is at the fault.
 abbrev pub IsPlacedAt : (depth : ℕ) → (text : List ℕ) → (at : ℕ) → JsonError → Type 0
-IsPlacedAt depth text at (errors.NotJson position says) = CannotStandAt IsAny text at × (says ≡ expected_at text at)
+IsPlacedAt depth text at (errors.NotJson position says) = (lexeme : ℕ) × (CannotStandAt IsAny text lexeme × (said_at text lexeme ≡ (says, at)))
 IsPlacedAt depth text at (errors.Marked position) = CannotStandAt IsAny text at
 IsPlacedAt depth text at (errors.TooDeep position) = CannotStandAt (IsWithinDepth depth) text at
 IsPlacedAt depth text at (errors.DuplicateName position) = CannotStandAt HasUniqueKeys text at
 IsPlacedAt depth text at (errors.Emitter error) = Unit {0}
 
--- The position of the error, if it has one, is that of that lexeme.
+-- The position of the error, if it has one, is that place.
 abbrev pub HasPlace : (depth : ℕ) → (text : List ℕ) → JsonError → Type 0
 HasPlace depth text error = (at : ℕ) × (IsAt text at error × IsPlacedAt depth text at error)
 

@@ -15,11 +15,8 @@ use Rattle.yaml_json.specs.declared.values.Stop.TheVariants as stops
 
 -- the text stops the writing, and not the writer
 abbrev pub IsByText : Stop → Type 0
-IsByText (stops.NotJson spot) = Unit {0}
-IsByText stops.TooDeep = Unit {0}
-IsByText stops.NameAgain = Unit {0}
-IsByText stops.Memory = ⊥
-IsByText stops.Failed = ⊥
+IsByText (stops.Failed error) = ⊥
+IsByText _ = Unit {0}
 
 -- the text was refused
 abbrev pub RefusesText : Result (Unit {0}) Stop → Type 0

@@ -1,5 +1,5 @@
 -- The part of a text, or of the texts of a text, that was taken before an error: the events that the writer was given, and why no more.
-use Rattle.std.specs.Prelude.{◌≡◌, ℕ, Bool, List, ◌∷◌, ◌++◌, flat_map, map}
+use Rattle.std.specs.Prelude.{◌≡◌, ℕ, Bool, List, [], ◌∷◌, ◌++◌, flat_map, map}
 use Rattle.json.specs.Token.{Token}
 use Rattle.json.specs.Lex.{tokens}
 use Rattle.json.specs.Json.{Json}
@@ -15,7 +15,7 @@ use Rattle.yaml_json.specs.TokenEvents.{tokens_events}
 use Rattle.yaml_json.specs.Wrote.{AreJson}
 use Rattle.yaml_json.specs.declared.error.JsonError.{JsonError}
 
--- the writer was given the events of the text's first tokens, and no more, for this reason
+-- The writer was given the events of the text's first tokens, and no more, for this reason. If there are no first tokens, nothing changed.
 pub record StopsInText (depth : ℕ) (unique in_flow : Bool) (text : List ℕ) (was : WriterState) (error : JsonError) (now : WriterState) : Type 0 where
   pub taken : List Token
   pub left : List Token
@@ -23,6 +23,7 @@ pub record StopsInText (depth : ℕ) (unique in_flow : Bool) (text : List ℕ) (
   pub why : TokensStopAt depth unique text taken left error
   pub emits : Emits was.emitter (tokens_events was.canonical in_flow taken) (result_of_error now.emitter.error) now.emitter
   pub usable : StaysUsable was (tokens_events was.canonical in_flow taken) now
+  pub unchanged : taken ≡ [] → now ≡ was
 
 -- the first of the texts in a text are allowed, and the writer was given their events, with a document begun after each, and then those of
 -- the first tokens of the next text, and no more, for this reason, which has its place there

@@ -161,16 +161,14 @@ abbrev pub RefusesToken : (depth : ℕ) → List CollectionKind → Token → St
 RefusesToken depth levels token (stops.NotJson spot) = BeginsNone token × (spot ≡ spot_of token)
 RefusesToken depth levels token stops.TooDeep = IsOpener token × (length levels ≡ depth)
 RefusesToken depth levels token stops.NameAgain = ⊥
-RefusesToken depth levels token stops.Memory = Unit {0}
-RefusesToken depth levels token stops.Failed = Unit {0}
+RefusesToken depth levels token (stops.Failed error) = Unit {0}
 
 -- no token is left, or an allocation failed
 abbrev pub ReadsNone : List Token → Stop → Type 0
 ReadsNone ahead (stops.NotJson spot) = (ahead ≡ []) × (spot ≡ At)
 ReadsNone ahead stops.TooDeep = ⊥
 ReadsNone ahead stops.NameAgain = ⊥
-ReadsNone ahead stops.Memory = Unit {0}
-ReadsNone ahead stops.Failed = ⊥
+ReadsNone ahead (stops.Failed error) = error ≡ Memory
 
 -- ---- the first token of a value
 
@@ -199,8 +197,7 @@ abbrev pub EndsEarly : Stop → Type 0
 EndsEarly (stops.NotJson spot) = spot ≡ At
 EndsEarly stops.TooDeep = ⊥
 EndsEarly stops.NameAgain = ⊥
-EndsEarly stops.Memory = Unit {0}
-EndsEarly stops.Failed = Unit {0}
+EndsEarly (stops.Failed error) = Unit {0}
 
 -- no token is left, or the first is refused
 abbrev pub RefusesFirst : (depth : ℕ) → List CollectionKind → List Token → Stop → Type 0
@@ -240,8 +237,7 @@ abbrev pub WhyStopped : (depth : ℕ) → (unique : Bool) → (taken left : List
 WhyStopped depth unique taken left (stops.NotJson spot) = TokensBreakAt depth unique taken left
 WhyStopped depth unique taken left stops.TooDeep = OpensTooDeepAt depth unique taken left
 WhyStopped depth unique taken left stops.NameAgain = NamesTwiceAt depth unique taken left
-WhyStopped depth unique taken left stops.Memory = Unit {0}
-WhyStopped depth unique taken left stops.Failed = Unit {0}
+WhyStopped depth unique taken left (stops.Failed error) = Unit {0}
 
 -- ---- at which lexeme
 
@@ -289,8 +285,7 @@ abbrev pub WhereStopped : (depth : ℕ) → (unique : Bool) → (taken left : Li
 WhereStopped depth unique taken left (stops.NotJson spot) = IsSpot depth unique spot taken left
 WhereStopped depth unique taken left stops.TooDeep = GoesOn depth unique taken × NoStringNext left
 WhereStopped depth unique taken left stops.NameAgain = GoesOn depth unique taken × NoStringStands taken left
-WhereStopped depth unique taken left stops.Memory = Unit {0}
-WhereStopped depth unique taken left stops.Failed = Unit {0}
+WhereStopped depth unique taken left (stops.Failed error) = Unit {0}
 
 -- These tokens were left when the last was read: those ahead, and before them, if a value is whole, its last.
 abbrev pub WereLeft : Stop → (taken left before : List Token) → Type 0
@@ -316,7 +311,8 @@ pub record Refuses {A : Type 0} (depth : ℕ) (unique in_flow : Bool) (levels : 
   pub why : (so : List Token) → LeavesOpen depth so levels → KeepsNames so held → WhyStopped depth unique (so ++ taken) left stop
   pub place : (so : List Token) → LeavesOpen depth so levels → KeepsNames so held → WhereStopped depth unique (so ++ taken) left stop
 
--- the text stops the writing after the first of these tokens, whose events were given; these were left when the last was read
+-- The text stops the writing after the first of these tokens, whose events were given; these were left when the last was read. If there
+-- is no first, nothing changed.
 pub record TextStopsWriting (depth : ℕ) (unique in_flow : Bool) (all before : List Token) (was : WriterState) (stop : Stop) (now : WriterState)
     : Type 0 where
   pub taken : List Token
@@ -326,6 +322,7 @@ pub record TextStopsWriting (depth : ℕ) (unique in_flow : Bool) (all before : 
   pub place : WhereStopped depth unique taken left stop
   pub were : WereLeft stop taken left before
   pub gave : GaveEvents was (tokens_events was.canonical in_flow taken) now
+  pub unchanged : taken ≡ [] → now ≡ was
 
 -- so of the tokens of a text
 abbrev pub StopsText : (depth : ℕ) → (unique in_flow : Bool) → (text : List ℕ) → WriterState → Stop → WriterState → Type 0
@@ -349,6 +346,5 @@ MatchesStop text (stops.NotJson spot) (errors.NotJson position says) = is_marked
 MatchesStop text (stops.NotJson spot) (errors.Marked position) = is_marked text ≡ true
 MatchesStop text stops.TooDeep (errors.TooDeep position) = Unit {0}
 MatchesStop text stops.NameAgain (errors.DuplicateName position) = Unit {0}
-MatchesStop text stops.Memory (errors.Emitter returned) = Unit {0}
-MatchesStop text stops.Failed (errors.Emitter returned) = Unit {0}
+MatchesStop text (stops.Failed error) (errors.Emitter returned) = Unit {0}
 MatchesStop _ _ _ = ⊥

@@ -2,8 +2,9 @@
 use Rattle.std.specs.Prelude.{◌≡◌, ℕ, true, IfSome, IsSome, Result, Ok, Err, List, [], ◌∷◌}
 use Rattle.json.specs.Lex.{tokens}
 use Rattle.json.specs.Token.{Token}
+use Rattle.yaml_writer.specs.Answering.{StaysUnlessFailed}
 use Rattle.yaml_writer.specs.Writing.{WriterState}
-use Rattle.yaml_json.specs.Failing.{FailedInText, FailedInValue, Kept, StaysLevelUnlessFailed, StaysUnlessFailed, StaysUnlessOpened, failure_of}
+use Rattle.yaml_json.specs.Failing.{FailedInText, FailedInValue, Kept, StaysLevelUnlessFailed, StaysUnlessOpened, failure_of}
 use Rattle.yaml_json.specs.Names.{NamesOnce}
 use Rattle.yaml_json.specs.Nests.{HasNoneOpen, IsNesting}
 use Rattle.yaml_json.specs.Offsets.{StopsAtLexeme}
@@ -40,7 +41,7 @@ pub record TokenStopped {A : Type 0} (settings : JsonSettings) (token : Token) (
   pub unmoved : StaysUnlessFailed before.writer after.writer
   pub kept : Kept before.writer (Err stop) after.writer
   pub failed :
-      IfSome (failure_of after.writer stop)
+      IfSome (failure_of stop)
       (λ error. BeginFailed settings.values.depth settings.values.flow token before.nest.kinds.items before.writer error after.writer)
 
 abbrev pub TokenStep : {A : Type 0} → JsonSettings → Token → JsonWalk A → Result (Unit {0}) Stop → JsonWalk A → Type 0
@@ -66,7 +67,7 @@ pub record FirstStopped {A : Type 0} (settings : JsonSettings) (reader : Reader)
   pub unmoved : StaysUnlessFailed before.writer after.writer
   pub kept : Kept before.writer (Err stop) after.writer
   pub failed :
-      IfSome (failure_of after.writer stop)
+      IfSome (failure_of stop)
       (λ error. FirstFailed settings.values.depth settings.values.flow reader.ahead before.nest.kinds.items before.writer error after.writer)
 
 abbrev pub FirstStep : {A : Type 0} → JsonSettings → Reader → JsonWalk A → Result (Unit {0}) Stop → Reader → JsonWalk A → Type 0
@@ -94,7 +95,7 @@ pub record WalkStopped {A : Type 0} (settings : JsonSettings) (reader : Reader) 
   pub level : StaysLevelUnlessFailed before.writer after.writer
   pub kept : Kept before.writer (Err stop) after.writer
   pub failed :
-      IfSome (failure_of after.writer stop)
+      IfSome (failure_of stop)
       (λ error. StepFailed settings.values.depth settings.values.flow reader.ahead before.nest.kinds.items before.writer error after.writer)
 
 abbrev pub WalkStep : {A : Type 0} → JsonSettings → Reader → JsonWalk A → Result (Unit {0}) Stop → Reader → JsonWalk A → Type 0
@@ -125,10 +126,10 @@ pub record ValueStopped {A : Type 0} (settings : JsonSettings) (reader : Reader)
   pub refused :
       IsByText stop
       → TextStopsWriting settings.values.depth settings.unique_names settings.values.flow reader.ahead left.before before.writer stop after.writer
-  pub unopened : IsSome (failure_of after.writer stop) → StaysUnlessOpened before.writer after.writer
+  pub unopened : IsSome (failure_of stop) → StaysUnlessOpened before.writer after.writer
   pub kept : Kept before.writer (Err stop) after.writer
   pub failed :
-      IfSome (failure_of after.writer stop) (λ error. FailedInValue settings.values.depth settings.values.flow reader.ahead before.writer error after.writer)
+      IfSome (failure_of stop) (λ error. FailedInValue settings.values.depth settings.values.flow reader.ahead before.writer error after.writer)
 
 abbrev pub ValueStep : {A : Type 0} → JsonSettings → Reader → JsonWalk A → Result (Unit {0}) Stop → Reader → JsonWalk A → Type 0
 ValueStep settings reader before (Ok done) left after = ValueGiven settings reader before left after
@@ -150,9 +151,9 @@ pub record TextGiven (settings : JsonSettings) (text : List ℕ) (before after :
 pub record TextStopped (settings : JsonSettings) (text : List ℕ) (before : WriterState) (stop : Stop) (offset : ℕ) (after : WriterState) : Type 0 where
   pub refused : IsByText stop → StopsText settings.values.depth settings.unique_names settings.values.flow text before stop after
   pub place : IsByText stop → StopsAtLexeme settings.values.depth text offset stop
-  pub unopened : IsSome (failure_of after stop) → StaysUnlessOpened before after
+  pub unopened : IsSome (failure_of stop) → StaysUnlessOpened before after
   pub kept : Kept before (Err stop) after
-  pub failed : IfSome (failure_of after stop) (λ error. FailedInText settings.values.depth settings.values.flow text before error after)
+  pub failed : IfSome (failure_of stop) (λ error. FailedInText settings.values.depth settings.values.flow text before error after)
 
 abbrev pub TextStep : JsonSettings → List ℕ → WriterState → Result (Unit {0}) (Stop × ℕ) → WriterState → Type 0
 TextStep settings text before (Ok done) after = TextGiven settings text before after

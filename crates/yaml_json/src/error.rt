@@ -11,8 +11,9 @@ use yaml_writer::yaml_error_t;
 #[derive(Clone, Copy, Debug, Drop, Error, PartialEq, Eq)]
 pub enum JsonError {
     /// The text is no JSON. The first bracket, string, word, comma or colon that isn't possible at its place begins here; if the text
-    /// ends too early, this is its end. Lines end with LF, and both numbers count from 1, columns in characters. `expected` names the
-    /// input that is possible here, by the bytes before.
+    /// ends too early, this is its end. `expected` names the input that is possible here, by the bytes before. If a string or a number is
+    /// there that would be possible without its fault, `expected` names the fault, and the fault is here. Lines end with LF, and both
+    /// numbers count from 1, columns in characters.
     #[error("{position}: {expected}")]
     NotJson {
         position: Position,

@@ -1,9 +1,10 @@
 //! The content of a string with escapes (RFC 8259, section 7).
-ghost use Rattle.std.specs.Prelude.{◌≡◌, ℕ, ◌<◌, ◌≤◌, ◌+◌, ◌*◌, ◌&&◌, false, true, None, Some, MatchOption, IfOk, IfSome, drop, get_or, length};
+ghost use Rattle.std.specs.Prelude.{◌≡◌, ℕ, ◌<◌, ◌≤◌, ◌+◌, ◌*◌, ◌&&◌, false, true, None, Some, MatchOption, IfOk, IfSome, drop, is_some, get_or, length};
 ghost use Rattle.std.specs.Char.{digit_value, is_digit};
 ghost use Rattle.std.specs.Str.{IsCharBoundary};
 ghost use Rattle.std.specs.String.{string_bytes};
 ghost use Rattle.json.specs.Text.{after_backslash, after_u, content, plain, short_escape};
+ghost use Rattle.yaml_json.specs.Faults.{begins_low};
 ghost use Rattle.yaml_json.specs.Lexemes.{IsSecondHalf, Unescapes, first_unit};
 
 use crate::lexemes::plain_end;
@@ -21,7 +22,7 @@ fn hex_byte(first: u8, second: u8) -> Option<u32>
 }
 
 /// Returns the UTF-16 code unit that four hexadecimal digits at the front of a text spell.
-fn code_unit(text: &[u8]) -> Option<u32>
+pub(crate) fn code_unit(text: &[u8]) -> Option<u32>
     ensures value { result ≡ first_unit text.now }
     ensures bounds { IfSome result (λ unit. (unit < 65536) × (4 ≤ length text.now) × (get_or text.now 3 0 < 128)) }
 {
@@ -34,8 +35,9 @@ fn code_unit(text: &[u8]) -> Option<u32>
 }
 
 /// Returns the second half of a surrogate pair, if a text begins with an escape of one.
-fn second_half(text: &[u8]) -> Option<u32>
-    ensures { IsSecondHalf text.now result }
+pub(crate) fn second_half(text: &[u8]) -> Option<u32>
+    ensures half { IsSecondHalf text.now result }
+    ensures found { is_some result ≡ begins_low text.now }
 {
     if text.len() < 6 {
         return None;
@@ -67,7 +69,7 @@ fn spelled_character(text: &[u8]) -> Option<(char, usize)>
 }
 
 /// Returns the character that a letter means after a backslash. `u` is none of them.
-fn letter_meaning(letter: u8) -> Option<char>
+pub(crate) fn letter_meaning(letter: u8) -> Option<char>
     ensures value { result ≡ short_escape letter }
     ensures ascii { IfSome result (λ character. (character < 128) × (letter < 128)) }
 {

@@ -8,7 +8,7 @@ use crate::words::is_blank;
 use std::fmt;
 use yaml_writer::CollectionKind;
 
-/// The input that is possible at the place where a text breaks off.
+/// The input that is possible at the place where a text breaks off; or the fault of the string or the number there, if one is possible.
 #[derive(Clone, Copy, Debug, Drop, PartialEq, Eq)]
 pub enum Expected {
     /// A JSON text: there are blanks alone.
@@ -29,6 +29,18 @@ pub enum Expected {
     CommaOrBrace,
     /// Nothing: the value is whole.
     End,
+    /// A control character is here, in a string.
+    Control,
+    /// No escape begins with this backslash.
+    Escape,
+    /// The escape that begins here is half of a surrogate pair, without the other half.
+    Surrogate,
+    /// The text ends within a string.
+    Quote,
+    /// A digit follows this zero, with which a number begins.
+    LeadingZero,
+    /// A number has no digit here: before its point or after it, after its minus, or in its exponent.
+    Digit,
     /// UTF-8, which callers that are given bytes expect.
     Utf8,
 }
@@ -48,6 +60,12 @@ impl Expected {
             Expected::CommaOrBracket => "expected ',' or ']'",
             Expected::CommaOrBrace => "expected ',' or '}'",
             Expected::End => "expected the end of the text",
+            Expected::Control => "a control character in a string",
+            Expected::Escape => "invalid escape",
+            Expected::Surrogate => "half of a surrogate pair",
+            Expected::Quote => "expected a closing quote",
+            Expected::LeadingZero => "a leading zero",
+            Expected::Digit => "expected a digit",
             Expected::Utf8 => "not UTF-8",
         }
     }

@@ -7,6 +7,7 @@ mod error;
 mod escapes;
 mod expecting;
 pub mod laws;
+mod lexeme_faults;
 mod lexemes;
 mod names;
 mod places;

@@ -39,9 +39,9 @@ pub fn write_json_texts<A: Allocator + Copy>(
     let mut rest = text;
     'texts: loop {
         let (first, more) = first_cut(rest);
-        if let Err((stop, at)) = write_text_by(alloc, writer, first, &settings) {
+        if let Err(stopped) = write_text_by(alloc, writer, first, &settings) {
             let before = text.len().saturating_sub(rest.len());
-            return Err(error_of(writer, text, before.saturating_add(at), first, (stop, at)));
+            return Err(error_of(text, before, first, stopped));
         }
         if more.is_empty() {
             writer.promised();

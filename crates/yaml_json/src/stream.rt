@@ -108,7 +108,7 @@ fn write_bytes<'a, A: Allocator + Copy>(
     };
     match write_text_in(room, writer, text, settings) {
         Ok(()) => Ok(()),
-        Err((stop, at)) => Err(StreamError::Refused(error_of(writer, text, at, text, (stop, at)))),
+        Err(stopped) => Err(StreamError::Refused(error_of(text, 0, text, stopped))),
     }
 }
 

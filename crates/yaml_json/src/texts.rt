@@ -1,56 +1,63 @@
 //! JSON texts as YAML.
-ghost use Rattle.std.specs.Prelude.{◌≡◌, OnOk};
-ghost use Rattle.yaml_json.specs.Expected.{SaysExpected};
+ghost use Rattle.std.specs.Prelude.{◌≡◌, ◌+◌, ◌≤◌, OnOk, length};
+ghost use Rattle.yaml_base.specs.Positions.{IsPositionOf};
 ghost use Rattle.yaml_json.specs.Failing.{failure_of, writers_error};
 ghost use Rattle.yaml_json.specs.Nests.{AwaitsText};
-ghost use Rattle.yaml_json.specs.Places.{IsAt};
+ghost use Rattle.yaml_json.specs.Places.{IsAtIn, SaysFault};
 ghost use Rattle.yaml_json.specs.Walk.{MatchesStop};
 ghost use Rattle.yaml_json.specs.WalkSteps.{TextStep};
 ghost use Rattle.yaml_json.specs.WritingCalls.{ReturnsYaml, WritesText};
 ghost use Rattle.yaml_writer.specs.WasGiven.{IsBare};
 
 use crate::error::JsonError;
-use crate::expecting::expected_at;
+use crate::lexeme_faults::said_at;
 use crate::places::offset_of;
 use crate::settings::JsonSettings;
 use crate::tokens::Tokens;
 use crate::values::{Nesting, Stop, write_only_value};
 use bumpalo::Bump;
 use std::alloc::Allocator;
-use yaml_base::position_of;
+use yaml_base::{Position, position_of};
 use yaml_writer::{Writer, yaml_error_t};
 
 /// The byte order mark in UTF-8. No JSON text begins with it.
 const MARK: &[u8] = b"\xef\xbb\xbf";
 
-/// Returns the error that tells a caller of a stop in this part of a text, at this offset in the text, and at that in the part.
-pub(crate) fn error_of<A: Allocator + Copy>(
-    writer: &Writer<A>,
-    text: &str,
-    at: usize,
-    part: &str,
-    stopped: (Stop, usize),
-) -> JsonError
-    ensures says { MatchesStop part.now stopped.0 result }
-    ensures by_writer { writers_error result ≡ failure_of writer.now stopped.0 }
-    ensures place { IsAt text.now at result }
-    ensures expected { SaysExpected part.now stopped.1 result }
+/// Returns the position of an offset in a part of a text, before which there are so many bytes.
+fn position_in(text: &str, before: usize, at: usize) -> Position
+    ensures { before + at ≤ length text.now → IsPositionOf text.now (before + at) result }
 {
-    let (stop, offset) = stopped;
-    let position = position_of(text.as_bytes(), at);
+    position_of(text.as_bytes(), before.saturating_add(at))
+}
+
+/// Returns the error that tells a caller of a stop at this offset in a part of a text, before which there are so many bytes.
+pub(crate) fn error_of(text: &str, before: usize, part: &str, stopped: (Stop, usize)) -> JsonError
+    ensures says { MatchesStop part.now stopped.0 result }
+    ensures by_writer { writers_error result ≡ failure_of stopped.0 }
+    ensures place { IsAtIn text.now before part.now stopped.1 result }
+    ensures fault { SaysFault part.now stopped.1 result }
+{
+    let (stop, lexeme) = stopped;
     match stop {
         Stop::NotJson(_) => {
             if part.as_bytes().starts_with(MARK) {
+                let position = position_in(text, before, lexeme);
                 JsonError::Marked { position }
             } else {
-                let expected = expected_at(part, offset);
+                let (expected, at) = said_at(part, lexeme);
+                let position = position_in(text, before, at);
                 JsonError::NotJson { position, expected }
             }
         }
-        Stop::TooDeep => JsonError::TooDeep { position },
-        Stop::NameAgain => JsonError::DuplicateName { position },
-        Stop::Memory => JsonError::Emitter(yaml_error_t::Memory),
-        Stop::Failed => JsonError::Emitter(writer.error().unwrap_or(yaml_error_t::Memory)),
+        Stop::TooDeep => {
+            let position = position_in(text, before, lexeme);
+            JsonError::TooDeep { position }
+        }
+        Stop::NameAgain => {
+            let position = position_in(text, before, lexeme);
+            JsonError::DuplicateName { position }
+        }
+        Stop::Failed(error) => JsonError::Emitter(error),
     }
 }
 
@@ -122,8 +129,9 @@ pub(crate) fn write_text_by<A: Allocator + Copy>(
 ///
 /// # Errors
 ///
-/// `NotJson` if the text isn't JSON up to the position that it names: a token that isn't possible there, or the text's end. It names the
-/// input that is possible there. `Marked` in its place if the text begins with a byte order mark.
+/// `NotJson` if the text isn't JSON up to the position that it names: a token that isn't possible there, the fault of a string or a number
+/// that would be, or the text's end. It names the fault, or else the input that is possible. `Marked` in its place if the text begins with
+/// a byte order mark.
 /// `TooDeep` if the text is JSON up to an array or an object that opens too deep, `DuplicateName` if it is JSON up to a key
 /// that its object has already and may have once. `Emitter` with the error of the writer's
 /// emitter, which has it now, or with `Memory` if an allocation fails. After an error the writer was given exactly the events of the
@@ -140,7 +148,7 @@ pub fn write_json<A: Allocator + Copy>(
 {
     match write_text_by(alloc, writer, text, &settings) {
         Ok(()) => Ok(()),
-        Err((stop, at)) => Err(error_of(writer, text, at, text, (stop, at))),
+        Err(stopped) => Err(error_of(text, 0, text, stopped)),
     }
 }
 

@@ -2,7 +2,7 @@
 ghost use Rattle.std.specs.Prelude.{◌≡◌, ◌≢◌, [], ◌∷◌, ◌-◌, length, take, IfErr, IfOk, MatchOption};
 ghost use Rattle.json.specs.Print.{IsPrintable};
 ghost use Rattle.json.specs.Reads.{token_of};
-ghost use Rattle.yaml_json.specs.Failing.{IsWritersAnswer};
+ghost use Rattle.yaml_json.specs.Failing.{IsStopOf};
 ghost use Rattle.yaml_json.specs.Nests.{HasNoneOpen, IsNesting};
 ghost use Rattle.yaml_json.specs.Walk.{IsInnermost, LeavesNames, ReadsNone, closes, opener};
 ghost use Rattle.yaml_json.specs.WalkSteps.{FirstStep, OnlyStep, TokenStep, ValueStep, WalkStep, at};
@@ -39,10 +39,8 @@ pub(crate) enum Stop {
     TooDeep,
     /// The last token that was read is a name that its object has.
     NameAgain,
-    /// An allocation failed.
-    Memory,
-    /// The writer failed: its emitter has the error.
-    Failed,
+    /// The writer failed, or an allocation.
+    Failed(yaml_error_t),
 }
 
 /// The arrays and objects that are open. A value that is whole leaves the memory of these lists to the next.
@@ -65,14 +63,13 @@ impl<'a, A: Allocator + Copy> Nesting<'a, A> {
     }
 }
 
-/// Returns the answer of a writer without its error, which its emitter has.
+/// Converts a writer's answer to the walk's.
 fn answer_of(answer: Result<(), yaml_error_t>) -> Result<(), Stop>
-    ensures { IsWritersAnswer answer result }
+    ensures { IsStopOf answer result }
 {
     match answer {
         Ok(()) => Ok(()),
-        Err(yaml_error_t::Memory) => Err(Stop::Memory),
-        Err(_) => Err(Stop::Failed),
+        Err(error) => Err(Stop::Failed(error)),
     }
 }
 
@@ -120,11 +117,11 @@ fn begin<'a, A: Allocator + Copy>(
         return Err(Stop::TooDeep);
     }
     if let Err(_) = nest.names.enter() {
-        return Err(Stop::Memory);
+        return Err(Stop::Failed(yaml_error_t::Memory));
     }
     match nest.kinds.push(kind) {
         Ok(()) => answer_of(start(writer, kind, settings.values.flow)),
-        Err(_) => Err(Stop::Memory),
+        Err(_) => Err(Stop::Failed(yaml_error_t::Memory)),
     }
 }
 
@@ -165,7 +162,7 @@ fn next_token<'a, A: Allocator + Copy>(reader: &mut Tokens<'a, A>) -> Result<Tok
     match reader.next() {
         Ok(Some(token)) => Ok(token),
         Ok(None) => Err(Stop::NotJson(Spot::At)),
-        Err(_) => Err(Stop::Memory),
+        Err(_) => Err(Stop::Failed(yaml_error_t::Memory)),
     }
 }
 
@@ -226,6 +223,7 @@ fn write_next<'a, A: Allocator + Copy>(
     requires bare { IsBare writer.old }
     requires fits { IsNesting settings.now.values.depth settings.now.unique_names nest.old }
     requires innermost { IsInnermost kind nest.old.kinds.items }
+    requires within { IsInnermost kind writer.old.levels }
     ensures steps { WalkStep settings.now reader.old (at nest.old writer.old) result reader.new (at nest.new writer.new) }
     ensures text { reader.new.text ≡ reader.old.text }
 {
@@ -240,7 +238,7 @@ fn write_next<'a, A: Allocator + Copy>(
         CollectionKind::Sequence => write_token(writer, nest, token, settings),
         CollectionKind::Mapping => match token {
             Token::Key(key) => match nest.names.add(key) {
-                Err(_) => Err(Stop::Memory),
+                Err(_) => Err(Stop::Failed(yaml_error_t::Memory)),
                 Ok(new) => {
                     if !new {
                         return Err(Stop::NameAgain);

@@ -83,7 +83,7 @@ fn digits_end(text: &[u8], from: usize) -> Option<usize>
 }
 
 /// Returns the end of the integer of a number: one zero, or digits.
-fn integer_end(text: &[u8], from: usize) -> Option<usize>
+pub(crate) fn integer_end(text: &[u8], from: usize) -> Option<usize>
     requires { from ≤ length text.now }
     ensures { LeavesAt text.now result (after_whole (drop from text.now)) }
 {
@@ -94,7 +94,7 @@ fn integer_end(text: &[u8], from: usize) -> Option<usize>
 }
 
 /// Returns the end of the fraction of a number, which may be missing.
-fn fraction_end(text: &[u8], from: usize) -> Option<usize>
+pub(crate) fn fraction_end(text: &[u8], from: usize) -> Option<usize>
     requires { from ≤ length text.now }
     ensures { LeavesAt text.now result (after_fraction (drop from text.now)) }
 {
@@ -116,7 +116,7 @@ fn power_end(text: &[u8], from: usize) -> Option<usize>
 }
 
 /// Returns the end of the exponent of a number, which may be missing.
-fn exponent_end(text: &[u8], from: usize) -> Option<usize>
+pub(crate) fn exponent_end(text: &[u8], from: usize) -> Option<usize>
     requires { from ≤ length text.now }
     ensures { LeavesAt text.now result (after_exponent (drop from text.now)) }
 {

@@ -1,5 +1,4 @@
-use Rattle.yaml_json.proofs.Common.{◌<◌, length, arith}
-use Rattle.yaml_json.proofs.Cutting.{one_scanned, one_cut}
+use Rattle.yaml_json.proofs.{Common.◌<◌, Common.length, Common.arith, Cutting.one_scanned, Cutting.one_cut}
 use Rattle.yaml_json.proofs.cuts.find_end.Goals as goal
 
 pub returns-in-None : goal.returns-in-None

@@ -1,5 +1,4 @@
-use Rattle.yaml_json.proofs.Common.{◌<◌, ◌≤◌, length, arith}
-use Rattle.yaml_json.proofs.Cutting.{one_scanned}
+use Rattle.yaml_json.proofs.{Common.◌<◌, Common.◌≤◌, Common.length, Common.arith, Cutting.one_scanned}
 use Rattle.yaml_json.proofs.cuts.pass_bytes.Goals as goal
 
 pub bytes-preserved : goal.bytes-preserved

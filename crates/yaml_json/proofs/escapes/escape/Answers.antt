@@ -1,9 +1,8 @@
 use Rattle.std.proofs.Common.{◌≡◌, drop, length, List, ℕ, None, Some, subst, sym, ◌∙◌, arith}
-use Rattle.std.proofs.lemmas.Bool.{eqb-true}
-use Rattle.std.proofs.lemmas.Str.{encode_ascii}
 use Rattle.json.specs.Text.{after_backslash, after_u, content, plain, prepend}
 use Rattle.yaml_json.specs.Lexemes.{Unescapes}
 use Rattle.yaml_json.proofs.ContentSteps.{escape_later, letter_u, no_letter, other_letter, rest_is, some_left}
+use Rattle.std.proofs.lemmas.{Bool.eqb-true, Str.encode_ascii}
 use Rattle.yaml_json.proofs.escapes.escape.Goals as goal
 
 pub returns-then-is_empty : goal.returns-then-is_empty

@@ -1,6 +1,5 @@
-use Rattle.std.proofs.Common.{arith}
-use Rattle.std.proofs.lemmas.Grind.{common_steps}
 use Rattle.json.specs.Text.{short_escape}
+use Rattle.std.proofs.{Common.arith, lemmas.Grind.common_steps}
 use Rattle.yaml_json.proofs.escapes.letter_meaning.Goals as goal
 
 pub returns-in_default-clause-value : goal.returns-in_default-clause-value

@@ -2,7 +2,8 @@ use Rattle.std.proofs.Common.{◌+◌, ◌-◌, ◌*◌, drop, List, ℕ, None, 
 use Rattle.std.specs.Char.{encode_utf8}
 use Rattle.json.specs.Text.{after_high, after_u, content, plain, prepend}
 use Rattle.yaml_json.specs.Lexemes.{IsSecondHalf, Unescapes}
-use Rattle.yaml_json.proofs.ContentSteps.{escape_later, high_spelled, is_high, low_alone, low_spelled, no_high, no_low_scalar, no_unit_spelled, rest_is, scalar_spelled}
+use Rattle.yaml_json.proofs.ContentSteps.{escape_later, high_spelled, is_high, low_alone, low_spelled, no_high, no_low_scalar, no_unit_spelled, rest_is}
+use Rattle.yaml_json.proofs.ContentSteps.{scalar_spelled}
 use Rattle.yaml_json.proofs.escapes.spelled_character.Goals as goal
 
 pub returns-in_err-unit : goal.returns-in_err-unit
@@ -32,7 +33,7 @@ pub returns-in_err-low : goal.returns-in_err-low
 returns-in_err-low c =
     let t = c.args.text.now in
     let unit = c.in_ok-unit.unit in
-    let none = (subst (λ (rest : List ℕ). IsSecondHalf rest None) (rest_is t 4) c.in_err-low.ensures).0 unit in
+    let none = (subst (λ (rest : List ℕ). IsSecondHalf rest None) (rest_is t 4) c.in_err-low.ensures.half).0 unit in
     subst (Unescapes after_u t) (sym c.from_residual-in_err-low.ensures)
     (high_spelled t unit (sym c.in_ok-unit.ensures.value) (is_high unit c.if-unit.false) ∙ none)
 
@@ -41,7 +42,7 @@ returns c =
     let t = c.args.text.now in
     let unit = c.in_ok-unit.unit in
     let low = c.in_ok-low.low in
-    let half = (subst (λ (rest : List ℕ). IsSecondHalf rest (Some low)) (rest_is t 4) c.in_ok-low.ensures).0 unit in
+    let half = (subst (λ (rest : List ℕ). IsSecondHalf rest (Some low)) (rest_is t 4) c.in_ok-low.ensures.half).0 unit in
     let high = high_spelled t unit (sym c.in_ok-unit.ensures.value) (is_high unit c.if-unit.false) in
     subst (λ character. Unescapes after_u t (Some (character, 10))) (sym c.in_ok-character-2.ensures.value.1)
     (escape_later after_u (after_high unit) t 4 (65536 + (unit - 55296) * 1024 + (low - 56320)) 6 high half)

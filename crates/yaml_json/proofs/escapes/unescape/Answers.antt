@@ -1,10 +1,9 @@
 use Rattle.std.proofs.Common.{◌≡◌, ◌+◌, ◌-◌, ◌<◌, ◌++◌, None, Some, drop, get_or, length, List, ℕ, subst, sym, ap, ◌∙◌, arith}
-use Rattle.std.proofs.lemmas.List.{get_or-drop, length-drop}
-use Rattle.std.proofs.lemmas.Str.{IsCharBoundary-after_ascii}
-use Rattle.std.specs.{Str.IsCharBoundary, String.string_bytes, Char.encode_utf8}
 use Rattle.json.specs.Text.{after_backslash, content, plain, prepend}
 use Rattle.yaml_json.specs.Lexemes.{ArePlain, Unescapes}
 use Rattle.yaml_json.proofs.ContentSteps.{closes_here, content-control, escape_more, none_at_end, none_more, past_backslash, rest_is, run_more}
+use Rattle.std.specs.{Str.IsCharBoundary, String.string_bytes, Char.encode_utf8}
+use Rattle.std.proofs.lemmas.{List.get_or-drop, List.length-drop, Str.IsCharBoundary-after_ascii}
 use Rattle.yaml_json.proofs.escapes.unescape.Goals as goal
 
 pub returns-then-stop-bytes : goal.returns-then-stop-bytes

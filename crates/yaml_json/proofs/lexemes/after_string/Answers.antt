@@ -1,11 +1,11 @@
 use Rattle.std.proofs.Common.{◌≡◌, refl, subst, ◌+◌, ◌<◌, drop, eqb, get_or, length, sym, ap, ◌∙◌, arith}
-use Rattle.std.proofs.{lemmas.Bool.ne_eqb, lemmas.List.drop_all, lemmas.Str.IsCharBoundary-after_ascii}
 use Rattle.json.specs.Lex.{between, in_string, lex}
 use Rattle.yaml_json.specs.Lexing.{LeadsFrom}
 use Rattle.yaml_json.proofs.ModeSteps.{WithinString, string_begins, string_closed, string_cut, plain_passed, escape_passed}
 use Rattle.yaml_json.proofs.LexSteps.{quote_at, string_at, escape_at, lex-none}
-use Rattle.yaml_json.proofs.lexemes.after_string.Goals as goal
 use Rattle.yaml_json.proofs.lexemes.after_string.Goals.{then-byte-eq92, else-byte-eq92}
+use Rattle.std.proofs.lemmas.{Bool.ne_eqb, List.drop_all, Str.IsCharBoundary-after_ascii}
+use Rattle.yaml_json.proofs.lexemes.after_string.Goals as goal
 
 pub range_from-requires : goal.range_from-requires
 range_from-requires c positive =

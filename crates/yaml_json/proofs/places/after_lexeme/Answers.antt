@@ -1,9 +1,8 @@
 use Rattle.std.proofs.Common.{◌≡◌, ◌||◌, ◌+◌, ℕ, List, drop, get_or, subst, sym, ap, ◌∙◌}
 use Rattle.std.proofs.lemmas.Str.{IsCharBoundary-after_ascii}
-use Rattle.json.specs.Lex.{in_string, in_word, lex}
-use Rattle.json.specs.Word.{is_operator, is_space}
 use Rattle.yaml_json.specs.Lexing.{EndsWord, LeadsFrom}
 use Rattle.yaml_json.proofs.PassingLexemes.{delimiter_small, drop_one, head_at, passes_operator, passes_string, passes_word, some_left}
+use Rattle.json.specs.{Lex.in_string, Lex.in_word, Lex.lex, Word.is_operator, Word.is_space}
 use Rattle.yaml_json.proofs.places.after_lexeme.Goals as goal
 
 pub range_from-requires : goal.range_from-requires

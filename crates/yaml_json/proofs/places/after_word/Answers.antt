@@ -1,7 +1,7 @@
 use Rattle.std.proofs.Common.{◌≡◌, ◌||◌, true, false, get_or, length, sym, ap, ◌∙◌, arith}
-use Rattle.std.proofs.{lemmas.List.drop_all, lemmas.Str.IsCharBoundary-before_ascii}
 use Rattle.json.specs.Word.{is_operator, is_space}
 use Rattle.yaml_json.proofs.PassingLexemes.{delimiter_small, word_begins, word_cut, word_ends, word_on}
+use Rattle.std.proofs.lemmas.{List.drop_all, Str.IsCharBoundary-before_ascii}
 use Rattle.yaml_json.proofs.places.after_word.Goals as goal
 
 pub bytes-init : goal.bytes-init

@@ -1,10 +1,12 @@
 use Rattle.yaml_json.proofs.Common.{None, Some, between, sym}
 use Rattle.std.proofs.Common.{ℕ, List, ◌≡◌, ◌+◌, length, length-append, flat_map, rules, arith, ap, ◌∙◌}
 use Rattle.json.specs.Json.{Json}
-use Rattle.yaml_json.{proofs.TextStops.placed_after, proofs.TextStops.text_stopped, specs.Failing.writers_error}
+use Rattle.yaml_json.proofs.TextStops.{placed_after, text_stopped}
+use Rattle.yaml_json.specs.Failing.{writers_error}
 use Rattle.yaml_writer.proofs.GivenLemmas.{bare_awaits_none}
 use Rattle.yaml_json.proofs.Growing.{grew_itself, grew_then, grew_kept, grew_said, grew_passed, grew_failing}
-use Rattle.yaml_json.proofs.TextsInTurn.{texts_begin, texts_go_on, next_failed, texts_done, texts_names, texts_read, no_more, is_more, some_more, texts_stopped}
+use Rattle.yaml_json.proofs.TextsInTurn.{texts_begin, texts_go_on, next_failed, texts_done, texts_names, texts_read, no_more, is_more, some_more}
+use Rattle.yaml_json.proofs.TextsInTurn.{texts_stopped}
 use Rattle.yaml_json.proofs.several.write_json_texts.Goals as goal
 
 pub texts-init : goal.texts-init
@@ -67,7 +69,7 @@ returns-in-Err g c =
     let error = c.error_of.result in
     let failed = c.in-Err.ensures in
     let grew = grew_then c.args.writer.now c.texts.writer now (writers_error error) c.texts.invariant.2
-    (grew_said c.texts.writer now c.in-Err.stop (writers_error error) c.error_of.ensures.by_writer failed.kept) in
+    (grew_said c.texts.writer now c.in-Err.stopped.0 (writers_error error) c.error_of.ensures.by_writer failed.kept) in
     let so_far = c.texts.invariant.1 in
     let before = flat_map (λ (part : List ℕ × Json). part.0) so_far.parts in
     let joined : length before + length c.texts.rest.now ≡ length c.args.text.now =
@@ -79,9 +81,9 @@ returns-in-Err g c =
       sound = grew.sound;
       stopped = texts_stopped s.values.depth s.values.flow s.unique_names c.args.text.now c.args.writer.now c.texts.rest.now first c.first_cut.result.1.now
           c.texts.writer now c.first_cut.ensures c.texts.invariant.1 error
-          (text_stopped s.values.depth s.unique_names s.values.flow first c.texts.writer now c.in-Err.stop error c.error_of.ensures.says failed.refused failed.failed)
-          (placed_after s.values.depth c.args.text.now first before c.in-Err.at c.saturating_add.result c.in-Err.stop error c.error_of.ensures.says failed.place
-          c.error_of.ensures.place (λ within. grind (arith, joined, cut)) c.error_of.ensures.expected);
+          (text_stopped s.values.depth s.unique_names s.values.flow first c.texts.writer now c.in-Err.stopped.0 error c.error_of.ensures.says failed.refused failed.failed)
+          (placed_after s.values.depth c.args.text.now first before c.in-Err.stopped.1 c.saturating_sub-before.result (grind (arith, joined))
+          (omega (arith, joined, cut)) c.in-Err.stopped.0 error c.error_of.ensures.says failed.place c.error_of.ensures.place c.error_of.ensures.fault);
     }
 
 pub returns-in-Err-next_document : goal.returns-in-Err-next_document

@@ -1,8 +1,7 @@
-use Rattle.yaml_json.proofs.Common.{None, length}
 use denote.Shadow.{shadow}
 use denote.Text.{Utf8}
-use Rattle.yaml_json.proofs.TextsInTurn.{TextsSoFar}
 use Rattle.yaml_json.specs.Failing.{Grew}
+use Rattle.yaml_json.proofs.{Common.None, Common.length, TextsInTurn.TextsSoFar}
 use Rattle.yaml_json.proofs.several.write_json_texts.Given as goal
 
 abbrev pub invariant-texts : goal.invariant-texts

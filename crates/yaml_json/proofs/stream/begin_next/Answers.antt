@@ -1,10 +1,9 @@
 use Rattle.yaml_json.proofs.Common.{None, WriterState, between, refl, subst, sym}
-use Rattle.yaml_writer.proofs.GivenAndTaken.{begun_taken, begun_unsent, begun_not}
-use Rattle.yaml_writer.proofs.GivenLemmas.{bare_awaits_none}
 use Rattle.yaml_writer.specs.WasGiven.{NextUnsent}
 use Rattle.yaml_json.proofs.Growing.{grew_then, grew_passed, grew_failing, grew_sent}
-use Rattle.yaml_json.specs.{Failing.Grew}
+use Rattle.yaml_json.specs.Failing.{Grew}
 use Rattle.yaml_pen.specs.Page.{output_left}
+use Rattle.yaml_writer.proofs.{GivenAndTaken.begun_taken, GivenAndTaken.begun_unsent, GivenAndTaken.begun_not, GivenLemmas.bare_awaits_none}
 use Rattle.yaml_json.proofs.stream.begin_next.Goals as goal
 
 pub returns-in-Err : goal.returns-in-Err

@@ -1,6 +1,7 @@
 use Rattle.yaml_json.proofs.Common.{ℕ, List, [], append-nil, false≢true, refl, subst, sym, take, HasScanned}
 use Rattle.std.proofs.Common.{rules}
-use Rattle.yaml_json.proofs.{Coming.none_came, Cutting.still_scanned}
+use Rattle.yaml_json.proofs.Coming.{none_came}
+use Rattle.yaml_json.proofs.Cutting.{still_scanned}
 use Rattle.std.specs.Io.KnownBytes.{Consumes}
 use Rattle.yaml_json.proofs.stream.read_more.Goals as goal
 

@@ -1,8 +1,8 @@
 use Rattle.yaml_json.proofs.Common.{None, refl, subst, sym, IsScanned}
-use Rattle.yaml_json.specs.{declared.stream.Incoming.Incoming, Sent.emitter_error}
 use Rattle.yaml_json.proofs.Growing.{grew_itself, grew_reading, grew_then}
 use Rattle.yaml_json.proofs.Coming.{comes_first, more_came, complete_given, comes_kept, complete_stopped, comes_stopped, ends_sending}
 use Rattle.yaml_json.proofs.SendingSteps.{nowhere_by_reader, stops_by_reader}
+use Rattle.yaml_json.specs.{declared.stream.Incoming.Incoming, Sent.emitter_error}
 use Rattle.yaml_json.specs.declared.error.StreamError.TheVariants as faults
 use Rattle.yaml_json.proofs.stream.send_json_texts.Goals as goal
 

@@ -1,5 +1,5 @@
-use Rattle.yaml_json.proofs.Common.{None, IfSome, IsScanned, IsBare}
-use Rattle.yaml_json.{proofs.Coming.Comes, specs.Failing.Grew}
+use Rattle.yaml_json.specs.Failing.{Grew}
+use Rattle.yaml_json.proofs.{Common.None, Common.IfSome, Common.IsScanned, Common.IsBare, Coming.Comes}
 use Rattle.yaml_json.proofs.stream.send_json_texts.Given as goal
 
 abbrev pub invariant-parts : goal.invariant-parts

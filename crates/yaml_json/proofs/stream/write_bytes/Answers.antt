@@ -1,10 +1,10 @@
-use Rattle.yaml_json.proofs.Common.{List, ℕ, [], refl, subst, sym, tokens}
-use Rattle.yaml_json.proofs.{Growing.grew_itself, Growing.grew_said, TextStops.placed_as, TextStops.placed_first}
-use Rattle.yaml_json.proofs.SentParts.{part_stopped}
 use Rattle.yaml_writer.proofs.GivenLemmas.{wrote_nothing}
-use Rattle.yaml_json.proofs.{TextStops.placed_no_text, TextStops.text_stopped}
-use Rattle.std.specs.{Prelude.IsUtf8, Str.IsValidUpTo}
+use Rattle.yaml_json.proofs.Common.{List, ℕ, [], refl, subst, sym, tokens}
+use Rattle.yaml_json.proofs.Growing.{grew_itself, grew_said}
+use Rattle.yaml_json.proofs.TextStops.{placed_first, placed_no_text, placed_whole, text_stopped}
+use Rattle.yaml_json.proofs.SentParts.{part_stopped}
 use Rattle.yaml_json.specs.{Failing.writers_error, Sent.StopsInPart, WalkSteps.TextGiven}
+use Rattle.std.specs.{Prelude.IsUtf8, Str.IsValidUpTo}
 use Rattle.yaml_json.specs.declared.error.StreamError.TheVariants as faults
 use Rattle.yaml_json.proofs.stream.write_bytes.Goals as goal
 
@@ -53,11 +53,11 @@ returns-in-Err-write_text_in g c =
         stopped = subst (λ (t : List ℕ). StopsInPart s.values.depth s.unique_names s.values.flow [] t was (faults.Refused error) now) c.in-Ok.ensures.cases.0
             (part_stopped s.values.depth s.unique_names s.values.flow c.in-Ok.text.now was error now
             (subst IsUtf8 (sym c.in-Ok.ensures.cases.0) c.in-Ok.ensures.cases.1)
-            (text_stopped s.values.depth s.unique_names s.values.flow c.in-Ok.text.now was now c.in-Err-write_text_in.stop error c.error_of.ensures.says failed.refused
+            (text_stopped s.values.depth s.unique_names s.values.flow c.in-Ok.text.now was now c.in-Err-write_text_in.stopped.0 error c.error_of.ensures.says failed.refused
             failed.failed)
-            (placed_first s.values.depth c.in-Ok.text.now c.in-Err-write_text_in.at error c.error_of.ensures.place
-            (placed_as s.values.depth c.in-Ok.text.now c.in-Ok.text.now c.in-Err-write_text_in.at c.in-Err-write_text_in.stop error c.error_of.ensures.says
-            failed.place c.error_of.ensures.expected)));
-        grew = grew_said was now c.in-Err-write_text_in.stop (writers_error error) c.error_of.ensures.by_writer failed.kept;
+            (placed_first s.values.depth c.in-Ok.text.now error
+            (placed_whole s.values.depth c.in-Ok.text.now c.in-Err-write_text_in.stopped.1 c.in-Err-write_text_in.stopped.0 error c.error_of.ensures.says
+            failed.place c.error_of.ensures.place c.error_of.ensures.fault)));
+        grew = grew_said was now c.in-Err-write_text_in.stopped.0 (writers_error error) c.error_of.ensures.by_writer failed.kept;
       };
     }

@@ -1,7 +1,7 @@
-use Rattle.yaml_json.proofs.Common.{ℕ, List, [], Option, subst, sym}
 use Rattle.yaml_base.specs.declared.errors.yaml_error_t.{yaml_error_t}
-use Rattle.yaml_json.{specs.Failing.Grew, specs.SendingCalls.BytesGiven, specs.Sent.StopsInPart}
+use Rattle.yaml_json.proofs.Common.{ℕ, List, [], Option, subst, sym}
 use Rattle.yaml_json.proofs.SentParts.{part_placed}
+use Rattle.yaml_json.specs.{Failing.Grew, SendingCalls.BytesGiven, Sent.StopsInPart}
 use Rattle.yaml_json.proofs.stream.write_last.Goals as goal
 
 pub returns-in-Err : goal.returns-in-Err

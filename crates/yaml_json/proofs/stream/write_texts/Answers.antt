@@ -2,11 +2,10 @@ use Rattle.yaml_json.proofs.Common.{ℕ, ◌-◌, Option, None, drop, length, ta
 use Rattle.yaml_json.proofs.Common.{◌∙◌, arith, tokens, NamesOnce, HasScanned, WroteText}
 use Rattle.std.specs.Prelude.{IsUtf8}
 use Rattle.yaml_base.specs.declared.errors.yaml_error_t.{yaml_error_t}
-use Rattle.yaml_json.{specs.Failing.Grew, specs.Sent.StopsInPart, specs.Sent.emitter_error}
 use Rattle.yaml_json.proofs.SentParts.{part_placed}
 use Rattle.yaml_json.proofs.Growing.{grew_itself, grew_then, grew_kept}
 use Rattle.yaml_json.proofs.SendingSteps.{whole_suffix, suffix_on, advances_none, advances_same, stops_at_first, advances_on, stops_next}
-use Rattle.yaml_json.specs.Places.{IsPositionAfter}
+use Rattle.yaml_json.specs.{Failing.Grew, Sent.StopsInPart, Sent.emitter_error, Places.IsPositionAfter}
 use Rattle.yaml_json.proofs.stream.write_texts.Goals as goal
 
 pub texts-init : goal.texts-init

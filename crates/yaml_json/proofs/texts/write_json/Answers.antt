@@ -1,7 +1,7 @@
-use Rattle.yaml_json.proofs.Common.{IsSome, Option, subst}
 use Rattle.yaml_base.specs.declared.errors.yaml_error_t.{yaml_error_t}
 use Rattle.yaml_json.specs.Failing.{writers_error}
-use Rattle.yaml_json.proofs.{Refusing.why_no_json, TextStops.explained, TextStops.placed_as, TextStops.said_as, TextStops.text_stopped, TextsInTurn.text_names}
+use Rattle.yaml_json.proofs.{Common.IsSome, Common.Option, Common.subst, Refusing.why_no_json, TextStops.explained, TextStops.placed_whole, TextStops.said_as}
+use Rattle.yaml_json.proofs.{TextStops.text_stopped, TextsInTurn.text_names}
 use Rattle.yaml_json.proofs.texts.write_json.Goals as goal
 
 pub returns-in-Err : goal.returns-in-Err
@@ -10,22 +10,16 @@ returns-in-Err g c =
     let text = c.args.text.now in
     let error = c.error_of.result in
     let failed = c.in-Err.ensures in
-    let stopped = text_stopped s.values.depth s.unique_names s.values.flow text c.args.writer.now c.write_text_by.new.writer c.in-Err.stop error c.error_of.ensures.says
+    let stopped = text_stopped s.values.depth s.unique_names s.values.flow text c.args.writer.now c.write_text_by.new.writer c.in-Err.stopped.0 error c.error_of.ensures.says
     failed.refused failed.failed in
     record {
       grows = failed.kept.grows;
-      sound = said_as c.args.writer.now c.write_text_by.new.writer c.in-Err.stop (writers_error error) c.error_of.ensures.by_writer failed.kept;
+      sound = said_as c.args.writer.now c.write_text_by.new.writer c.in-Err.stopped.0 (writers_error error) c.error_of.ensures.by_writer failed.kept;
       refused = why_no_json s.values.depth s.unique_names text error
           (explained s.values.depth s.unique_names s.values.flow text c.args.writer.now c.write_text_by.new.writer error stopped);
       stopped = stopped;
-      place = (
-        c.in-Err.at,
-        (
-          c.error_of.ensures.place,
-          placed_as s.values.depth text text c.in-Err.at c.in-Err.stop error c.error_of.ensures.says failed.place
-              c.error_of.ensures.expected,
-        ),
-      );
+      place = placed_whole s.values.depth text c.in-Err.stopped.1 c.in-Err.stopped.0 error c.error_of.ensures.says failed.place c.error_of.ensures.place
+          c.error_of.ensures.fault;
       unopened = λ some. failed.unopened (subst (λ (e : Option yaml_error_t). IsSome e) c.error_of.ensures.by_writer some);
     }
 

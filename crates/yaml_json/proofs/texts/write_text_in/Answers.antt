@@ -1,6 +1,5 @@
-use Rattle.yaml_json.proofs.Common.{List, ℕ, ◌∙◌, subst, Token}
-use Rattle.yaml_json.proofs.Placing.{stops_at_lexeme}
 use Rattle.yaml_json.specs.{Reached.AreFrom, Refused.IsByText, Walk.TextStopsWriting}
+use Rattle.yaml_json.proofs.{Common.List, Common.ℕ, Common.◌∙◌, Common.subst, Common.Token, Placing.stops_at_lexeme}
 use Rattle.yaml_json.proofs.texts.write_text_in.Goals as goal
 
 pub returns-in-Ok : goal.returns-in-Ok

@@ -1,8 +1,8 @@
-use Rattle.yaml_json.proofs.Common.{refl, inl}
-use Rattle.yaml_json.proofs.{Stopping.if_some, TextStops.explained, TextStops.writer_failed, WhyFailed.text_failed, WhyFailed.finish_failed, YamlOf.yaml_of}
 use Rattle.yaml_writer.proofs.GivenLemmas.{bare_awaits_none}
 use Rattle.yaml_json.specs.Failing.{writers_error}
 use Rattle.yaml_emitter.specs.Given.{seen_settings}
+use Rattle.yaml_json.proofs.{Common.refl, Common.inl, Stopping.if_some, TextStops.explained, TextStops.writer_failed, WhyFailed.text_failed}
+use Rattle.yaml_json.proofs.{WhyFailed.finish_failed, YamlOf.yaml_of}
 use Rattle.yaml_json.proofs.texts.yaml_from_json.Goals as goal
 
 pub returns-in_default : goal.returns-in_default

@@ -1,10 +1,9 @@
 use Rattle.std.proofs.Common.{◌≡◌, [], ◌∷◌, drop, true, inl, inr, sym, ap, ◌∙◌, arith, refl}
-use Rattle.json.specs.Lex.{Place, between, in_word, lex, may_begin, punctuate}
-use Rattle.json.specs.{Token.bad, Word.head}
 use Rattle.yaml_json.proofs.Boundaries.{found_at}
 use Rattle.yaml_json.proofs.PunctuateSteps.{lex-colon, lex-comma, lex-stray, put-bad, stray-colon, stray-comma}
 use Rattle.yaml_json.proofs.Stepping.{opens_array, opens_object, refused}
 use Rattle.yaml_json.proofs.ModeSteps.{leads_on, operator_leads}
+use Rattle.json.specs.{Lex.Place, Lex.between, Lex.in_word, Lex.lex, Lex.may_begin, Lex.punctuate, Token.bad, Word.head}
 use Rattle.yaml_json.proofs.tokens.beginning.Goals as goal
 
 pub string-requires-clause-quote : goal.string-requires-clause-quote

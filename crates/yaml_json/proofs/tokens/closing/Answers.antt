@@ -1,10 +1,9 @@
 use Rattle.std.proofs.Common.{inl, inr, ap, ◌∙◌, arith, ◌≡◌, ◌⊎◌, List, ℕ, drop, refl}
-use Rattle.json.specs.Lex.{between, lex}
+use Rattle.yaml_json.specs.Lexing.{Leads}
 use Rattle.yaml_json.proofs.Boundaries.{after_first}
 use Rattle.yaml_json.proofs.Stepping.{closes_array, closes_object}
 use Rattle.yaml_json.proofs.ModeSteps.{drop_leads, leads_on, operator_leads}
-use Rattle.json.specs.Word.{head}
-use Rattle.yaml_json.specs.Lexing.{Leads}
+use Rattle.json.specs.{Lex.between, Lex.lex, Word.head}
 use Rattle.yaml_json.proofs.tokens.closing.Goals as goal
 
 pub range_from-requires : goal.range_from-requires

@@ -1,11 +1,8 @@
 use Rattle.std.proofs.Common.{◌≡◌, Some, List, drop, subst, sym, ap, ◌∙◌, arith}
 use Rattle.std.specs.String.{string_bytes}
-use Rattle.json.specs.Lex.{Lexeme, may_begin}
-use Rattle.json.specs.Text.{content, plain}
 use Rattle.yaml_json.specs.Ahead.{StepsFrom}
-use Rattle.yaml_json.proofs.Boundaries.{after_first}
-use Rattle.yaml_json.proofs.Stepping.{no_string, string_is}
-use Rattle.yaml_json.proofs.ModeSteps.{leads_on, quote_leads}
+use Rattle.yaml_json.proofs.{Boundaries.after_first, Stepping.no_string, Stepping.string_is, ModeSteps.leads_on, ModeSteps.quote_leads}
+use Rattle.json.specs.{Lex.Lexeme, Lex.may_begin, Text.content, Text.plain}
 use Rattle.yaml_json.proofs.tokens.escaped.Goals as goal
 
 pub unescape-requires : goal.unescape-requires

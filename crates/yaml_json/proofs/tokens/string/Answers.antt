@@ -1,12 +1,9 @@
 use Rattle.std.proofs.Common.{◌∷◌, ◌+◌, List, ℕ, drop, subst, sym, ap, ◌∙◌, arith}
 use Rattle.std.proofs.lemmas.Str.{IsCharBoundary-after_ascii}
-use Rattle.json.specs.Lex.{Lexeme, between, lex, may_begin, token}
-use Rattle.json.specs.Token as spec
-use Rattle.json.specs.Word.{head}
 use Rattle.yaml_json.specs.{Ahead.StepsFrom, Lexemes.ArePlain, Lexing.Leads}
-use Rattle.yaml_json.proofs.Boundaries.{after_first, found_at}
-use Rattle.yaml_json.proofs.Stepping.{plain_string}
-use Rattle.yaml_json.proofs.ModeSteps.{leads_on, string_leads}
+use Rattle.yaml_json.proofs.{Boundaries.after_first, Boundaries.found_at, Stepping.plain_string, ModeSteps.leads_on, ModeSteps.string_leads}
+use Rattle.json.specs.{Lex.Lexeme, Lex.between, Lex.lex, Lex.may_begin, Lex.token, Word.head}
+use Rattle.json.specs.Token as spec
 use Rattle.yaml_json.proofs.tokens.string.Goals as goal
 
 pub range-requires-clause-start_boundary : goal.range-requires-clause-start_boundary

@@ -1,7 +1,6 @@
 use Rattle.std.proofs.Common.{arith, drop, refl, sym, ap, ◌∙◌}
 use Rattle.json.specs.Word.{head}
-use Rattle.yaml_json.proofs.Stepping.{key_step, text_step}
-use Rattle.yaml_json.proofs.ModeSteps.{leads_on, operator_leads}
+use Rattle.yaml_json.proofs.{Stepping.key_step, Stepping.text_step, ModeSteps.leads_on, ModeSteps.operator_leads}
 use Rattle.yaml_json.proofs.tokens.string_step.Goals as goal
 
 pub returns-then-byte_at-eq58-clause-steps : goal.returns-then-byte_at-eq58-clause-steps

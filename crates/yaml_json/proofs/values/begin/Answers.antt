@@ -1,5 +1,7 @@
 use Rattle.yaml_json.proofs.Common.{◌<◌, ◌+◌, ◌≡◌, [], ◌∷◌, true, length, length-append, ap, sym, ◌∙◌, arith, refl}
-use Rattle.yaml_json.proofs.{KeepingNames.keeps_opener, Stopping.kept_same, WalkCalls.opener_step, WalkCalls.opener_without_room}
+use Rattle.yaml_json.proofs.KeepingNames.{keeps_opener}
+use Rattle.yaml_json.proofs.Stopping.{kept_by_text}
+use Rattle.yaml_json.proofs.WalkCalls.{opener_step, opener_without_room}
 use Rattle.yaml_json.specs.WalkSteps.{at}
 use Rattle.yaml_json.specs.declared.values.Stop.TheVariants as stops
 use Rattle.yaml_json.proofs.values.begin.Goals as goal
@@ -10,7 +12,7 @@ returns-then-len-settings g c =
       refused = ((c.args.kind, refl), grind arith);
       same = λ by_text. refl;
       unmoved = λ sound. refl;
-      kept = kept_same c.args.writer.now c.args.writer.now stops.TooDeep refl tt;
+      kept = kept_by_text c.args.writer.now stops.TooDeep tt;
       failed = tt;
     }
 

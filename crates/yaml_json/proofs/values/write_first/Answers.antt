@@ -1,6 +1,5 @@
-use Rattle.yaml_json.proofs.Common.{token_of}
-use Rattle.yaml_json.proofs.WalkCalls.{first_missing, first_step}
 use Rattle.yaml_json.specs.WalkSteps.{at}
+use Rattle.yaml_json.proofs.{Common.token_of, WalkCalls.first_missing, WalkCalls.first_step}
 use Rattle.yaml_json.proofs.values.write_first.Goals as goal
 
 pub returns-in-Err-clause-steps : goal.returns-in-Err-clause-steps

@@ -1,12 +1,13 @@
 use Rattle.yaml_json.proofs.Common.{Err, Ok, false, true, [], ◌++◌, ◌∷◌, refl, ◌≡◌, ap, sym, ◌∙◌, arith, closer, token_of}
 use Rattle.json.specs.declared.token.Token.{Token}
-use Rattle.json.specs.Token as tokens
 use Rattle.yaml_base.specs.declared.kinds.CollectionKind.TheVariants.{Mapping, Sequence}
 use Rattle.yaml_json.proofs.Closing.{closes_is, closes_not, no_name, no_string}
 use Rattle.yaml_json.proofs.Stops.{again_stopped, member_stopped, string_stopped}
-use Rattle.yaml_json.proofs.WalkCalls.{key_kept, key_unmoved, key_wrote, walk_closed, walk_item, walk_member, walk_missing, walk_refused, walk_unnamed, walk_without_memory}
+use Rattle.yaml_json.proofs.WalkCalls.{answered_end, answered_key, walk_closed, walk_item, walk_member, walk_missing, walk_refused, walk_unnamed}
+use Rattle.yaml_json.proofs.WalkCalls.{walk_without_memory}
 use Rattle.yaml_json.specs.WalkSteps.{at}
 use Rattle.yaml_json.specs.declared.values.Spot.TheVariants.{At, PastString}
+use Rattle.json.specs.Token as tokens
 use Rattle.yaml_json.specs.declared.values.Stop.TheVariants as stops
 use Rattle.yaml_json.proofs.values.write_next.Goals as goal
 
@@ -27,7 +28,9 @@ returns-then-closes-clause-steps g c =
     let is = closes_is (token_of c.in-Ok.token) a.kind (sym c.closes.ensures ∙ c.if-closes.true) in
     walk_closed a.settings.now a.reader.now c.next_token.new.reader (at a.nest.now a.writer.now) (at c.leave.new.nest c.leave.new.writer) inner.outer
     c.requires.fits a.kind inner.is (c.in-Ok.ensures.first ∙ ap (λ (t : tokens.Token). t ∷ c.next_token.new.reader.ahead) is) c.in-Ok.ensures.before
-    c.leave.ensures.left c.leave.ensures.names c.leave.result c.answer_of.result c.answer_of.ensures c.leave.ensures.ends
+    c.leave.ensures.left c.leave.ensures.names c.answer_of.result
+    (answered_end a.writer.now c.leave.new.writer a.kind c.requires.within c.requires.bare c.leave.result c.answer_of.result c.answer_of.ensures
+    c.leave.ensures.ends)
 
 -- ---- an item
 
@@ -69,13 +72,10 @@ returns-in-Err-answer_of-clause-steps g c =
     let key = c.in-Key.key.now in
     let first : a.reader.now.ahead ≡ tokens.key key ∷ c.next_token.new.reader.ahead =
     c.in-Ok.ensures.first ∙ ap (λ (t : Token). token_of t ∷ c.next_token.new.reader.ahead) c.in-Key.is in
-    let answers = c.in-Err-answer_of.ensures in
     let stop = c.in-Err-answer_of.stop in
-    let wrote = key_wrote a.writer.now c.text.new.self key c.requires.bare c.text.result (Err stop) answers c.text.ensures in
     walk_unnamed a.settings.now a.reader.now c.next_token.new.reader c.next_token.new.reader (at a.nest.now a.writer.now) (at a.nest.now a.writer.now)
-    inner.outer c.requires.fits is key first c.add.new.self c.text.new.self stop wrote.1
-    (key_unmoved a.writer.now c.text.new.self key c.requires.bare c.text.result (Err stop) answers c.text.ensures)
-    (key_kept a.writer.now c.text.new.self key c.requires.bare c.text.result (Err stop) answers c.text.ensures) wrote.2
+    inner.outer c.requires.fits is key first c.add.new.self c.text.new.self stop
+    (answered_key a.writer.now c.text.new.self key c.requires.bare c.text.result (Err stop) c.in-Err-answer_of.ensures c.text.ensures)
 
 pub returns-in_default-answer_of-clause-steps : goal.returns-in_default-answer_of-clause-steps
 returns-in_default-answer_of-clause-steps g c =
@@ -86,17 +86,15 @@ returns-in_default-answer_of-clause-steps g c =
     let first : a.reader.now.ahead ≡ tokens.key key ∷ c.next_token.new.reader.ahead =
     c.in-Ok.ensures.first ∙ ap (λ (t : Token). token_of t ∷ c.next_token.new.reader.ahead) c.in-Key.is in
     let fresh : c.in-Ok-add.new ≡ true = grind arith in
-    let answers = c.in_default-answer_of.ensures in
-    let wrote = key_wrote a.writer.now c.text.new.self key c.requires.bare c.text.result (Ok tt) answers c.text.ensures in
+    let wrote = answered_key a.writer.now c.text.new.self key c.requires.bare c.text.result (Ok tt) c.in_default-answer_of.ensures c.text.ensures in
     walk_member a.settings.now a.reader.now c.next_token.new.reader c.write_first.new.reader (at a.nest.now a.writer.now)
     (at c.write_first.new.nest c.write_first.new.writer) inner.outer c.requires.fits is key first c.add.new.self c.text.new.self
-    c.in-Ok-add.ensures.kept c.in-Ok-add.new c.in-Ok-add.ensures.adds fresh wrote.0
-    (key_kept a.writer.now c.text.new.self key c.requires.bare c.text.result (Ok tt) answers c.text.ensures) c.write_first.ensures.before
-    c.write_first.result c.write_first.ensures.steps
+    c.in-Ok-add.ensures.kept c.in-Ok-add.new c.in-Ok-add.ensures.adds fresh wrote.done wrote.kept
+    c.write_first.ensures.before c.write_first.result c.write_first.ensures.steps
 
 pub write_first-requires-clause-bare : goal.write_first-requires-clause-bare
 write_first-requires-clause-bare g c =
-    (key_wrote c.args.writer.now c.text.new.self c.in-Key.key.now c.requires.bare c.text.result (Ok tt) c.in_default-answer_of.ensures c.text.ensures).0.bare
+    (answered_key c.args.writer.now c.text.new.self c.in-Key.key.now c.requires.bare c.text.result (Ok tt) c.in_default-answer_of.ensures c.text.ensures).done.bare
 
 pub write_first-requires-clause-fits : goal.write_first-requires-clause-fits
 write_first-requires-clause-fits g c =

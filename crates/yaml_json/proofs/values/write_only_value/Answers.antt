@@ -1,13 +1,18 @@
-use Rattle.yaml_json.proofs.Common.{ℕ, Bool, true, false≢true, Err, List, [], ◌∷◌, ◌++◌, refl, ◌≡◌, append_assoc, append_cancel_right, sym, ◌∙◌, json_tokens}
-use Rattle.yaml_writer.proofs.OpenLevels.{gave_same}
 use Rattle.json.proofs.Unique.Spelling.{value-json_tokens_back}
+use Rattle.yaml_json.proofs.Common.{ℕ, Bool, true, false≢true, Err, List, [], ◌∷◌, ◌++◌, refl, ◌≡◌, append_assoc, append_cancel_right, sym, ◌∙◌, json_tokens}
 use Rattle.yaml_json.proofs.Common.{NamesOnce, json_events, tokens_events, Token, WriterState}
-use Rattle.yaml_json.proofs.{Refusing.past_refused, Refusing.value_names, Stopping.kept_same, Stopping.kept_then}
-use Rattle.yaml_json.proofs.{TokenLemmas.value_closed, TokenLemmas.value_given}
+use Rattle.yaml_json.proofs.Refusing.{past_refused, value_names}
+use Rattle.yaml_json.proofs.Stopping.{kept_by_text}
+use Rattle.yaml_json.proofs.TokenLemmas.{value_closed, value_given}
 use Rattle.yaml_json.proofs.WalkCalls.{only_value}
 use Rattle.yaml_json.specs.{Walk.TextStopsWriting, WalkSteps.at, Wrote.WroteValue, declared.values.Spot.TheVariants.PastValue}
+use Rattle.yaml_writer.proofs.{OpenLevels.gave_same, AnswerLemmas.kept_then}
 use Rattle.yaml_json.specs.declared.values.Stop.TheVariants as stops
 use Rattle.yaml_json.proofs.values.write_only_value.Goals as goal
+
+no_push : (front : List Token) (last : Token) → front ++ last ∷ [] ≡ [] → ⊥
+no_push [] last none = cc
+no_push (first ∷ front) last none = cc
 
 -- The writing is stopped by the token after the value.
 past_stopped : (left : List Token) (depth : ℕ) (unique flow : Bool) (start before front : List Token) (last : Token) (was now : WriterState)
@@ -16,6 +21,8 @@ past_stopped : (left : List Token) (depth : ℕ) (unique flow : Bool) (start bef
 past_stopped [] depth unique flow start before front last was now wrote once parts were more = absurd (more refl)
 past_stopped (token ∷ after) depth unique flow start before front last was now wrote once parts were more =
     let spelled = value-json_tokens_back depth start (token ∷ after) wrote.json wrote.read in
+    let whole = append_cancel_right (json_tokens wrote.json) (front ++ last ∷ []) (token ∷ after)
+    (sym spelled ∙ parts ∙ sym (append_assoc front (last ∷ []) (token ∷ after))) in
     record {
       taken = json_tokens wrote.json;
       left = token ∷ after;
@@ -26,11 +33,7 @@ past_stopped (token ∷ after) depth unique flow start before front last was now
         front,
         (
           last,
-          (
-            append_cancel_right (json_tokens wrote.json) (front ++ last ∷ []) (token ∷ after)
-                (sym spelled ∙ parts ∙ sym (append_assoc front (last ∷ []) (token ∷ after))),
-            were,
-          ),
+          (whole, were),
         ),
       );
       gave = gave_same was now (json_events was.canonical flow wrote.json) (tokens_events was.canonical flow (json_tokens wrote.json))
@@ -41,6 +44,7 @@ past_stopped (token ∷ after) depth unique flow start before front last was now
             levels = wrote.wrote.levels ∙ sym (value_closed wrote.json was.canonical flow was.levels);
             bare = wrote.wrote.bare;
           });
+      unchanged = λ none. absurd (no_push front last (sym whole ∙ none));
     }
 
 pub returns-else-is_at_end-clause-steps : goal.returns-else-is_at_end-clause-steps
@@ -56,7 +60,7 @@ returns-else-is_at_end-clause-steps g c =
           (value_names s.values.depth s.unique_names a.reader.now.ahead c.write_value.new.reader.ahead step.written.json step.written.read step.names)
           last.parts last.were (c.is_at_end.ensures.more c.if-is_at_end.false);
       unopened = λ some. absurd (false≢true some);
-      kept = kept_then a.writer.now now now (Err (stops.NotJson PastValue)) step.kept (kept_same now now (stops.NotJson PastValue) refl tt);
+      kept = kept_then a.writer.now now now (Err (stops.NotJson PastValue)) step.kept (kept_by_text now (stops.NotJson PastValue) tt);
       failed = tt;
     }
 

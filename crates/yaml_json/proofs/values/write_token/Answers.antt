@@ -1,12 +1,13 @@
 use Rattle.yaml_json.proofs.Common.{ℕ, List, refl, ◌≡◌, Bor, subst, sym, codes, chars, token_of, scalar, null_content, bool_content, number_content}
 use Rattle.yaml_json.proofs.Common.{text_content, text_event, number_event, number_in, bool_tag, bool_text, null_tag, RefusesToken}
-use Rattle.json.specs.{Print.IsPrintable, declared.token.Token.Token}
 use Rattle.yaml_json.proofs.Closing.{name_refused, token_refused}
-use Rattle.yaml_json.proofs.{NumberBridge.number_is, WalkCalls.refused_step, WalkCalls.scalar_step}
+use Rattle.yaml_json.proofs.NumberBridge.{number_is}
+use Rattle.yaml_json.proofs.WalkCalls.{refused_step, scalar_step}
 use Rattle.yaml_writer.proofs.GivenLemmas.{number_event_is, text_is, word_is}
+use Rattle.yaml_writer.specs.Writing.{bool_event, null_event}
 use Rattle.yaml_json.specs.WalkSteps.{TokenStep, at}
 use Rattle.yaml_json.specs.declared.values.Spot.TheVariants.{At, PastString}
-use Rattle.yaml_writer.specs.Writing.{bool_event, null_event}
+use Rattle.json.specs.{Print.IsPrintable, declared.token.Token.Token}
 use Rattle.json.specs.Print as json
 use Rattle.json.specs.Token as tokens
 use Rattle.json.specs.declared.token.Token.TheVariants as variants

@@ -1,8 +1,12 @@
 use Rattle.yaml_json.proofs.Common.{IfSome, Err, Ok, List, [], ◌≡◌, ◌∙◌, ap, length, subst, arith, failure_of, BeganFirstValue, FirstFailed, RefusesFirst}
-use Rattle.yaml_json.proofs.{KeepingNames.names_begin, KeepingNames.names_done, KeepingNames.names_on, Stopping.if_some, Stopping.kept_then}
-use Rattle.yaml_json.proofs.{Stops.gave_no_more, Stops.first_stopped_writing}
-use Rattle.yaml_json.proofs.{HeldNameLemmas.no_item, Taking.stood_nothing, Reaching.last_on}
-use Rattle.yaml_json.proofs.WholeWalk.{all_written, first_failed, first_so_far, open_within, step_failed, step_stopped, steps_on}
+use Rattle.yaml_json.proofs.KeepingNames.{names_begin, names_done, names_on}
+use Rattle.yaml_json.proofs.Stopping.{if_some}
+use Rattle.yaml_writer.proofs.AnswerLemmas.{kept_then}
+use Rattle.yaml_json.proofs.Stops.{gave_no_more, first_stopped_writing}
+use Rattle.yaml_json.proofs.HeldNameLemmas.{no_item}
+use Rattle.yaml_json.proofs.Taking.{stood_nothing}
+use Rattle.yaml_json.proofs.Reaching.{last_on}
+use Rattle.yaml_json.proofs.WholeWalk.{all_written, first_failed, first_so_far, innermost_open, open_within, step_failed, step_stopped, steps_on}
 use Rattle.yaml_base.specs.declared.kinds.CollectionKind.{CollectionKind}
 use Rattle.yaml_json.proofs.values.write_value.Goals as goal
 
@@ -17,12 +21,13 @@ returns-in-Err-clause-steps g c =
     record {
       refused = λ by_text. first_stopped_writing s.values.depth s.unique_names s.values.flow a.reader.now.ahead c.write_first.new.reader.before
           c.in-Err.ensures.before a.writer.now now stop refuses
-          (gave_no_more s.values.flow [] a.writer.now now (step.same by_text) a.writer.now [] (stood_nothing s.values.flow a.writer.now c.requires.bare));
+          (gave_no_more s.values.flow [] a.writer.now now (step.same by_text) a.writer.now [] (stood_nothing s.values.flow a.writer.now c.requires.bare))
+          (step.same by_text);
       unopened = λ some sound fewer. step.unmoved sound;
       kept = step.kept;
-      failed = if_some (failure_of now stop)
+      failed = if_some (failure_of stop)
           (λ error. first_failed s.values.depth s.values.flow a.reader.now.ahead a.writer.now error now c.requires.bare)
-          (subst (λ (levels : List CollectionKind). IfSome (failure_of now stop)
+          (subst (λ (levels : List CollectionKind). IfSome (failure_of stop)
           (λ error. FirstFailed s.values.depth s.values.flow a.reader.now.ahead levels a.writer.now error now))
           c.requires.none.0 step.failed);
     }
@@ -66,15 +71,19 @@ returns-in-Err-write_next-clause-steps g c =
     let now = c.write_next.new.writer in
     let stop = c.in-Err-write_next.stop in
     let step = c.in-Err-write_next.ensures.steps in
+    let outer = c.in-Some.ensures.outer in
+    let kind = c.in-Some.kind in
+    let is = c.in-Some.ensures.is in
     record {
       refused = λ by_text. step_stopped s.values.depth s.values.flow a.reader.now.ahead a.writer.now l.reader.ahead l.nest.kinds.items l.writer l.invariant.0
-          s.unique_names l.nest.names l.invariant.2 stop now c.write_next.new.reader.before (step.refused by_text);
+          outer kind is s.unique_names l.nest.names l.invariant.2 stop now c.write_next.new.reader.before (step.refused by_text);
       unopened = λ some sound fewer. absurd
           (open_within s.values.depth s.values.flow a.reader.now.ahead a.writer.now l.reader.ahead l.nest.kinds.items l.writer l.invariant.0
-          c.in-Some.ensures.outer c.in-Some.kind c.in-Some.ensures.is now (step.level sound) fewer);
+          outer kind is now (step.level sound) fewer);
       kept = kept_then a.writer.now l.writer now (Err stop) l.invariant.3 step.kept;
-      failed = if_some (failure_of now stop)
-          (λ error. step_failed s.values.depth s.values.flow a.reader.now.ahead a.writer.now l.reader.ahead l.nest.kinds.items l.writer l.invariant.0 error now)
+      failed = if_some (failure_of stop)
+          (λ error. step_failed s.values.depth s.values.flow a.reader.now.ahead a.writer.now l.reader.ahead l.nest.kinds.items l.writer l.invariant.0
+          outer kind is error now)
           step.failed;
     }
 
@@ -95,6 +104,13 @@ returns-clause-steps g c =
 
 pub write_next-requires-clause-fits : goal.write_next-requires-clause-fits
 write_next-requires-clause-fits g c = c.each_token.invariant.1
+
+pub write_next-requires-clause-within : goal.write_next-requires-clause-within
+write_next-requires-clause-within g c =
+    let a = c.args in
+    let l = c.each_token in
+    innermost_open a.settings.now.values.depth a.settings.now.values.flow a.reader.now.ahead a.writer.now l.reader.ahead l.nest.kinds.items l.writer
+    l.invariant.0 c.in-Some.kind c.in-Some.ensures
 
 pub write_next-requires-clause-innermost : goal.write_next-requires-clause-innermost
 write_next-requires-clause-innermost g c = c.in-Some.ensures

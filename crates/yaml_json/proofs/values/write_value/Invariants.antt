@@ -1,5 +1,5 @@
-use Rattle.yaml_json.proofs.Common.{length, Ok, ◌≡◌, WalkProgress}
-use Rattle.yaml_json.{proofs.KeepingNames.NamesSoFar, specs.Failing.Kept, specs.Nests.IsNesting, specs.Reached.LastRead}
+use Rattle.yaml_json.specs.{Failing.Kept, Nests.IsNesting, Reached.LastRead}
+use Rattle.yaml_json.proofs.{Common.length, Common.Ok, Common.◌≡◌, Common.WalkProgress, KeepingNames.NamesSoFar}
 use Rattle.yaml_json.proofs.values.write_value.Given as goal
 
 abbrev pub invariant-each_token : goal.invariant-each_token

@@ -1,7 +1,7 @@
 use Rattle.std.proofs.Common.{List, ℕ, Some, true, ◌≡◌, ◌-◌, arith, drop, take, subst, sym, ap, ◌∙◌, ◌||◌}
 use Rattle.json.specs.Word.{after_number, ends_word, is_operator, is_space}
-use Rattle.yaml_json.specs.{Lexemes.LeavesAt, Lexing.EndsWord}
 use Rattle.yaml_json.proofs.{WordModes.number_goes, WordSteps.number_read}
+use Rattle.yaml_json.specs.{Lexemes.LeavesAt, Lexing.EndsWord}
 use Rattle.yaml_json.proofs.words.number.Goals as goal
 
 pub returns-then-is_delimiter-clause-reads : goal.returns-then-is_delimiter-clause-reads

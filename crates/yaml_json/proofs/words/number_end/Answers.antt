@@ -1,6 +1,5 @@
-use Rattle.std.proofs.Common.{arith}
-use Rattle.std.proofs.lemmas.Grind.{common_steps}
 use Rattle.json.specs.Word.{after_number}
+use Rattle.std.proofs.{Common.arith, lemmas.Grind.common_steps}
 use Rattle.yaml_json.proofs.words.number_end.Goals as goal
 
 pub returns-in_err-integer : goal.returns-in_err-integer

@@ -1,8 +1,7 @@
 use Rattle.std.proofs.Common.{◌≡◌, ap, arith, subst, sym, ◌∙◌}
-use Rattle.json.specs.Token.{Token}
-use Rattle.json.specs.Word.{head, word}
 use Rattle.yaml_json.specs.Lexemes.{ReadsWord}
 use Rattle.yaml_json.proofs.WordSteps.{number_word}
+use Rattle.json.specs.{Token.Token, Word.head, Word.word}
 use Rattle.yaml_json.proofs.words.word.Goals as goal
 
 pub returns-in-116-clause-reads : goal.returns-in-116-clause-reads

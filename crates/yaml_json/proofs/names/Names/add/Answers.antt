@@ -1,6 +1,7 @@
-use Rattle.std.{proofs.lemmas.List.length-set, proofs.Common.arith, proofs.Common.sym, proofs.Common.◌∙◌, specs.Vec.vec_len, specs.List.slice_range}
-use Rattle.std.proofs.Common.{length, refl, rules}
+use Rattle.std.proofs.lemmas.List.{length-set}
+use Rattle.std.proofs.Common.{arith, sym, ◌∙◌, length, refl, rules}
 use Rattle.yaml_json.proofs.HeldNameLemmas.{never_last, adds_again, adds_listed, adds_more, adds_unkept, never_past}
+use Rattle.std.specs.{Vec.vec_len, List.slice_range}
 use Rattle.yaml_json.proofs.names.Names.add.Goals as goal
 
 pub returns-then-not-self : goal.returns-then-not-self

@@ -1,8 +1,7 @@
-use Rattle.std.proofs.Common.{arith, refl}
-use Rattle.std.proofs.lemmas.Bool.{both_ways}
-use Rattle.yaml_json.proofs.{HeldNameLemmas.entered, HeldNameLemmas.longer}
 use Rattle.yaml_writer.proofs.GivenLemmas.{always}
+use Rattle.yaml_json.proofs.HeldNameLemmas.{entered, longer}
 use Rattle.yaml_json.proofs.names.Names.enter.Goals.{in-Ok, in-Err}
+use Rattle.std.proofs.{Common.arith, Common.refl, lemmas.Bool.both_ways}
 use Rattle.yaml_json.proofs.names.Names.enter.Goals as goal
 
 pub returns : goal.returns

@@ -1,6 +1,5 @@
-use Rattle.std.proofs.Common.{arith, refl, rules}
-use Rattle.std.proofs.{lemmas.Bool.both_ways, lemmas.Grind.common_steps}
 use Rattle.yaml_json.proofs.HeldNameLemmas.{left}
+use Rattle.std.proofs.{Common.arith, Common.refl, Common.rules, lemmas.Bool.both_ways, lemmas.Grind.common_steps}
 use Rattle.yaml_json.proofs.names.Names.leave.Goals as goal
 
 pub returns-in-Some : goal.returns-in-Some

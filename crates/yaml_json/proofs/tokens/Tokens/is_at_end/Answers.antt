@@ -1,7 +1,7 @@
 use Rattle.std.proofs.Common.{sym, ap, ◌∙◌}
+use Rattle.yaml_json.specs.Reached.{Reader}
 use Rattle.yaml_json.proofs.Reaching.{ends_so, more_owed, more_so}
 use Rattle.yaml_json.proofs.TextsInTurn.{is_more, no_more}
-use Rattle.yaml_json.specs.Reached.{Reader}
 use Rattle.yaml_json.proofs.tokens.Tokens.is_at_end.Goals as goal
 
 pub returns-in-Open-clause-end : goal.returns-in-Open-clause-end

@@ -1,7 +1,6 @@
 use Rattle.std.proofs.Common.{◌≡◌, [], sym, ap, ◌∙◌}
-use Rattle.yaml_json.proofs.Reaching.{reads_no_more, reads_one, still_ahead}
-use Rattle.yaml_json.proofs.Stepping.{first_printable}
 use Rattle.yaml_json.specs.{Ahead.ahead, Reached.Reader}
+use Rattle.yaml_json.proofs.{Reaching.reads_no_more, Reaching.reads_one, Reaching.still_ahead, Stepping.first_printable}
 use Rattle.yaml_json.proofs.tokens.Tokens.next.Goals as goal
 
 pub returns-in-Ok-Some : goal.returns-in-Ok-Some
