@@ -1,15 +1,12 @@
 -- The findings in an array or a table in braces, from those in a value inside of it.
-use Rattle.std.proofs.Common.{◌≡◌, ℕ, suc, ◌+◌, ◌==◌, ◌-◌, ◌<◌, ◌≤◌, true, false, List, [], ◌∷◌, ◌++◌, drop, length, Some, None, Result, Ok, Err}
+use Rattle.std.proofs.Common.{◌≡◌, ℕ, suc, ◌+◌, ◌==◌, ◌-◌, ◌<◌, ◌≤◌, true, false, List, [], ◌∷◌, ◌++◌, drop, length, Some, None, Result, Ok, Err, refl, sym}
+use Rattle.std.proofs.Common.{ap, subst, ◌∙◌, inl, inr, arith}
 use Rattle.std.proofs.lemmas.Option.{none-some}
 use Rattle.std.specs.Borrow.{Bor}
-use Rattle.std.proofs.Common.{refl, sym, ap, subst, ◌∙◌, inl, inr, arith}
-use Rattle.toml_parser.specs.Lexical.{first, skip_blank}
-use Rattle.toml_parser.specs.Reading.{key_view}
-use Rattle.toml_parser.specs.Strings.{Key}
 use Rattle.toml.specs.Parse.{after_element, key_equals}
 use Rattle.toml_ordered.proofs.Conflicts.{knows_more_pairs, knows_no_pairs, more_pairs, pairs_conflict, reason_in}
-use Rattle.toml_ordered.proofs.Blaming.{IsBlamed, array_unblamed, braces_unblamed, keyval_nameless, keyval_none, neither, read_unblamed, same_pair}
-use Rattle.toml_ordered.proofs.Blaming.{same_rest, unblamed}
+use Rattle.toml_ordered.proofs.Blaming.{IsBlamed, array_unblamed, braces_unblamed, keyval_nameless, keyval_none, neither, read_unblamed, same_pair, same_rest}
+use Rattle.toml_ordered.proofs.Blaming.{unblamed}
 use Rattle.toml_ordered.proofs.Depths.{blank_within, ends_within, more_items}
 use Rattle.toml_ordered.proofs.Endings.{after_element_ends, end_left, ends_drop, ends_self, ends_then, item_left, key_equals_ends, pair_left}
 use Rattle.toml_ordered.proofs.LongKeys.{named_short}
@@ -23,14 +20,10 @@ use Rattle.toml_ordered.specs.Nesting.{ClashesIn, HasLongKey, ItemAt, KeyTells, 
 use Rattle.toml_ordered.specs.Places.{EndsWith, IsShutInBraces, PairAt, key_parts}
 use Rattle.toml_ordered.specs.Reading.{IsMemory}
 use Rattle.toml_ordered.specs.Tables.{put}
+use Rattle.toml_ordered.specs.declared.{fault.Fault.Fault, tree.Node.Node, tree.Origin.TheVariants.Closed, values.Found.Found, values.Found.TheVariants.Opened}
+use Rattle.toml_ordered.specs.declared.{values.Found.TheVariants.Value, values.Open.Open, values.Open.TheVariants.Array, values.Open.TheVariants.Braces}
+use Rattle.toml_parser.specs.{Lexical.first, Lexical.skip_blank, Reading.key_view, Strings.Key}
 use Rattle.toml_ordered.specs.declared.tree.Table.{Table as CodeTable}
-use Rattle.toml_ordered.specs.declared.fault.Fault.{Fault}
-use Rattle.toml_ordered.specs.declared.tree.Node.{Node}
-use Rattle.toml_ordered.specs.declared.tree.Origin.TheVariants.{Closed}
-use Rattle.toml_ordered.specs.declared.values.Found.{Found}
-use Rattle.toml_ordered.specs.declared.values.Found.TheVariants.{Opened, Value}
-use Rattle.toml_ordered.specs.declared.values.Open.{Open}
-use Rattle.toml_ordered.specs.declared.values.Open.TheVariants.{Array, Braces}
 
 pub inside_ends : (text rest : List ℕ) → EndsWith (drop 1 text) rest → EndsWith text rest
 inside_ends text rest ends = ends_then text (drop 1 text) rest (ends_drop 1 text) ends

@@ -1,8 +1,6 @@
 -- A value is refused for one reason: if it isn't TOML at a place, no key is defined again in it, and nothing nests too deep.
-use Rattle.std.proofs.Common.{◌≡◌, ◌⊎◌, inl, inr, ℕ, zero, suc, ◌+◌, ◌-◌, ◌<◌, ◌≤◌, ◌==◌, true, false, List, ◌∷◌, [], drop, length, Option, Some, None}
-use Rattle.std.proofs.Common.{refl, sym, ap, subst, ◌∙◌, arith}
-use Rattle.std.proofs.lemmas.Bool.{cases_Bool, cases_lt, eqb-true, false≢true}
-use Rattle.std.proofs.lemmas.Option.{none-some, option_and_then_some, same_Some}
+use Rattle.std.proofs.Common.{◌≡◌, ◌⊎◌, inl, inr, ℕ, zero, suc, ◌+◌, ◌-◌, ◌<◌, ◌≤◌, ◌==◌, true, false, List, ◌∷◌, [], drop, length, Option, Some, None, refl}
+use Rattle.std.proofs.Common.{sym, ap, subst, ◌∙◌, arith}
 use Rattle.std.specs.Prelude.{option_and_then}
 use Rattle.toml_parser.specs.Lexical.{Read, first, skip_blank}
 use Rattle.toml_parser.specs.Numbers.{unquoted, word_len}
@@ -18,6 +16,7 @@ use Rattle.toml_ordered.specs.Nesting.{ClashesIn, HasLongKey, ItemAt, NestsPast,
 use Rattle.toml_ordered.specs.Places.{PairAt, PairsClash, after_pairs, next_pair}
 use Rattle.toml_ordered.specs.Tables.{put}
 use Rattle.toml_ordered.specs.declared.tree.Origin.TheVariants.{Closed}
+use Rattle.std.proofs.lemmas.{Bool.cases_Bool, Bool.cases_lt, Bool.eqb-true, Bool.false≢true, Option.none-some, Option.option_and_then_some, Option.same_Some}
 
 pub same_rest : (p q : Key × List ℕ) → Some p ≡ Some q → p.1 ≡ q.1
 same_rest p q e = ap (λ (k : Key × List ℕ). k.1) (same_Some p q e)

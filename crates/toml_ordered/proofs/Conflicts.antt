@@ -1,5 +1,6 @@
 -- Keys that are defined again, and the knowledge of the keys so far.
-use Rattle.std.proofs.Common.{Some, zero, suc, drop, ap, ◌≡◌, ℕ, ◌<◌, ◌≤◌, List, length, min, string_bytes, None, sym, subst, ◌∙◌, inl, inr, arith}
+use Rattle.std.proofs.Common.{Option, Some, zero, suc, drop, ap, ◌≡◌, ℕ, ◌<◌, ◌≤◌, List, length, min, string_bytes, None}
+use Rattle.std.proofs.Common.{refl, sym, subst, ◌∙◌, inl, inr, arith}
 use Rattle.toml_parser.specs.Lexical.{right_brace, skip_blank}
 use Rattle.toml_parser.specs.Strings.{Key, recursion_limit}
 use Rattle.toml.specs.Parse.{after_element, key_equals}
@@ -14,8 +15,8 @@ use Rattle.toml_ordered.specs.Grammar.{keyval, line, val}
 use Rattle.toml_ordered.specs.Inside.{KnowsPairs}
 use Rattle.toml_ordered.specs.Places.{after_pairs, ReadsUpTo, ExpressionAt, FirstDefines, IsShutFor, IsShutInBraces, PairAt, PairsClash}
 use Rattle.toml_ordered.specs.Nesting.{ClashesIn, ExpressionNestsPast, HasReason, PairClashes}
-use Rattle.toml_ordered.specs.Places.{moved_to, moved_within, key_parts, whole_path}
-use Rattle.toml_ordered.specs.Reading.{IsMemory}
+use Rattle.toml_ordered.specs.Places.{IsReworded, IsSettled, moved_to, key_parts, whole_path}
+use Rattle.toml_ordered.specs.Reading.{IsGrammarRefusal, IsMemory}
 use Rattle.toml_ordered.specs.Tables.{TomlDocument, Expression, define, put}
 
 -- ---- faults of another kind
@@ -23,9 +24,9 @@ use Rattle.toml_ordered.specs.Tables.{TomlDocument, Expression, define, put}
 pub other_than : (again : List ℕ → ℕ → ℕ → Type 0) (deep : ℕ → Type 0) (found : Fault) → ((IsMemory found → ⊥) → NeitherTells again deep) → IsOther found
     → FaultTells found again deep
 other_than again deep fault.Memory neither none = tt
-other_than again deep (fault.NotToml left) neither none = neither (λ m. cc)
+other_than again deep (fault.NotToml left why) neither none = neither (λ m. cc)
 other_than again deep (fault.TooDeep left) neither none = absurd none
-other_than again deep (fault.DefinedAgain key first second) neither none = absurd none
+other_than again deep (fault.DefinedAgain key name first second) neither none = absurd none
 
 -- ---- how far a text is read
 
@@ -63,9 +64,9 @@ pub pairs_conflict : (depth : ℕ) (text rest : List ℕ) (found : TomlNodes) (n
     → (Says : List ℕ → ℕ → ℕ → Type 0) → ((key : List ℕ) (one two : ℕ) → PairsClash depth text key one two → Says key one two) → (deep : ℕ → Type 0)
     → FaultTells refused Says deep
 pairs_conflict depth text rest found name here old fault.Memory knows at within value after pair denies again Says says deep = tt
-pairs_conflict depth text rest found name here old (fault.NotToml left) knows at within value after pair denies again Says says deep = absurd again
+pairs_conflict depth text rest found name here old (fault.NotToml left why) knows at within value after pair denies again Says says deep = absurd again
 pairs_conflict depth text rest found name here old (fault.TooDeep left) knows at within value after pair denies again Says says deep = absurd again
-pairs_conflict depth text rest found name here old (fault.DefinedAgain key first second) knows at within value after pair denies again Says says deep =
+pairs_conflict depth text rest found name here old (fault.DefinedAgain key whole first second) knows at within value after pair denies again Says says deep =
     let known = knows again.1 _ first again.2 in
     let past = known.1 in
     let is = again.0 in
@@ -89,9 +90,9 @@ pub reason_in : (refused : Fault) (inner outer : List ℕ → ℕ → ℕ → Ty
     → ((key : List ℕ) (one two : ℕ) → inner key one two → outer key one two) → ((left : ℕ) → low left → high left)
     → ((IsMemory refused → ⊥) → NeitherTells inner low → NeitherTells outer high) → FaultTells refused inner low → FaultTells refused outer high
 reason_in fault.Memory inner outer low high clash deeper neither tells = tt
-reason_in (fault.NotToml left) inner outer low high clash deeper neither tells = neither (λ m. cc) tells
+reason_in (fault.NotToml left why) inner outer low high clash deeper neither tells = neither (λ m. cc) tells
 reason_in (fault.TooDeep left) inner outer low high clash deeper neither tells = deeper left tells
-reason_in (fault.DefinedAgain key first second) inner outer low high clash deeper neither tells = clash (string_bytes key) first second tells
+reason_in (fault.DefinedAgain key name first second) inner outer low high clash deeper neither tells = clash (string_bytes key) first second tells
 
 pair_within : (depth : ℕ) (text : List ℕ) (found : TomlNodes) (name : Key) (left : ℕ) → PairAt depth text found name left → left ≤ length text
 pair_within depth text found name left at =
@@ -160,9 +161,9 @@ expressions_conflict text rest doc e here old refused moved knows at within deni
     by : (f : Fault) → ((IsMemory f → ⊥) → define doc e ≡ None) → IsAgain (whole_path doc e.0 e.1) here old (IsShutFor doc e.0 e.1) f
         → HasReason text (moved_to here f)
     by fault.Memory denies found = tt
-    by (fault.NotToml left) denies found = absurd found
+    by (fault.NotToml left why) denies found = absurd found
     by (fault.TooDeep left) denies found = absurd found
-    by (fault.DefinedAgain key first second) denies found =
+    by (fault.DefinedAgain key name first second) denies found =
         let known = knows found.1 _ first found.2 in
         let past = known.1 in
         inl record {
@@ -180,24 +181,38 @@ expressions_conflict text rest doc e here old refused moved knows at within deni
 -- an expression in which a value is refused
 pub value_reason : (text rest : List ℕ) (doc : TomlDocument) (refused moved : Fault) → ReadsUpTo text doc rest
     → ((IsMemory refused → ⊥) → line (skip_blank rest) ≡ None)
-    → FaultTells refused (PairClashes (skip_blank rest)) (ExpressionNestsPast (skip_blank rest)) → moved ≡ moved_within (length (skip_blank rest)) refused
+    → FaultTells refused (PairClashes (skip_blank rest)) (ExpressionNestsPast (skip_blank rest)) → IsSettled (skip_blank rest) refused moved
     → HasReason text moved
-value_reason text rest doc refused moved read unread pairs is = subst (HasReason text) (sym is) (by refused unread pairs)
-  where
-    by : (f : Fault) → ((IsMemory f → ⊥) → line (skip_blank rest) ≡ None) → FaultTells f (PairClashes (skip_blank rest)) (ExpressionNestsPast (skip_blank rest))
-        → HasReason text (moved_within (length (skip_blank rest)) f)
-    by fault.Memory none found = tt
-    by (fault.NotToml left) none found = neither_document text rest doc read (none (λ m. cc)) found
-    by (fault.TooDeep left) none found =
-        let within = expression_nests_within (skip_blank rest) left found in
-        let same : min left (length (skip_blank rest)) ≡ left = omega (arith, within) in
-        record { doc = doc; rest = rest; read = read; nests = subst (ExpressionNestsPast (skip_blank rest)) (sym same) found }
-    by (fault.DefinedAgain key first second) none found =
-        let within = pair_clashes_within (skip_blank rest) (string_bytes key) first second found in
-        let same : min second (length (skip_blank rest)) ≡ second = omega (arith, within) in
-        inr record {
-          doc = doc;
-          rest = rest;
-          read = read;
-          pairs = subst (λ (n : ℕ). PairClashes (skip_blank rest) (string_bytes key) first n) (sym same) found;
-        }
+value_reason text rest doc fault.Memory moved read none found is = subst (HasReason text) (sym is) tt
+value_reason text rest doc (fault.NotToml left why) (fault.NotToml l w) read none found is = neither_document text rest doc read (none (λ m. cc)) found
+value_reason text rest doc (fault.NotToml left why) _ read none found is = absurd is.0
+value_reason text rest doc (fault.TooDeep left) moved read none found is =
+    let within = expression_nests_within (skip_blank rest) left found in
+    let same : min left (length (skip_blank rest)) ≡ left = omega (arith, within) in
+    subst (HasReason text) (sym is)
+    (record { doc = doc; rest = rest; read = read; nests = subst (ExpressionNestsPast (skip_blank rest)) (sym same) found })
+value_reason text rest doc (fault.DefinedAgain key name first second) moved read none found is =
+    let within = pair_clashes_within (skip_blank rest) (string_bytes key) first second found in
+    let same : min second (length (skip_blank rest)) ≡ second = omega (arith, within) in
+    subst (HasReason text) (sym is) (inr record {
+      doc = doc;
+      rest = rest;
+      read = read;
+      pairs = subst (λ (n : ℕ). PairClashes (skip_blank rest) (string_bytes key) first n) (sym same) found;
+    })
+
+-- ---- faults in other words
+
+-- a value, or an expression
+pub reworded : {B : Type 0} (expected : Option B) (again : List ℕ → ℕ → ℕ → Type 0) (deep : ℕ → Type 0) (old new : Fault) → IsReworded old new
+    → IsGrammarRefusal expected (λ f. FaultTells f again deep) old → IsGrammarRefusal expected (λ f. FaultTells f again deep) new
+reworded expected again deep fault.Memory new is refused = subst (IsGrammarRefusal expected (λ f. FaultTells f again deep)) (sym is) refused
+reworded expected again deep (fault.NotToml left why) fault.Memory is refused = (λ real. absurd (real refl), tt)
+reworded expected again deep (fault.NotToml left why) (fault.NotToml l w) is refused = ((λ real. refused.0 (λ m. cc)), refused.1)
+reworded expected again deep (fault.NotToml left why) (fault.TooDeep l) is refused = absurd is
+reworded expected again deep (fault.NotToml left why) (fault.DefinedAgain key name first second) is refused = absurd is
+reworded expected again deep (fault.TooDeep left) new is refused = subst (IsGrammarRefusal expected (λ f. FaultTells f again deep)) (sym is) refused
+reworded expected again deep (fault.DefinedAgain key name first second) new (inl is) refused =
+    subst (IsGrammarRefusal expected (λ f. FaultTells f again deep)) (sym is) (λ real. absurd (real refl), tt)
+reworded expected again deep (fault.DefinedAgain key name first second) new (inr (other, is)) refused =
+    subst (IsGrammarRefusal expected (λ f. FaultTells f again deep)) (sym is) ((λ real. refused.0 (λ m. cc)), refused.1)

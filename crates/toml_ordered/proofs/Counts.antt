@@ -1,11 +1,9 @@
 -- The number of values that a drop has in hand, and that each turn of its loop goes on.
-use Rattle.std.proofs.Common.{List, [], ◌∷◌, ◌++◌, map, sum_by, length, set, get_or, Result, Ok, Err, ◌≡◌, ℕ, zero, suc, ◌+◌, ◌-◌, ◌*◌, ◌<◌, ◌≤◌}
-use Rattle.std.proofs.Common.{Option, Some, None, Vec, vec_len, Global, refl, ap, subst, sym, ◌∙◌, arith, rules}
-use Rattle.std.proofs.lemmas.List.Sums.{sum-map, sum_by-cons, sum_by-set, sum_by_push}
-use Rattle.std.specs.Prelude.{MatchOption, option_to_list}
+use Rattle.std.proofs.Common.{List, [], ◌∷◌, map, sum_by, length, set, get_or, Result, Ok, Err, ◌≡◌, ℕ, zero, suc, ◌+◌, ◌-◌, ◌*◌, ◌<◌, ◌≤◌, Option, Some}
+use Rattle.std.proofs.Common.{None, Vec, vec_len, Global, refl, ap, subst, sym, ◌∙◌, arith, rules}
+use Rattle.std.proofs.lemmas.List.Sums.{sum-map, sum_by-cons, sum_by-set}
 use Rattle.toml_ordered.specs.Counts.{IsEntered, IsExchanged, IsLeft, IsPopped, node_count, table_count, tables_count}
-use Rattle.toml_ordered.specs.declared.tree.Node.{Node, Array, Table, Tables, the_lemmas}
-use Rattle.toml_ordered.specs.declared.tree.Origin.{Origin}
+use Rattle.toml_ordered.specs.declared.tree.{Node.Node, Node.Array, Node.Table, Node.Tables, Node.the_lemmas, Origin.Origin}
 use Rattle.toml_ordered.specs.declared.tree.Table.{Table as CodeTable}
 
 -- Of so many values in all, and so many of them in the value that is entered next: a turn enters one inside, or fewer are left.
@@ -74,15 +72,3 @@ none_summed counts (e ∷ es) none = absurd (omega (arith, none))
 
 pub none_counted : {E : Type 0} (counts : E → ℕ) (es : Vec E Global) → vec_len es ≡ 0 → sum_by counts es.items ≡ 0
 none_counted counts es none = none_summed counts es.items (sym es.ok.0 ∙ none)
-
--- the last of some values is taken out
-pub left_last : (xs ys : Vec Node Global) (old new : ℕ) (result : Option Node) → old ≡ suc (sum_by node_count xs.items)
-    → new ≡ suc (sum_by node_count ys.items) → xs.items ≡ ys.items ++ option_to_list result
-    → MatchOption result ((vec_len xs ≡ 0) × (vec_len ys ≡ 0)) (λ _. vec_len ys + 1 ≡ vec_len xs) → IsLeft node_count old new result
-left_last xs ys old new (Some x) was is items cases =
-    let all = ap (sum_by node_count) items ∙ sum_by_push node_count ys.items x in
-    omega (arith, was, is, all)
-left_last xs ys old new None was is items cases =
-    let before = none_counted node_count xs cases.0 in
-    let after = none_counted node_count ys cases.1 in
-    (omega (arith, was, before), omega (arith, is, after))

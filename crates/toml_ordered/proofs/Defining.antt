@@ -10,11 +10,9 @@ use Rattle.toml_ordered.specs.Firsts.{AddsFirsts, IsAgain, IsShutAt, table_first
 use Rattle.toml_ordered.specs.Places.{IsShutFor, IsShutInBraces, key_parts, whole_path}
 use Rattle.toml_ordered.specs.Reading.{Defines, ParsesTo, definition_view}
 use Rattle.toml_ordered.specs.Tables.{Definition, TomlDocument, along, at_key, define, defined_header, defined_pair, key_value, put, steps_along}
+use Rattle.toml_ordered.specs.declared.{fault.Fault.Fault, tables.Definition.TheVariants.Value, tree.Node.Node}
 use Rattle.toml_ordered.specs.declared.tree.Table.{Table as CodeTable}
-use Rattle.toml_ordered.specs.declared.fault.Fault.{Fault}
 use Rattle.toml_ordered.specs.declared.tables.Definition as code
-use Rattle.toml_ordered.specs.declared.tables.Definition.TheVariants.{Table, Tables, Value}
-use Rattle.toml_ordered.specs.declared.tree.Node.{Node}
 
 abbrev Keys : Type 1
 Keys = (path : List (List ℕ)) → (key : List ℕ) → Type 0
@@ -89,5 +87,4 @@ module _ (doc next : TomlDocument) (key : Key) (here : ℕ) (from to : CodeTable
       → Defines (define doc (key, definition_view d)) next (whole_path doc key (definition_view d)) here (IsShutFor doc key (definition_view d)) from to r
   unfolding define
   other_defines (Value node) other defines = absurd (other node refl)
-  other_defines Table other defines = defines
-  other_defines Tables other defines = defines
+  other_defines _ other defines = defines

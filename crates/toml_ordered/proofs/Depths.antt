@@ -2,16 +2,11 @@
 use Rattle.std.proofs.Common.{◌≡◌, ℕ, zero, suc, ◌+◌, ◌≤◌, ◌==◌, Bool, true, false, cond, List, Some, drop, length, refl, ap, subst, sym, ◌∙◌, inl, inr, arith}
 use Rattle.std.proofs.lemmas.List.{length-append}
 use Rattle.std.specs.Prelude.{◌⊎◌}
-use Rattle.toml_parser.specs.Lexical.{first, right_bracket, skip_blank, skip_ws}
-use Rattle.toml_parser.specs.Strings.{recursion_limit}
 use Rattle.toml.specs.Parse.{after_element, key_equals}
 use Rattle.toml_ordered.proofs.Endings.{end_left, ends_drop, ends_self, ends_then, key_equals_ends, skip_blank_ends, skip_ws_ends, value_ends}
-use Rattle.toml_ordered.specs.Data.{TomlNode}
-use Rattle.toml_ordered.specs.Firsts.{FaultTells}
-use Rattle.toml_ordered.specs.Grammar.{is_doubled, val}
-use Rattle.toml_ordered.specs.Nesting.{ExpressionNestsPast, NestsPast, after_items, own_key}
-use Rattle.toml_ordered.specs.Places.{EndsWith}
-use Rattle.toml_ordered.specs.declared.fault.Fault.{Fault}
+use Rattle.toml_ordered.specs.{Data.TomlNode, Firsts.FaultTells, Grammar.is_doubled, Grammar.val, Nesting.ExpressionNestsPast, Nesting.NestsPast}
+use Rattle.toml_ordered.specs.{Nesting.after_items, Nesting.own_key, Places.EndsWith, declared.fault.Fault.Fault}
+use Rattle.toml_parser.specs.{Lexical.first, Lexical.right_bracket, Lexical.skip_blank, Lexical.skip_ws, Strings.recursion_limit}
 use Rattle.toml_ordered.specs.declared.fault.Fault.TheVariants as fault
 
 pub ends_within : (text end : List ℕ) → EndsWith text end → length end ≤ length text

@@ -1,7 +1,8 @@
 -- The rest that a reader leaves is an ending of the text.
 use Rattle.std.proofs.Common.{◌≡◌, ℕ, zero, suc, ◌&&◌, ◌||◌, ◌==◌, Bool, true, false, cond, List, [], ◌∷◌, ◌++◌, length, take, drop, slice_index}
-use Rattle.std.proofs.Common.{Option, Some, None, option_map, refl, sym, ap, subst, ◌∙◌}
-use Rattle.std.proofs.lemmas.List.{append_assoc, take-append-drop}
+use Rattle.std.proofs.Common.{◌+◌, ◌-◌, ◌≤◌, Option, Some, None, option_map, refl, sym, ap, subst, arith, ◌∙◌}
+use Rattle.std.proofs.Math.Seq.{drop-append-add}
+use Rattle.std.proofs.lemmas.List.{append_assoc, length-append, take-append-drop}
 use Rattle.std.proofs.lemmas.Option.{same_Some}
 use Rattle.std.specs.List.{prefix_len}
 use Rattle.std.specs.Str.Parse.{digits_value}
@@ -11,11 +12,11 @@ use Rattle.toml_parser.specs.Lexical.{dot, equals, comma, left_bracket, right_br
 use Rattle.toml_parser.specs.Strings.{hex_len, hex_escape, simple_escape, escape_char, escape, is_plain, at_delims, special, prepend, after_piece}
 use Rattle.toml_parser.specs.Strings.{body, trim_newline, one_line, quoted, starts_string, simple_key, key_after, Key, recursion_limit}
 use Rattle.toml_parser.specs.Numbers.{unquoted, word_len, word_value}
-use Rattle.toml.specs.Parse.{after_byte, after_element, key_equals}
+use Rattle.toml.specs.Parse.{after_byte, after_element, ends_line, header_key, key_equals, skip_bom}
 use Rattle.toml_ordered.specs.Data.{TomlNode, string, Items, no_items, array, table, push_item, TomlNodes, no_nodes}
-use Rattle.toml_ordered.specs.Grammar.{scalar_node, atom, val, keyval, items, members}
+use Rattle.toml_ordered.specs.Grammar.{scalar_node, atom, expression, is_doubled, val, keyval, items, line, members}
 use Rattle.toml_ordered.specs.Places.{EndsWith}
-use Rattle.toml_ordered.specs.Tables.{put}
+use Rattle.toml_ordered.specs.Tables.{Expression, array_table, key_value, put, std_table}
 use Rattle.toml_ordered.specs.declared.tree.Origin.TheVariants.{Closed}
 
 pub ends_self : (text : List ℕ) → EndsWith text text
@@ -278,7 +279,59 @@ val_ends (suc depth) text =
     (leaves_map inner braces (λ p. (table Closed p.0, p.1)) (members_ends (val depth) (val_ends depth) (length text) no_nodes inner) (λ p. ends_self p.1)))
     (atom_ends text))
 
+-- ---- expressions
+
+header_key_ends : (text : List ℕ) → LeavesEnd text (header_key text)
+unfolding header_key
+header_key_ends text =
+    let start = skip_ws text in
+    leaves_in text start _ (skip_ws_ends text)
+    (leaves_then start (key_after recursion_limit [] start) (λ k. option_map (λ rest. (k.0, rest)) (after_byte right_bracket k.1))
+    (key_after_ends recursion_limit [] start) (λ k. by k.0 k.1 (first k.1 == right_bracket)))
+  where
+    by : (k : Key) (rest : List ℕ) (b : Bool) → LeavesEnd rest (option_map (λ left. (k, left)) (cond b (Some (drop 1 rest)) None))
+    by k rest true = ends_drop 1 rest
+    by k rest false = tt
+
+expression_ends : (text : List ℕ) → LeavesEnd text (expression text)
+expression_ends text =
+    let inner = drop 1 text in
+    let inmost = drop 2 text in
+    leaves_if text (is_doubled text) _ _
+    (leaves_in text inmost _ (ends_drop 2 text)
+    (leaves_then inmost (header_key inmost) (λ k. option_map (λ rest. ((k.0, array_table), rest)) (after_byte right_bracket k.1))
+    (header_key_ends inmost) (λ k. by k.0 k.1 (first k.1 == right_bracket))))
+    (leaves_if text (first text == left_bracket) _ _
+    (leaves_in text inner _ (ends_drop 1 text)
+    (leaves_map inner (header_key inner) (λ k. ((k.0, std_table), k.1)) (header_key_ends inner) (λ k. ends_self k.1)))
+    (leaves_map text (keyval (val recursion_limit) text) (λ e. ((e.0.0, key_value e.0.1), e.1))
+    (pair_ends (val recursion_limit) (val_ends recursion_limit) text) (λ e. ends_self e.1)))
+  where
+    by : (k : Key) (rest : List ℕ) (b : Bool)
+        → LeavesEnd {A = Expression} rest (option_map (λ left. ((k, array_table), left)) (cond b (Some (drop 1 rest)) None))
+    by k rest true = ends_drop 1 rest
+    by k rest false = tt
+
+line_ends : (text : List ℕ) → LeavesEnd text (line text)
+line_ends text =
+    leaves_then text (expression text) (λ e. cond (ends_line (skip_ws e.1)) (Some e) None) (expression_ends text)
+    (λ e. leaves_if e.1 (ends_line (skip_ws e.1)) (Some e) None (ends_self e.1) tt)
+
+pub unmarked_ends : (text : List ℕ) → EndsWith text (skip_bom text)
+unfolding skip_bom
+unmarked_ends text = by ((first text == 239 && slice_index text 1 == 187) && slice_index text 2 == 191)
+  where
+    by : (b : Bool) → EndsWith text (cond b (drop 3 text) text)
+    by true = ends_drop 3 text
+    by false = ends_self text
+
 -- ---- turns of the loops
+
+pub line_left : (text rest : List ℕ) (e : Expression) (after : List ℕ) → EndsWith text rest → line (skip_blank rest) ≡ Some (e, after)
+    → EndsWith text after
+line_left text rest e after ends read =
+    let start = skip_blank rest in
+    ends_then text rest after ends (ends_then rest start after (skip_blank_ends rest) (end_left start (line start) e after (line_ends start) read))
 
 pub value_ends : (text rest : List ℕ) (key : Key) (at : List ℕ) → EndsWith text rest → key_equals (skip_blank rest) ≡ Some (key, at) → EndsWith text at
 value_ends text rest key at ends named =
@@ -297,3 +350,13 @@ pub pair_left : (depth : ℕ) (rest : List ℕ) (key : Key) (at : List ℕ) (x :
 pair_left depth rest key at x after next closing named read element =
     ends_then rest at next (value_ends rest rest key at (ends_self rest) named)
     (ends_then at after next (end_left at (val depth at) x after (val_ends depth at) read) (after_element_ends closing after next element))
+
+-- a place in an ending, counted from the end, in the whole text
+pub same_end : (text start : List ℕ) (left : ℕ) → EndsWith text start → left ≤ length start
+    → (left ≤ length text) × (drop (length start - left) start ≡ drop (length text - left) text)
+same_end text start left (front, is) within =
+    let all : length text ≡ length front + length start = ap length is ∙ length-append front start in
+    let from : length text - left ≡ length front + (length start - left) = omega (arith, all, within) in (
+      omega (arith, all, within),
+      sym (rw from (ap (drop (length front + (length start - left))) is ∙ drop-append-add front start (length start - left))),
+    )

@@ -18,7 +18,8 @@ use Rattle.toml_ordered.specs.Passing.{held}
 use Rattle.toml_ordered.specs.Keys.{HasKey}
 use Rattle.toml_ordered.specs.Firsts.{Firsts, no_firsts, HasFirst, node_firsts, keys_firsts, table_firsts, keys_in}
 use Rattle.toml_ordered.specs.Firsts.{keys_at, PassesKey, IsNewKey, AddsFirsts, IsAgain}
-use Rattle.toml_ordered.specs.Reading.{ParsesTo, IsMemory, IsPassed, IsSameKey}
+use Rattle.toml_ordered.specs.Places.{IsReworded}
+use Rattle.toml_ordered.specs.Reading.{IsGrammarRefusal, ParsesTo, IsMemory, IsPassed, IsSameKey}
 use Rattle.toml_ordered.specs.Tables.{get_node, steps_along}
 
 -- ---- values
@@ -30,10 +31,8 @@ pub node_firsts-Tables : (done : Vec CodeNode Global) (last : CodeTable) → nod
 node_firsts-Tables done last = search (rules, the_lemmas)
 
 pub node_firsts-Table : (origin : Origin) (t : CodeTable) → (origin ≡ Closed → ⊥) → node_firsts (Table origin t) ≡ table_firsts t
-node_firsts-Table Implicit t grows = search (rules, the_lemmas)
-node_firsts-Table Dotted t grows = search (rules, the_lemmas)
-node_firsts-Table Header t grows = search (rules, the_lemmas)
 node_firsts-Table Closed t grows = absurd (grows refl)
+node_firsts-Table _ t grows = search (rules, the_lemmas)
 
 -- a value has those of the table that it holds, or none
 pub held_firsts : (h : Holder) (t : CodeTable) → (node_firsts (held h t) ≡ table_firsts t) ⊎ (node_firsts (held h t) ≡ no_firsts)
@@ -183,21 +182,40 @@ adds_nothing whole here ns old new (inr gone) path key left first = absurd (subs
 pub again_memory : (whole : Path) (here : ℕ) (old : Firsts) (Shut : Keys) (fault : Fault) → IsMemory fault → IsAgain whole here old Shut fault
 again_memory whole here old Shut fault is = subst (IsAgain whole here old Shut) (sym is) tt
 
+-- a fault in other words
+pub reworded_memory : (was now : Fault) → IsReworded was now → IsMemory was → IsMemory now
+reworded_memory fault.Memory now is memory = is
+reworded_memory _ now is memory = absurd (cc)
+
+pub again_reworded : (whole : Path) (here : ℕ) (old : Firsts) (Shut : Keys) (was now : Fault) → IsReworded was now → IsAgain whole here old Shut was
+    → IsAgain whole here old Shut now
+again_reworded whole here old Shut fault.Memory now is again = subst (IsAgain whole here old Shut) (sym is) tt
+again_reworded whole here old Shut (fault.NotToml left why) now is again = absurd again
+again_reworded whole here old Shut (fault.TooDeep left) now is again = absurd again
+again_reworded whole here old Shut (fault.DefinedAgain key name first second) now (inl is) again = subst (IsAgain whole here old Shut) (sym is) tt
+again_reworded whole here old Shut (fault.DefinedAgain key name first second) now (inr (other, is)) again =
+    subst (IsAgain whole here old Shut) (sym is) again
+
+pub refused_reworded : {B : Type 0} (expected : Option B) (whole : Path) (here : ℕ) (old : Firsts) (Shut : Keys) (was now : Fault) → IsReworded was now
+    → IsGrammarRefusal expected (IsAgain whole here old Shut) was → IsGrammarRefusal expected (IsAgain whole here old Shut) now
+refused_reworded expected whole here old Shut was now is refused =
+    ((λ real. refused.0 (λ memory. real (reworded_memory was now is memory))), again_reworded whole here old Shut was now is refused.1)
+
 -- none was defined before in an empty table
 pub again_nothing : (whole all : Path) (here : ℕ) (old : Firsts) (Inner Shut : Keys) (found : Fault) → IsAgain whole here no_firsts Inner found
     → IsAgain all here old Shut found
 again_nothing whole all here old Inner Shut fault.Memory again = tt
-again_nothing whole all here old Inner Shut (fault.NotToml left) again = again
+again_nothing whole all here old Inner Shut (fault.NotToml left why) again = again
 again_nothing whole all here old Inner Shut (fault.TooDeep left) again = again
-again_nothing whole all here old Inner Shut (fault.DefinedAgain key first second) again = absurd again.2
+again_nothing whole all here old Inner Shut (fault.DefinedAgain key name first second) again = absurd again.2
 
 -- the key itself, at the beginning of the whole path
 pub again_here : (k : List ℕ) (rest : Path) (here : ℕ) (at : ℕ) (es : List Entry) (e : Entry) (Shut : Keys) (found : Fault) → HasKey k at es
     → get_or es at e ≡ e → IsPassed (string_bytes e.0) e.2 here found → ((IsMemory found → ⊥) → Shut [] k) → IsAgain (k ∷ rest) here (keys_firsts es) Shut found
 again_here k rest here at es e Shut fault.Memory has is_e passed shut = tt
-again_here k rest here at es e Shut (fault.NotToml left) has is_e passed shut = passed
+again_here k rest here at es e Shut (fault.NotToml left why) has is_e passed shut = passed
 again_here k rest here at es e Shut (fault.TooDeep left) has is_e passed shut = passed
-again_here k rest here at es e Shut (fault.DefinedAgain key first second) has is_e passed shut =
+again_here k rest here at es e Shut (fault.DefinedAgain key name first second) has is_e passed shut =
     let is_key : string_bytes key ≡ k = passed.0 ∙ ap (λ (d : Entry). string_bytes d.0) (sym is_e) ∙ sym (name_is k at es e has) in
     let is_first : first ≡ (get_or es at e).2 = passed.1 ∙ ap (λ (d : Entry). d.2) (sym is_e) in (
       passed.2,
@@ -213,9 +231,9 @@ pub again_inside : (k : List ℕ) (whole : Path) (here : ℕ) (at : ℕ) (es : L
     → ((path : Path) (key : List ℕ) → Inner path key → Shut (k ∷ path) key) → (found : Fault) → HasKey k at es → get_or es at e ≡ e
     → IsAgain whole here (node_firsts e.1) Inner found → IsAgain (k ∷ whole) here (keys_firsts es) Shut found
 again_inside k whole here at es e Inner Shut outwards fault.Memory has is_e again = tt
-again_inside k whole here at es e Inner Shut outwards (fault.NotToml left) has is_e again = again
+again_inside k whole here at es e Inner Shut outwards (fault.NotToml left why) has is_e again = again
 again_inside k whole here at es e Inner Shut outwards (fault.TooDeep left) has is_e again = again
-again_inside k whole here at es e Inner Shut outwards (fault.DefinedAgain key first second) has is_e again = (
+again_inside k whole here at es e Inner Shut outwards (fault.DefinedAgain key name first second) has is_e again = (
   again.0,
   k ∷ again.1,
   has_inside k at es e has again.1 (string_bytes key) first

@@ -4,7 +4,6 @@ use Rattle.std.proofs.Common.{String, Global, string_bytes, rules, arith, option
 use Rattle.std.proofs.lemmas.Bool.{cases_Bool, eq-eqb, ne_eqb}
 use Rattle.toml_parser.specs.Lexical.{Read, first, skip_blank, skip_ws}
 use Rattle.toml_parser.specs.Strings.{Key, key, quoted, starts_string}
-use Rattle.toml_parser.specs.Numbers.{unquoted}
 use Rattle.toml_parser.specs.declared.error.ParseError.{ParseError}
 use Rattle.toml_parser.specs.declared.error.ParseError.TheVariants as parse
 use Rattle.toml.specs.Parse.{after_byte, after_element, ends_line, header_key, key_equals}
@@ -21,6 +20,7 @@ use Rattle.toml_ordered.specs.Firsts.{FaultTells, IsOther, NeitherTells}
 use Rattle.toml_ordered.specs.Nesting.{ExpressionNestsPast, ExpressionTells, HasLongKey, KeyTells, PairClashes, own_key}
 use Rattle.toml_ordered.specs.Reading.{IsGrammarRefusal, IsMemory, fault_of}
 use Rattle.toml_ordered.specs.declared.fault.Fault.{Fault}
+use Rattle.toml_ordered.specs.declared.syntax.SyntaxError.{SyntaxError}
 use Rattle.toml_ordered.specs.declared.tree.Node.{Text, the_lemmas}
 use Rattle.toml_ordered.specs.declared.fault.Fault.TheVariants as fault
 
@@ -34,15 +34,15 @@ no_token error found expected is none = subst (IsGrammarRefusal expected IsOther
     by (parse.At kind from to) refused = (λ real. refused (λ m. cc), tt)
 
 -- no text of the grammar goes on here, and more is told
-pub ends_text : {B : Type 0} (left : ℕ) (found : Fault) (expected : Option B) (again : List ℕ → ℕ → ℕ → Type 0) (deep : ℕ → Type 0)
-    → found ≡ fault.NotToml left → expected ≡ None → NeitherTells again deep → IsGrammarRefusal expected (λ f. FaultTells f again deep) found
-ends_text left found expected again deep is none neither =
+pub ends_text : {B : Type 0} (left : ℕ) (why : SyntaxError) (found : Fault) (expected : Option B) (again : List ℕ → ℕ → ℕ → Type 0) (deep : ℕ → Type 0)
+    → found ≡ fault.NotToml left why → expected ≡ None → NeitherTells again deep → IsGrammarRefusal expected (λ f. FaultTells f again deep) found
+ends_text left why found expected again deep is none neither =
     subst (IsGrammarRefusal expected (λ f. FaultTells f again deep)) (sym is) (λ real. none, neither)
 
 -- no text of the grammar goes on here
-pub no_text : {B : Type 0} (left : ℕ) (found : Fault) (expected : Option B) → found ≡ fault.NotToml left → expected ≡ None
+pub no_text : {B : Type 0} (left : ℕ) (why : SyntaxError) (found : Fault) (expected : Option B) → found ≡ fault.NotToml left why → expected ≡ None
     → IsGrammarRefusal expected IsOther found
-no_text left found expected is none = subst (IsGrammarRefusal expected IsOther) (sym is) (λ real. none, tt)
+no_text left why found expected is none = subst (IsGrammarRefusal expected IsOther) (sym is) (λ real. none, tt)
 
 -- the byte after the blanks, which closes an array or a table in braces, or not
 module _ (closing : ℕ) (text start : List ℕ) (blank : start ≡ skip_blank text) (byte : ℕ) (here : byte ≡ first start) where
@@ -68,9 +68,6 @@ module _ (text : List ℕ) (flag : Bool) (starts : flag ≡ starts_string text) 
 
   pub text_bad : flag ≡ true → quoted text ≡ None → atom text ≡ None
   text_bad is read = let begins : starts_string text ≡ true = rw (← starts) is in rw (begins, read)
-
-  pub scalar_bad : flag ≡ false → unquoted text ≡ None → atom text ≡ None
-  scalar_bad other read = let begins : starts_string text ≡ false = rw (← starts) other in rw (begins, read)
 
 -- keys
 -- a key that was read, past the blanks after it
@@ -141,9 +138,6 @@ module _ (text : List ℕ) (byte : ℕ) (here : byte ≡ first text) (other : by
     pair_is x rest read = rw (no_header, named, read, val_sealed 80 at x rest read)
 
 module _ (text : List ℕ) where
-  pub line_bad : expression text ≡ None → line text ≡ None
-  line_bad read = rw read
-
   module _ (e : Expression) (rest end : List ℕ) (read : expression text ≡ Some (e, rest)) (behind : end ≡ skip_ws rest) where
     pub line_is : ends_line end ≡ true → line text ≡ Some (e, rest)
     line_is ends = let alone : ends_line (skip_ws rest) ≡ true = rw (← behind) ends in rw (read, alone)

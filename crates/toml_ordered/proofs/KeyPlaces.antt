@@ -1,18 +1,12 @@
 -- The keys of a table and their index beside the keys and values as contracts see them.
-use Rattle.std.proofs.Common.{◌≡◌, ℕ, zero, suc, ◌+◌, ◌<◌, ◌≤◌, ◌==◌, ◌||◌, nat_lt, true, false, Bool, List, [], ◌∷◌, ◌++◌, length, drop, drop-cons}
-use Rattle.std.proofs.Common.{Option, Some, None, cond}
-use Rattle.std.proofs.Common.{string_bytes, bytes_eq, refl, sym, ap, subst, ◌∙◌}
-use Rattle.std.proofs.Common.{inl, inr, arith, set, get_or}
-use Rattle.std.proofs.lemmas.Bool.{cases_Bool, eq-eqb, eqb-true, false≢true}
-use Rattle.std.proofs.lemmas.Bool.Decides.{nat_tests}
-use Rattle.std.proofs.lemmas.List.{drop_all}
-use Rattle.std.proofs.lemmas.Slice.Eq.{bytes_eq-Decides}
-use Rattle.std.specs.BTreeMap.{get_by_text}
-use Rattle.std.specs.Map.{update}
+use Rattle.std.proofs.Common.{◌≡◌, ℕ, zero, suc, ◌+◌, ◌<◌, ◌≤◌, ◌==◌, ◌||◌, nat_lt, true, false, Bool, List, [], ◌∷◌, ◌++◌, length, drop, drop-cons, Option}
+use Rattle.std.proofs.Common.{Some, None, cond, string_bytes, bytes_eq, refl, sym, ap, subst, ◌∙◌, inl, inr, arith, set, get_or}
 use Rattle.toml_ordered.proofs.Trees.{Entry, Places}
-use Rattle.toml_ordered.specs.Data.{TomlNode, TomlNodes, no_nodes, counts, is_place, kept, nodes_from, node_view}
+use Rattle.toml_ordered.specs.Data.{TomlNode, TomlNodes, counts, is_place, kept, nodes_from, node_view}
 use Rattle.toml_ordered.specs.Keys.{entries_view, keys_view, HasKey, IsFoundAt, IsNoted}
 use Rattle.toml_ordered.specs.Tables.{get_node, append, replace}
+use Rattle.std.proofs.lemmas.{Bool.cases_Bool, Bool.eq-eqb, Bool.eqb-true, Bool.false≢true, Bool.Decides.nat_tests, Slice.Eq.bytes_eq-Decides}
+use Rattle.std.specs.{BTreeMap.get_by_text, Map.update}
 
 -- ---- a key that doesn't count, or is another
 
@@ -235,9 +229,6 @@ at_place index n next es e b within is more place =
     (nodes_from index m (entries_view (drop m es)))) (sym more)
     ∙ ap (λ (c : Bool). kept c (string_bytes e.0) (node_view e.1) (nodes_from index next (entries_view (drop next es)))) (sym place)
 
-pub past_all : (index : Places) (n : ℕ) (es : List Entry) → length es ≤ n → nodes_from index n (entries_view (drop n es)) ≡ no_nodes
-past_all index n es past = ap (λ (ds : List Entry). nodes_from index n (entries_view ds)) (drop_all n es past)
-
 -- ---- a key that goes last
 
 module _ (index after : Places) (w : Entry) where
@@ -288,12 +279,6 @@ appended index after es w none noted =
           from_first (λ m. counts after m l ≡ counts index m l) before
           (noted.1 l before less (λ live. other (from_first (λ m. counts index m l ≡ true) before live))),
     )
-
--- a place that needs no index
-pub noted_listed : (k : List ℕ) (at : ℕ) (index : Places) → at < 16 → IsNoted k at index index
-noted_listed k at index less =
-    let listed : nat_lt at 16 ≡ true = grind (arith, nat_tests, less) in
-    (ap (λ (b : Bool). b || is_place (get_by_text index k) at) listed, λ l before earlier other. refl)
 
 -- a place that the index has
 pub noted_indexed : (k : List ℕ) (at : ℕ) (index after : Places)

@@ -4,7 +4,6 @@ use Rattle.std.proofs.Common.{Some, None, inl, inr}
 use Rattle.std.proofs.Common.{refl, sym, ap, subst, ◌∙◌, arith, slice_index}
 use Rattle.std.proofs.lemmas.Option.{none-some, same_Some}
 use Rattle.std.proofs.lemmas.Bool.{cases_Bool, eq-eqb, eqb-true, ne_eqb}
-use Rattle.std.proofs.lemmas.Bool.Decides.{nat_tests}
 use Rattle.std.proofs.lemmas.List.{length-append}
 use Rattle.std.specs.List.{prefix_len}
 use Rattle.std.specs.Prelude.{option_and_then}
@@ -17,6 +16,7 @@ use Rattle.toml_ordered.specs.Grammar.{expression, key_before}
 use Rattle.toml_ordered.specs.Nesting.{HasLongKey, KeyTells, any_key, own_key}
 use Rattle.toml_ordered.specs.Places.{key_parts}
 use Rattle.toml_ordered.specs.declared.fault.Fault.{Fault}
+use Rattle.toml_ordered.specs.declared.syntax.SyntaxError.{SyntaxError}
 use Rattle.toml_ordered.specs.declared.fault.Fault.TheVariants as fault
 
 -- the text after a part of a key and a dot
@@ -39,9 +39,6 @@ bare_turn (c ∷ cs) bare =
     rw (bare, next)
 
 -- ---- parts in quotes
-
-pub quote_ascii : (text : List ℕ) → starts_string text ≡ true → (0 < first text) × (first text < 128)
-quote_ascii text starts = (grind (arith, nat_tests), grind (arith, nat_tests))
 
 -- two delimiters are an empty string
 pub empty_string : (text : List ℕ) (byte : ℕ) → byte ≡ first text → slice_index text 1 ≡ byte → starts_string text ≡ true
@@ -294,8 +291,8 @@ module _ (text : List ℕ) where
 -- ---- what is told of a key
 
 module _ (text : List ℕ) (found : Fault) where
-  pub tells_short : (left : ℕ) → found ≡ fault.NotToml left → ((left : ℕ) → HasLongKey left text → ⊥) → KeyTells text found
-  tells_short left is none = subst (KeyTells text) (sym is) (λ key one two clash. clash, none)
+  pub tells_short : (left : ℕ) (why : SyntaxError) → found ≡ fault.NotToml left why → ((left : ℕ) → HasLongKey left text → ⊥) → KeyTells text found
+  tells_short left why is none = subst (KeyTells text) (sym is) (λ key one two clash. clash, none)
 
   pub tells_long : found ≡ fault.TooDeep (length text) → HasLongKey (length text) text → KeyTells text found
   tells_long is long = subst (KeyTells text) (sym is) long

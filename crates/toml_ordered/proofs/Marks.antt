@@ -1,9 +1,8 @@
 -- The byte order mark that may begin a text.
-use Rattle.std.proofs.Common.{◌≡◌, ℕ, ◌&&◌, ◌==◌, Bool, true, false, cond, List, [], ◌∷◌, drop, slice_index, refl, sym, ap, arith}
-use Rattle.std.proofs.lemmas.Bool.Decides.{nat_tests}
-use Rattle.std.proofs.lemmas.Grind.{common_steps}
+use Rattle.std.proofs.Common.{◌≡◌, ℕ, ◌&&◌, ◌==◌, Bool, true, false, cond, List, ◌∷◌, drop, slice_index, refl, sym, ap, arith}
 use Rattle.toml_parser.specs.Lexical.{first}
 use Rattle.toml.specs.Parse.{skip_bom}
+use Rattle.std.proofs.lemmas.{Bool.Decides.nat_tests, Grind.common_steps}
 
 abbrev pub marked : List ℕ → List ℕ
 marked rest = 239 ∷ 187 ∷ 191 ∷ rest
@@ -13,10 +12,8 @@ unfolding skip_bom
 marked_is text rest is = sym (ap skip_bom is)
 
 by_bytes : (text : List ℕ) → first text ≡ 239 → slice_index text 1 ≡ 187 → slice_index text 2 ≡ 191 → text ≡ marked (drop 3 text)
-by_bytes [] a b c = cc
-by_bytes (x ∷ []) a b c = cc
-by_bytes (x ∷ y ∷ []) a b c = cc
 by_bytes (x ∷ y ∷ z ∷ rest) a b c = rw (a, b, c)
+by_bytes _ a b c = cc
 
 pub unmarked_is : (text : List ℕ) → ((rest : List ℕ) → text ≡ marked rest → ⊥) → text ≡ skip_bom text
 unfolding skip_bom

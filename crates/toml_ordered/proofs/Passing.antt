@@ -1,27 +1,25 @@
 -- A table is taken out of another, and put back.
-use Rattle.std.proofs.Common.{length, List, [], ◌∷◌, ◌++◌, Some, None, string_bytes, option_map, ◌≡◌, ℕ, zero, suc, ◌<◌}
-use Rattle.std.proofs.Common.{inl, inr, refl, sym, ap, subst, ◌∙◌, arith, set, get_or, reverse}
+use Rattle.std.proofs.Common.{length, List, [], ◌∷◌, ◌++◌, Some, None, string_bytes, option_map, ◌≡◌, ℕ, zero, suc, ◌<◌, inl, inr, refl, sym, ap, subst, ◌∙◌}
+use Rattle.std.proofs.Common.{arith, set, get_or, reverse}
 use Rattle.std.proofs.lemmas.List.{reverse-append}
 use Rattle.toml_ordered.proofs.KeyPlaces.{found_here, written_here}
 use Rattle.toml_ordered.proofs.Trees.{Entry, Places, held_is, node_view-Table}
-use Rattle.toml_ordered.proofs.FirstKeys.{adds_inside, adds_missing, again_here, again_inside, again_memory, again_nothing, held_firsts, node_firsts-Table}
+use Rattle.toml_ordered.proofs.FirstKeys.{adds_inside, adds_missing, again_here, again_inside, again_nothing}
+use Rattle.toml_ordered.proofs.FirstKeys.{again_reworded, held_firsts, node_firsts-Table, reworded_memory}
 use Rattle.toml_ordered.proofs.Turns.{along_found, along_refused, along_new, along_new_refused}
 use Rattle.toml_ordered.specs.Data.{TomlNode, TomlNodes, no_nodes, node_view, table}
 use Rattle.toml_ordered.specs.Keys.{IsFoundAt, held_view, keys_view, table_view}
 use Rattle.toml_ordered.specs.Firsts.{Firsts, AddsFirsts, HasFirst, IsAgain, node_firsts, keys_firsts, table_firsts, keys_in, no_firsts, IsShutAt}
 use Rattle.toml_ordered.specs.Passing.{held, with_value_at, Fills, IsFilled, AreFilled, IsOpened, IsShut, PassesSteps, RefusesSteps, keys_of}
-use Rattle.toml_ordered.specs.Reading.{IsMemory, IsPassed, IsSameKey}
+use Rattle.toml_ordered.specs.Places.{IsReworded}
+use Rattle.toml_ordered.specs.Reading.{IsPassed, IsSameKey}
 use Rattle.toml_ordered.specs.Tables.{Edit, along, append, get_node, made_by, passed, replace}
+use Rattle.toml_ordered.specs.declared.{fault.Fault.Fault, route.Way.Way, tree.holder.Holder.Holder, passed.Passed.Passed, tree.Origin.Origin}
+use Rattle.toml_ordered.specs.declared.{tree.Origin.TheVariants.Closed}
 use Rattle.toml_ordered.specs.declared.tree.Node.{Node as CodeNode, Table}
 use Rattle.toml_ordered.specs.declared.tree.Table.{Table as CodeTable}
-use Rattle.toml_ordered.specs.declared.fault.Fault.{Fault}
-use Rattle.toml_ordered.specs.declared.route.Way.{Way}
-use Rattle.toml_ordered.specs.declared.tree.holder.Holder.{Holder}
 use Rattle.toml_ordered.specs.declared.tree.holder.Holder.TheVariants as holder
-use Rattle.toml_ordered.specs.declared.passed.Passed.{Passed}
 use Rattle.toml_ordered.specs.declared.route.Way.TheVariants as way
-use Rattle.toml_ordered.specs.declared.tree.Origin.{Origin}
-use Rattle.toml_ordered.specs.declared.tree.Origin.TheVariants.{Closed}
 
 -- ---- another value at a place
 
@@ -175,11 +173,13 @@ module _ (by : Way) (rest : List (Way × List ℕ)) (left at : ℕ) (outer inner
           (subst (λ (es : List Entry). IsAgain (keys_of rest ++ key ∷ []) left (keys_firsts es) (IsShutAt rest key what (table_view inner)) fault) empty again);
     }
 
--- an allocation that failed
-pub refuses_memory : (all : List (Way × List ℕ)) (left : ℕ) (outer : CodeTable) (fault : Fault) → IsMemory fault → RefusesSteps all left outer fault
-refuses_memory all left outer fault is = record {
-  value = λ edit real. absurd (real is);
-  again = λ key what. again_memory (keys_of all ++ key ∷ []) left (table_firsts outer) (IsShutAt all key what (table_view outer)) fault is;
+-- a fault in other words
+pub refuses_reworded : (all : List (Way × List ℕ)) (left : ℕ) (outer : CodeTable) (was now : Fault) → IsReworded was now → RefusesSteps all left outer was
+    → RefusesSteps all left outer now
+refuses_reworded all left outer was now is refuses = record {
+  value = λ edit real. refuses.value edit (λ memory. real (reworded_memory was now is memory));
+  again = λ key what.
+      again_reworded (keys_of all ++ key ∷ []) left (table_firsts outer) (IsShutAt all key what (table_view outer)) was now is (refuses.again key what);
 }
 
 -- ---- several

@@ -1,10 +1,9 @@
 -- Some values that nest too deep, and a key of too many parts, computed.
 use Rattle.std.proofs.Common.{◌≡◌, ◌++◌, ℕ, List, [], Some, arith, codes, refl, replicate, inl, inr}
-use Rattle.toml_parser.specs.Lexical.{skip_from, skip_ws}
-use Rattle.toml_parser.specs.Strings.{key_after, simple_key}
 use Rattle.toml.specs.Parse.{after_element}
 use Rattle.toml_ordered.specs.Grammar.{items, val}
 use Rattle.toml_ordered.specs.Nesting.{HasLongKey, NestsPast, after_items, any_key}
+use Rattle.toml_parser.specs.{Lexical.skip_from, Lexical.skip_ws, Strings.key_after, Strings.simple_key}
 
 -- []: an array at a depth at which none is allowed
 array : NestsPast 0 2 (codes "[]")

@@ -1,15 +1,11 @@
 -- Keys put in order, one after another: two different keys may change places.
 use Rattle.std.proofs.Common.{◌≡◌, ℕ, Ordering, Less, Equal, Greater, nat_cmp, is_eq, true, false, List, Some, refl, sym, ap, subst, ◌∙◌, inl, inr, ◌⊎◌}
 use Rattle.std.proofs.Common.{bytes_eq}
-use Rattle.std.proofs.lemmas.Bool.{cases_Bool, false≢true}
-use Rattle.std.proofs.lemmas.Cmp.{nat_list_cmp_total}
-use Rattle.std.proofs.lemmas.Slice.Eq.{bytes_eq-Decides}
-use Rattle.std.proofs.lemmas.Map.Text.{is_eq-slice_cmp}
-use Rattle.std.specs.Cmp.Lexicographic.{slice_cmp}
-use Rattle.std.specs.Ordering.{ordering_reverse}
 use Rattle.toml.proofs.NodeLaws.{get_node-insert, replace-insert}
 use Rattle.toml.specs.Data.{same_key}
 use Rattle.toml.specs.Tables.{Node, Nodes, no_nodes, node, get_node, insert, replace}
+use Rattle.std.proofs.lemmas.{Bool.cases_Bool, Bool.false≢true, Cmp.nat_list_cmp_total, Slice.Eq.bytes_eq-Decides, Map.Text.is_eq-slice_cmp}
+use Rattle.std.specs.{Cmp.Lexicographic.slice_cmp, Ordering.ordering_reverse}
 
 abbrev pub IsOneOfThree : Ordering → Type 0
 IsOneOfThree o = (o ≡ Less) ⊎ ((o ≡ Equal) ⊎ (o ≡ Greater))

@@ -1,23 +1,20 @@
 -- Scalars with the words that write them: a float's characters are those of the float that `toml` reads.
 use Rattle.std.proofs.Common.{◌≡◌, ℕ, Bool, true, false, cond, ◌||◌, ◌==◌, List, [], ◌∷◌, take, drop, codes, Float as FloatValue, Option, Some, None}
 use Rattle.std.proofs.Common.{option_map, refl, sym, ap, subst, ◌∙◌, bytes_eq}
-use Rattle.std.proofs.lemmas.Bool.{false≢true, eqb-true}
-use Rattle.std.proofs.lemmas.Slice.Eq.{bytes_eq-Decides}
-use Rattle.std.specs.Char.{is_digit}
-use Rattle.std.specs.Float.Ieee.{inf, nan}
-use Rattle.toml_datetime.specs.Parse.{parse_datetime}
-use Rattle.toml_datetime.specs.declared.datetime.Datetime.{Datetime}
 use Rattle.toml_parser.specs.Lexical.{first}
 use Rattle.toml_parser.specs.Numbers.{unquoted, word_len, word_value, number, plain_number, decimal_number, looks_like_datetime, underscores_fit}
 use Rattle.toml_parser.specs.Numbers.{underscore_radix}
 use Rattle.toml_parser.specs.declared.scalar.Scalar.{Scalar}
-use Rattle.toml_parser.specs.declared.scalar.Scalar.TheVariants as scalar
-use Rattle.toml.specs.Data as plain
-use Rattle.toml.specs.Parse as p
 use Rattle.toml.specs.Parse.{read_map}
 use Rattle.toml_ordered.specs.Data.{infinity, not_a_number, decimal}
 use Rattle.toml_ordered.specs.Grammar.{plain_word, without_sign, float_node, scalar_node}
 use Rattle.toml_ordered.specs.Sorted.{float_in, sorted_value}
+use Rattle.toml_datetime.specs.{Parse.parse_datetime, declared.datetime.Datetime.Datetime}
+use Rattle.std.proofs.lemmas.{Bool.false≢true, Bool.eqb-true, Slice.Eq.bytes_eq-Decides}
+use Rattle.std.specs.{Char.is_digit, Float.Ieee.inf, Float.Ieee.nan}
+use Rattle.toml_parser.specs.declared.scalar.Scalar.TheVariants as scalar
+use Rattle.toml.specs.Data as plain
+use Rattle.toml.specs.Parse as p
 
 past_is : (c : ℕ) (rest : List ℕ) (name : List ℕ) (Q : List ℕ → Type 0) → Q (43 ∷ name) → Q (45 ∷ name) → Q name → without_sign (c ∷ rest) ≡ name → Q (c ∷ rest)
 past_is c rest name Q plus minus bare = by (c == 43) refl (c == 45) refl
@@ -62,10 +59,9 @@ number_of_float word x = by (bytes_eq word (codes "true")) (bytes_eq word (codes
 
     by : (a b c : Bool) → cond a (Some (scalar.Boolean true)) (cond b (Some (scalar.Boolean false))
         (cond c (option_map scalar.Datetime (parse_datetime word)) (number word))) ≡ Some (scalar.Float x) → number word ≡ Some (scalar.Float x)
-    by true b c e = absurd (false≢true (ap is_float e))
-    by false true c e = absurd (false≢true (ap is_float e))
     by false false true e = dated (parse_datetime word) e
     by false false false e = e
+    by _ _ c e = absurd (false≢true (ap is_float e))
 
 plain_of_number : (word : List ℕ) (x : FloatValue) → number word ≡ Some (scalar.Float x) → plain_number (plain_word word) ≡ Some (scalar.Float x)
 unfolding number
@@ -76,10 +72,8 @@ plain_of_number word x = by (underscores_fit (λ c. is_digit c (underscore_radix
     by false e = absurd (false≢true (ap is_float e))
 
 same_word : (word : List ℕ) (s : Scalar) → word_value word ≡ Some s → sorted_value (scalar_node word s) ≡ p.scalar_data s
-same_word word (scalar.Boolean flag) e = refl
-same_word word (scalar.Integer z) e = refl
 same_word word (scalar.Float x) e = same_float (plain_word word) x (plain_of_number word x (number_of_float word x e))
-same_word word (scalar.Datetime d) e = refl
+same_word word _ e = refl
 
 pub same_scalar : (text : List ℕ)
     → option_map (λ r. (sorted_value r.0, r.1)) (read_map (scalar_node (take (word_len text) text)) (unquoted text)) ≡ read_map p.scalar_data (unquoted text)
@@ -95,6 +89,5 @@ same_scalar text = by (word_len text == 0) (word_value word) refl
     by : (b : Bool) (o : Option Scalar) → word_value word ≡ o
         → option_map (λ r. (sorted_value r.0, r.1)) (read_map (scalar_node word) (cond b None (option_map (λ d. (d, rest)) o)))
         ≡ read_map p.scalar_data (cond b None (option_map (λ d. (d, rest)) o))
-    by true o e = refl
-    by false None e = refl
     by false (Some s) e = ap (λ d. Some (d, rest)) (same_word word s e)
+    by _ _ e = refl

@@ -1,22 +1,20 @@
 -- The rules for tables, with the keys in order of definition and with the keys sorted: each edit does the same.
-use Rattle.std.proofs.Common.{◌≡◌, ℕ, Bool, Ordering, Less, Equal, Greater, nat_cmp, true, false, cond, List, [], ◌∷◌, ◌++◌, Option, Some, None, option_map}
-use Rattle.std.proofs.Common.{refl, sym, ap, ◌∙◌, bytes_eq}
+use Rattle.std.proofs.Common.{◌≡◌, ℕ, Bool, Ordering, Less, nat_cmp, true, false, cond, List, [], ◌∷◌, ◌++◌, Option, Some, None, option_map, refl, sym, ap}
+use Rattle.std.proofs.Common.{◌∙◌, bytes_eq}
 use Rattle.std.proofs.lemmas.Option.{none-some}
-use Rattle.std.specs.Cmp.Lexicographic.{slice_cmp}
-use Rattle.std.specs.Ordering.{match_ordering}
 use Rattle.toml_parser.specs.Strings.{Key}
-use Rattle.toml.specs.Data as plain
-use Rattle.toml.specs.Tables as t
-use Rattle.toml_ordered.specs.Data.{TomlNode, string, integer, decimal, infinity, not_a_number, boolean, datetime, array, table, tables}
-use Rattle.toml_ordered.specs.Data.{Items, no_items, item, TomlNodes, no_nodes, node, push_item}
+use Rattle.toml_ordered.specs.Data.{TomlNode, string, integer, decimal, infinity, not_a_number, boolean, datetime, array, table, tables, Items, no_items, item}
+use Rattle.toml_ordered.specs.Data.{TomlNodes, no_nodes, node, push_item}
 use Rattle.toml_ordered.specs.Keys.{sealed}
 use Rattle.toml_ordered.specs.Sorted.{put_sorted, sorted_value, sorted_items, sorted_keys}
 use Rattle.toml_ordered.specs.Tables.{get_node, append, replace, Edit, passed, at_step, along, steps_by, steps_along, Definition, key_value, std_table, at_key}
 use Rattle.toml_ordered.specs.Tables.{array_table, new_node, redefine, at_found, put, TomlDocument, define}
-use Rattle.toml_ordered.specs.declared.route.Way.TheVariants as way
-use Rattle.toml_ordered.specs.declared.tree.Origin.{Origin}
-use Rattle.toml_ordered.specs.declared.tree.Origin.TheVariants.{Implicit, Dotted, Header, Closed}
 use Rattle.toml_ordered.proofs.SortedKeys.{swap, found_past, replaced_past, found_same, replaced_same}
+use Rattle.std.specs.{Cmp.Lexicographic.slice_cmp, Ordering.match_ordering}
+use Rattle.toml_ordered.specs.declared.tree.Origin.{Origin, TheVariants.Implicit, TheVariants.Dotted, TheVariants.Header, TheVariants.Closed}
+use Rattle.toml.specs.Data as plain
+use Rattle.toml.specs.Tables as t
+use Rattle.toml_ordered.specs.declared.route.Way.TheVariants as way
 
 -- ---- the tables of `toml` while it reads
 
@@ -45,8 +43,7 @@ abbrev mutual
 
 close-match : (o : Ordering) (a b c : t.Nodes) → t.close (match_ordering o a b c) ≡ match_ordering o (t.close a) (t.close b) (t.close c)
 close-match Less a b c = refl
-close-match Equal a b c = refl
-close-match Greater a b c = refl
+close-match _ a b c = refl
 
 close-insert : (k : List ℕ) (x : t.Node) (ns : t.Nodes) → t.close (t.insert k x ns) ≡ put_sorted k (t.close_node x) (t.close ns)
 close-insert k x t.no_nodes = refl
@@ -54,19 +51,10 @@ close-insert k x (t.node l y ns) = close-match (slice_cmp nat_cmp k l) _ _ _ ∙
 
 mutual
   pub closed_node : (x : TomlNode) → t.close_node (seen_node x) ≡ sorted_value x
-  closed_node (string text) = refl
-  closed_node (integer z) = refl
-  closed_node (decimal word) = refl
-  closed_node (infinity negative) = refl
-  closed_node not_a_number = refl
-  closed_node (boolean flag) = refl
-  closed_node (datetime d) = refl
-  closed_node (array xs) = refl
   closed_node (table Implicit ns) = ap plain.table (closed_keys ns)
-  closed_node (table Dotted ns) = ap plain.table (closed_keys ns)
-  closed_node (table Header ns) = ap plain.table (closed_keys ns)
-  closed_node (table Closed ns) = ap plain.table (closed_keys ns)
+  closed_node (table _ ns) = ap plain.table (closed_keys ns)
   closed_node (tables done last) = ap (λ ms. plain.array (plain.push_item (sorted_items done) (plain.table ms))) (closed_keys last)
+  closed_node _ = refl
 
   pub closed_keys : (ns : TomlNodes) → t.close (seen ns) ≡ sorted_keys ns
   closed_keys no_nodes = refl
@@ -119,35 +107,17 @@ mapped f g w v (Some a) p e same = ap (λ d. Some d) (same a) ∙ ap (option_map
 
 module _ (edit : Edit) (other : t.Edit) (same : Same edit other) where
   pub same_header : (x : TomlNode) → option_map seen_node (passed way.Header edit x) ≡ t.header_node other (seen_node x)
-  same_header (string text) = refl
-  same_header (integer z) = refl
-  same_header (decimal word) = refl
-  same_header (infinity negative) = refl
-  same_header not_a_number = refl
-  same_header (boolean flag) = refl
-  same_header (datetime d) = refl
-  same_header (array xs) = refl
   same_header (table Implicit ns) = mapped seen seen_node (table Implicit) (t.open_table t.implicit) (edit ns) (other (seen ns)) (same ns) (λ _. refl)
   same_header (table Dotted ns) = mapped seen seen_node (table Dotted) (t.open_table t.dotted) (edit ns) (other (seen ns)) (same ns) (λ _. refl)
   same_header (table Header ns) = mapped seen seen_node (table Header) (t.open_table t.header) (edit ns) (other (seen ns)) (same ns) (λ _. refl)
-  same_header (table Closed ns) = refl
   same_header (tables done last) =
       mapped seen seen_node (tables done) (t.open_array (sorted_items done)) (edit last) (other (seen last)) (same last) (λ _. refl)
+  same_header _ = refl
 
   pub same_dot : (x : TomlNode) → option_map seen_node (passed way.Dots edit x) ≡ t.dot_node other (seen_node x)
-  same_dot (string text) = refl
-  same_dot (integer z) = refl
-  same_dot (decimal word) = refl
-  same_dot (infinity negative) = refl
-  same_dot not_a_number = refl
-  same_dot (boolean flag) = refl
-  same_dot (datetime d) = refl
-  same_dot (array xs) = refl
   same_dot (table Implicit ns) = mapped seen seen_node (table Dotted) (t.open_table t.dotted) (edit ns) (other (seen ns)) (same ns) (λ _. refl)
   same_dot (table Dotted ns) = mapped seen seen_node (table Dotted) (t.open_table t.dotted) (edit ns) (other (seen ns)) (same ns) (λ _. refl)
-  same_dot (table Header ns) = refl
-  same_dot (table Closed ns) = refl
-  same_dot (tables done last) = refl
+  same_dot _ = refl
 
   missing_by : (origin : Origin) (with : t.Nodes → t.Node) → ((inner : TomlNodes) → seen_node (table origin inner) ≡ with (seen inner))
       → (k : List ℕ) (ns : TomlNodes)
@@ -205,52 +175,22 @@ DefinesComplete (key_value x) = IsComplete x
 DefinesComplete what = Unit {0}
 
 pub complete_sealed : (x : TomlNode) → IsComplete (sealed x)
-complete_sealed (string text) = refl
-complete_sealed (integer z) = refl
-complete_sealed (decimal word) = refl
-complete_sealed (infinity negative) = refl
-complete_sealed not_a_number = refl
-complete_sealed (boolean flag) = refl
-complete_sealed (datetime d) = refl
-complete_sealed (array xs) = refl
 complete_sealed (table origin ns) = ap (λ ms. t.value (plain.table ms)) (closed_keys ns)
-complete_sealed (tables done last) = refl
+complete_sealed _ = refl
 
 same_new : (what : Definition) → DefinesComplete what → seen_node (new_node what) ≡ t.new_node (seen_definition what)
 same_new (key_value x) complete = complete
-same_new std_table complete = refl
-same_new array_table complete = refl
+same_new _ complete = refl
 
 same_redefine : (what : Definition) (x : TomlNode) → option_map seen_node (redefine what x) ≡ t.redefine (seen_definition what) (seen_node x)
 same_redefine (key_value y) x = refl
-same_redefine std_table (string text) = refl
-same_redefine std_table (integer z) = refl
-same_redefine std_table (decimal word) = refl
-same_redefine std_table (infinity negative) = refl
-same_redefine std_table not_a_number = refl
-same_redefine std_table (boolean flag) = refl
-same_redefine std_table (datetime d) = refl
-same_redefine std_table (array xs) = refl
 same_redefine std_table (table Implicit ns) = refl
-same_redefine std_table (table Dotted ns) = refl
-same_redefine std_table (table Header ns) = refl
-same_redefine std_table (table Closed ns) = refl
-same_redefine std_table (tables done last) = refl
-same_redefine array_table (string text) = refl
-same_redefine array_table (integer z) = refl
-same_redefine array_table (decimal word) = refl
-same_redefine array_table (infinity negative) = refl
-same_redefine array_table not_a_number = refl
-same_redefine array_table (boolean flag) = refl
-same_redefine array_table (datetime d) = refl
-same_redefine array_table (array xs) = refl
+same_redefine std_table _ = refl
 same_redefine array_table (table Implicit ns) = refl
-same_redefine array_table (table Dotted ns) = refl
-same_redefine array_table (table Header ns) = refl
-same_redefine array_table (table Closed ns) = refl
 same_redefine array_table (tables done last) =
     ap (λ xs. Some (t.open_array xs t.no_nodes))
     (sorted-push done (table Closed last) ∙ ap (λ ms. plain.push_item (sorted_items done) (plain.table ms)) (sym (closed_keys last)))
+same_redefine array_table _ = refl
 
 same_found : (k : List ℕ) (what : Definition) → DefinesComplete what → (ns : TomlNodes) (o : Option TomlNode) → get_node k ns ≡ o
     → option_map seen (at_found k what ns o) ≡ t.at_found k (seen_definition what) (seen ns) (option_map seen_node o)

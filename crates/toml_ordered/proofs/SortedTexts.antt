@@ -1,7 +1,7 @@
 -- The document of a text, with the keys in order of definition and with the keys sorted: each part of the grammar reads the same.
 use Rattle.std.proofs.Common.{◌≡◌, ℕ, zero, suc, Bool, true, false, cond, ◌&&◌, ◌||◌, ◌==◌, List, [], length, drop, slice_index, Option, Some, None}
 use Rattle.std.proofs.Common.{option_map, option_and_then, refl, sym, ap, subst, ◌∙◌}
-use Rattle.std.proofs.lemmas.Option.{cond_some, option_and_then_some}
+use Rattle.std.proofs.lemmas.{Option.cond_some, Option.option_and_then_some, Iterator.Adapters.option_map_id}
 use Rattle.toml_parser.specs.Lexical.{Read, first, skip_ws, skip_blank}
 use Rattle.toml_parser.specs.Strings.{Key, quoted, starts_string, recursion_limit}
 use Rattle.toml.specs.Data as plain
@@ -26,14 +26,10 @@ bound : {A B C D : Type 0} (f : A → B) (g : C → D) (o : Option A) (q : Optio
 bound f g None q h k e each = ap (option_and_then k) e
 bound f g (Some a) q h k e each = each a refl ∙ ap (option_and_then k) e
 
-itself : {A : Type 0} (o : Option A) → option_map (λ a. a) o ≡ o
-itself None = refl
-itself (Some a) = refl
-
 -- both have the same next
 bound_same : {A C D : Type 0} (g : C → D) (o : Option A) (h : A → Option C) (k : A → Option D) → ((a : A) → o ≡ Some a → option_map g (h a) ≡ k a)
     → option_map g (option_and_then h o) ≡ option_and_then k o
-bound_same g o h k each = bound (λ a. a) g o o h k (itself o) each
+bound_same g o h k each = bound (λ a. a) g o o h k (option_map_id o) each
 
 either : {C D : Type 0} (g : C → D) (b : Bool) (x y : Option C) (z w : Option D) → option_map g x ≡ z → option_map g y ≡ w
     → option_map g (cond b x y) ≡ cond b z w
@@ -57,7 +53,7 @@ same_atom : SameVal atom p.atom
 unfolding p.atom
 same_atom text =
     either sorted_read (starts_string text) _ _ _ _
-    (same_read_map (λ a. a) string plain.string (quoted text) (quoted text) (itself (quoted text)) (λ _. refl)) (same_scalar text)
+    (same_read_map (λ a. a) string plain.string (quoted text) (quoted text) (option_map_id (quoted text)) (λ _. refl)) (same_scalar text)
 
 complete_keyval : (depth : ℕ) (text : List ℕ) (e : (Key × TomlNode) × List ℕ) → keyval (val depth) text ≡ Some e → IsComplete e.0.1
 complete_keyval depth text e is =
@@ -134,10 +130,10 @@ same_expression text =
     either seen_expression (first text == 91 && slice_index text 1 == 91) _ _ _ _
     (bound_same seen_expression (header_key (drop 2 text)) _ _
     (λ k is. mapped (λ rest. rest) seen_expression (λ rest. ((k.0, array_table), rest)) (λ rest. ((k.0, t.array_table), rest))
-    (after_byte 93 k.1) (after_byte 93 k.1) (itself (after_byte 93 k.1)) (λ _. refl)))
+    (after_byte 93 k.1) (after_byte 93 k.1) (option_map_id (after_byte 93 k.1)) (λ _. refl)))
     (either seen_expression (first text == 91) _ _ _ _
     (mapped (λ r. r) seen_expression (λ r. ((r.0, std_table), r.1)) (λ r. ((r.0, t.std_table), r.1)) (header_key (drop 1 text)) (header_key (drop 1 text))
-    (itself (header_key (drop 1 text))) (λ _. refl))
+    (option_map_id (header_key (drop 1 text))) (λ _. refl))
     (mapped sorted_pair seen_expression (λ r. ((r.0.0, key_value r.0.1), r.1))
     (λ r. ((r.0.0, t.key_value r.0.1), r.1)) (keyval (val recursion_limit) text) (p.keyval (p.val recursion_limit) text)
     (same_keyval recursion_limit (same_val recursion_limit) text) (λ _. refl)))

@@ -1,6 +1,7 @@
 -- The places at which a text is refused.
-use Rattle.std.proofs.Common.{◌≡◌, ℕ, ◌≤◌, List, min, sym, subst, arith}
-use Rattle.toml_ordered.specs.Places.{FaultIsPlaced, StopsAtExpression, moved_to, moved_within}
+use Rattle.std.proofs.Common.{◌≡◌, ℕ, ◌≤◌, List, length, min, sym, subst, arith}
+use Rattle.toml_ordered.proofs.Endings.{same_end}
+use Rattle.toml_ordered.specs.Places.{EndsWith, FaultIsPlaced, HoldsHere, IsSettled, StopsAtExpression, moved_to}
 use Rattle.toml_ordered.specs.Reading.{IsMemory}
 use Rattle.toml_ordered.specs.declared.fault.Fault.{Fault}
 use Rattle.toml_ordered.specs.declared.fault.Fault.TheVariants as fault
@@ -12,17 +13,27 @@ module _ (text : List ℕ) (here : ℕ) where
     where
       by : (f : Fault) → ((IsMemory f → ⊥) → StopsAtExpression text here) → FaultIsPlaced text (moved_to here f)
       by fault.Memory stops = tt
-      by (fault.NotToml left) stops = stops (λ m. cc)
-      by (fault.TooDeep left) stops = stops (λ m. cc)
-      by (fault.DefinedAgain key first second) stops = stops (λ m. cc)
+      by _ stops = stops (λ m. cc)
 
-  pub placed_within : (f moved : Fault) → moved ≡ moved_within here f → ((IsMemory f → ⊥) → (left : ℕ) → left ≤ here → StopsAtExpression text left)
+-- a fault that was settled in the expression that begins here
+module _ (text start : List ℕ) where
+  pub placed_within : (f moved : Fault) → IsSettled start f moved → ((IsMemory f → ⊥) → (left : ℕ) → left ≤ length start → StopsAtExpression text left)
       → FaultIsPlaced text moved
-  placed_within f moved is =
-      subst (λ (m : Fault). ((IsMemory f → ⊥) → (left : ℕ) → left ≤ here → StopsAtExpression text left) → FaultIsPlaced text m) (sym is) (by f)
-    where
-      by : (f : Fault) → ((IsMemory f → ⊥) → (left : ℕ) → left ≤ here → StopsAtExpression text left) → FaultIsPlaced text (moved_within here f)
-      by fault.Memory stops = tt
-      by (fault.NotToml left) stops = stops (λ m. cc) (min left here) (omega arith)
-      by (fault.TooDeep left) stops = stops (λ m. cc) (min left here) (omega arith)
-      by (fault.DefinedAgain key first second) stops = stops (λ m. cc) (min second here) (omega arith)
+  placed_within fault.Memory moved is stops = subst (FaultIsPlaced text) (sym is) tt
+  placed_within (fault.NotToml left why) (fault.NotToml l w) is stops = stops (λ m. cc) l is.1.0
+  placed_within (fault.NotToml left why) _ is stops = absurd is.0
+  placed_within (fault.TooDeep left) moved is stops =
+      subst (FaultIsPlaced text) (sym is) (stops (λ m. cc) (min left (length start)) (omega arith))
+  placed_within (fault.DefinedAgain key name first second) moved is stops =
+      subst (FaultIsPlaced text) (sym is) (stops (λ m. cc) (min second (length start)) (omega arith))
+
+  pub holds_within : (f moved : Fault) → IsSettled start f moved → EndsWith text start → HoldsHere text moved
+  holds_within (fault.NotToml left why) (fault.NotToml l w) is ends =
+      let (within, same) = same_end text start l ends is.1.0 in
+      (within, rw (← same) is.1.1)
+  holds_within (fault.NotToml left why) _ is ends = absurd is.0
+  holds_within _ moved is ends = subst (HoldsHere text) (sym is) tt
+
+pub settled_memory : (start : List ℕ) (f moved : Fault) → IsSettled start f moved → IsMemory f → IsMemory moved
+settled_memory start fault.Memory moved is memory = is
+settled_memory start _ moved is memory = absurd (cc)

@@ -1,13 +1,10 @@
 -- A value beside the one that contracts see.
 use Rattle.std.proofs.Common.{◌≡◌, ℕ, List, [], ◌∷◌, ◌++◌, String, Vec, BTreeMap, Global, refl, ap, rules}
-use Rattle.toml_ordered.specs.declared.tree.holder.Holder.{Holder}
+use Rattle.toml_ordered.specs.{declared.tree.holder.Holder.Holder, declared.tree.Origin.Origin, Data.item, Data.push_item, Data.table, Data.tables, Data.array}
+use Rattle.toml_ordered.specs.{Data.node_view, Data.items_view, Keys.held_view, Keys.table_view, Passing.held}
 use Rattle.toml_ordered.specs.declared.tree.holder.Holder.TheVariants as holder
 use Rattle.toml_ordered.specs.declared.tree.Node.{Node as CodeNode, Tables, Table, Array, the_lemmas}
-use Rattle.toml_ordered.specs.declared.tree.Origin.{Origin}
 use Rattle.toml_ordered.specs.declared.tree.Table.{Table as CodeTable}
-use Rattle.toml_ordered.specs.Data.{item, push_item, table, tables, array, node_view, items_view}
-use Rattle.toml_ordered.specs.Keys.{held_view, table_view}
-use Rattle.toml_ordered.specs.Passing.{held}
 
 abbrev pub Entry : Type 0
 Entry = String Global × CodeNode × ℕ

@@ -1,14 +1,7 @@
 -- The loops of the grammar, a turn at a time.
 use Rattle.std.proofs.Common.{◌≡◌, ℕ, zero, suc, ◌-◌, ◌<◌, true, false, ◌||◌, ◌==◌, List, [], ◌∷◌, length, drop, Option, Some, None, Result, Ok, Err, refl, ap}
 use Rattle.std.proofs.Common.{◌∙◌, arith, take, take_all, length-drop, option_map, cond, Bool, sym, subst, inl, inr, ◌⊎◌, ◌≤◌, bytes_eq, codes}
-use Rattle.std.proofs.lemmas.Bool.{cases_Bool, cases_lt}
-use Rattle.std.proofs.lemmas.Option.{none-some}
 use Rattle.std.specs.Prelude.{option_and_then}
-use Rattle.toml_parser.specs.Numbers.{unquoted, word_len, word_value}
-use Rattle.toml_parser.specs.Strings.{starts_string, quoted, Key}
-use Rattle.toml_parser.specs.declared.scalar.Scalar.{Scalar}
-use Rattle.toml_parser.specs.declared.scalar.Scalar.TheVariants as scalar
-use Rattle.toml_parser.specs.Lexical.{Read, first, skip_blank}
 use Rattle.toml.specs.Parse.{read_map, after_element, key_equals, skip_bom}
 use Rattle.std.proofs.NetLemmas.Options.{map_some}
 use Rattle.toml_ordered.specs.Data.{TomlNode, string, decimal, infinity, not_a_number, Items, no_items, array, table, push_item, TomlNodes, no_nodes}
@@ -16,10 +9,12 @@ use Rattle.toml_ordered.specs.Keys.{sealed}
 use Rattle.toml_ordered.specs.Tables.{put, TomlDocument, Expression, define, Edit, along, passed, get_node, replace, append, made_by, Definition, redefine}
 use Rattle.toml_ordered.specs.Tables.{new_node, at_key}
 use Rattle.toml_ordered.specs.Reading.{ParsesTo}
-use Rattle.toml_ordered.specs.declared.fault.Fault.{Fault}
-use Rattle.toml_ordered.specs.declared.route.Way.{Way}
 use Rattle.toml_ordered.specs.Grammar.{plain_word, without_sign, float_node, scalar_node, atom, val, keyval, items, members, line, lines, ordered_document}
-use Rattle.toml_ordered.specs.declared.tree.Origin.TheVariants.{Closed}
+use Rattle.toml_ordered.specs.declared.{fault.Fault.Fault, route.Way.Way, tree.Origin.TheVariants.Closed}
+use Rattle.toml_parser.specs.{Numbers.unquoted, Numbers.word_len, Numbers.word_value, Strings.starts_string, Strings.quoted, Strings.Key}
+use Rattle.toml_parser.specs.{declared.scalar.Scalar.Scalar, Lexical.Read, Lexical.first, Lexical.skip_blank}
+use Rattle.std.proofs.lemmas.{Bool.cases_Bool, Bool.cases_lt, Option.none-some}
+use Rattle.toml_parser.specs.declared.scalar.Scalar.TheVariants as scalar
 
 module _ (val : List ℕ → Read TomlNode) where
   pub items_turn : (m : ℕ) (found : Items) (text : List ℕ) → 0 < m
@@ -202,10 +197,8 @@ float_sealed word = by (bytes_eq (without_sign word) (codes "inf")) (bytes_eq (w
     by false false = refl
 
 scalar_sealed : (word : List ℕ) (s : Scalar) → sealed (scalar_node word s) ≡ scalar_node word s
-scalar_sealed word (scalar.Boolean b) = refl
-scalar_sealed word (scalar.Integer z) = refl
 scalar_sealed word (scalar.Float x) = float_sealed (plain_word word)
-scalar_sealed word (scalar.Datetime d) = refl
+scalar_sealed word _ = refl
 
 atom_sealed : (text : List ℕ) (x : TomlNode) (rest : List ℕ) → atom text ≡ Some (x, rest) → sealed x ≡ x
 atom_sealed text x rest = by (starts_string text)

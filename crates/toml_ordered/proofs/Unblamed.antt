@@ -1,8 +1,6 @@
 -- An expression or a document is refused for one reason: if it isn't TOML at a place, no key is defined again in it, and nothing nests too deep.
 use Rattle.std.proofs.Common.{◌≡◌, ◌⊎◌, inl, inr, ℕ, List, Some, None, refl, sym, ap, subst, ◌∙◌}
 use Rattle.std.proofs.lemmas.Option.{none-some, same_Some}
-use Rattle.toml_parser.specs.Lexical.{skip_blank}
-use Rattle.toml_parser.specs.Strings.{Key, recursion_limit}
 use Rattle.toml.specs.Parse.{key_equals}
 use Rattle.toml_ordered.proofs.Blaming.{IsBlamed, blamed_none, keyval_none, no_header, once, unblamed}
 use Rattle.toml_ordered.proofs.LongKeys.{expression_long, named_short, own_key_pair}
@@ -11,6 +9,7 @@ use Rattle.toml_ordered.specs.Grammar.{expression, line, val}
 use Rattle.toml_ordered.specs.Nesting.{ClashesIn, Conflict, ExpressionNestsPast, HasLongKey, NestsPast, NestsTooDeep, PairClashes, own_key}
 use Rattle.toml_ordered.specs.Places.{ReadsUpTo, after_lines, next_expression}
 use Rattle.toml_ordered.specs.Tables.{Expression, TomlDocument}
+use Rattle.toml_parser.specs.{Lexical.skip_blank, Strings.Key, Strings.recursion_limit}
 
 -- ---- expressions
 

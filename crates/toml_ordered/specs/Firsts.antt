@@ -88,21 +88,21 @@ NeitherTells again deep = ((key : List ℕ) (first second : ℕ) → again key f
 -- any other text that isn't TOML.
 abbrev pub FaultTells : Fault → (again : List ℕ → (first second : ℕ) → Type 0) → (deep : (left : ℕ) → Type 0) → Type 0
 FaultTells fault.Memory again deep = Unit {0}
-FaultTells (fault.NotToml left) again deep = NeitherTells again deep
+FaultTells (fault.NotToml left why) again deep = NeitherTells again deep
 FaultTells (fault.TooDeep left) again deep = deep left
-FaultTells (fault.DefinedAgain key first second) again deep = again (string_bytes key) first second
+FaultTells (fault.DefinedAgain key name first second) again deep = again (string_bytes key) first second
 
 -- the statement of a fault that a key is defined again, unless an allocation failed
 abbrev pub IfAgain : Fault → (List ℕ → (first second : ℕ) → Type 0) → Type 0
 IfAgain fault.Memory holds = Unit {0}
-IfAgain (fault.NotToml left) holds = ⊥
+IfAgain (fault.NotToml left why) holds = ⊥
 IfAgain (fault.TooDeep left) holds = ⊥
-IfAgain (fault.DefinedAgain key first second) holds = holds (string_bytes key) first second
+IfAgain (fault.DefinedAgain key name first second) holds = holds (string_bytes key) first second
 
 -- True of a fault that is neither that a key is defined again, nor that something nests too deep.
 abbrev pub IsOther : Fault → Type 0
 IsOther fault.Memory = Unit {0}
-IsOther (fault.NotToml left) = Unit {0}
+IsOther (fault.NotToml left why) = Unit {0}
 IsOther found = ⊥
 
 -- True of a fault that a definition along the whole path, here, meets a key that was first defined before and is shut.

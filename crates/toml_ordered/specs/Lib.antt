@@ -1,3 +1,4 @@
+pub mod Syntax
 pub mod Data
 pub mod Tables
 pub mod Grammar

@@ -1,11 +1,14 @@
 -- The places at which a text is refused: as far as its expressions are read.
-use Rattle.std.specs.Prelude.{◌≡◌, ◌⊎◌, ℕ, zero, suc, ◌<◌, ◌≤◌, List, [], ◌∷◌, ◌++◌, length, min, Option, Some, None, IfSome, option_and_then, option_map}
+use Rattle.std.specs.Prelude.{◌≡◌, ◌⊎◌, ℕ, zero, suc, ◌-◌, ◌<◌, ◌≤◌, true, List, [], ◌∷◌, ◌++◌, drop, length, min, Option, Some, None, IfSome}
+use Rattle.std.specs.Prelude.{String, option_and_then, option_map}
+use Rattle.std.specs.declared.alloc.Global.{Global}
 use Rattle.toml_parser.specs.Lexical.{right_brace, skip_blank}
 use Rattle.toml_parser.specs.Strings.{Key}
 use Rattle.toml.specs.Parse.{after_element, key_equals, skip_bom}
 use Rattle.toml_ordered.specs.Data.{TomlNode, TomlNodes, no_nodes}
-use Rattle.toml_ordered.specs.Firsts.{IsNewKey, IsShutAt, PassesKey}
+use Rattle.toml_ordered.specs.Firsts.{IsNewKey, IsOther, IsShutAt, PassesKey}
 use Rattle.toml_ordered.specs.Grammar.{keyval, line, val}
+use Rattle.toml_ordered.specs.Syntax.{holds}
 use Rattle.toml_ordered.specs.Tables.{Definition, TomlDocument, Expression, define, key_value, put, steps_along}
 use Rattle.toml_ordered.specs.declared.route.Way.{Way}
 use Rattle.toml_ordered.specs.declared.fault.Fault.{Fault}
@@ -14,23 +17,41 @@ use Rattle.toml_ordered.specs.declared.fault.Fault.TheVariants as fault
 -- the number of bytes that are left of the text at the place of a refusal
 abbrev pub place_left : Fault → Option ℕ
 place_left fault.Memory = None
-place_left (fault.NotToml left) = Some left
+place_left (fault.NotToml left why) = Some left
 place_left (fault.TooDeep left) = Some left
-place_left (fault.DefinedAgain key first second) = Some second
+place_left (fault.DefinedAgain key name first second) = Some second
 
 -- the fault with its place here
 abbrev pub moved_to : ℕ → Fault → Fault
 moved_to here fault.Memory = fault.Memory
-moved_to here (fault.NotToml left) = fault.NotToml here
+moved_to here (fault.NotToml left why) = fault.NotToml here why
 moved_to here (fault.TooDeep left) = fault.TooDeep here
-moved_to here (fault.DefinedAgain key first second) = fault.DefinedAgain key first here
+moved_to here (fault.DefinedAgain key name first second) = fault.DefinedAgain key name first here
 
--- the fault with its place here or after
-abbrev pub moved_within : ℕ → Fault → Fault
-moved_within here fault.Memory = fault.Memory
-moved_within here (fault.NotToml left) = fault.NotToml (min left here)
-moved_within here (fault.TooDeep left) = fault.TooDeep (min left here)
-moved_within here (fault.DefinedAgain key first second) = fault.DefinedAgain key first (min second here)
+-- True of a fault with a reason if its place is in the text, and the reason holds of the bytes from there on.
+abbrev pub HoldsHere : (text : List ℕ) → Fault → Type 0
+HoldsHere text (fault.NotToml left why) = (left ≤ length text) × (holds why (drop (length text - left) text) ≡ true)
+HoldsHere text other = Unit {0}
+
+abbrev pub IsNotToml : Fault → Type 0
+IsNotToml (fault.NotToml left why) = Unit {0}
+IsNotToml other = ⊥
+
+-- the fault with its place here or after; of one with a reason the place may be another, and the reason holds there
+abbrev pub IsSettled : (start : List ℕ) → (old new : Fault) → Type 0
+IsSettled start fault.Memory new = new ≡ fault.Memory
+IsSettled start (fault.NotToml left why) new = IsNotToml new × HoldsHere start new
+IsSettled start (fault.TooDeep left) new = new ≡ fault.TooDeep (min left (length start))
+IsSettled start (fault.DefinedAgain key name first second) new = new ≡ fault.DefinedAgain key name first (min second (length start))
+
+-- True of a fault that says the same in other words: with another place and reason if it isn't TOML, with another name of the key that is
+-- defined again, or with no memory for it.
+abbrev pub IsReworded : (old new : Fault) → Type 0
+IsReworded fault.Memory new = new ≡ fault.Memory
+IsReworded (fault.NotToml left why) new = IsOther new
+IsReworded (fault.TooDeep left) new = new ≡ fault.TooDeep left
+IsReworded (fault.DefinedAgain key name first second) new =
+    (new ≡ fault.Memory) ⊎ ((other : String Global) × (new ≡ fault.DefinedAgain key other first second))
 
 -- a document and the rest of a text after one more expression
 abbrev pub next_expression : TomlDocument × List ℕ → Option (TomlDocument × List ℕ)

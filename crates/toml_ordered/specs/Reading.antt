@@ -10,6 +10,7 @@ use Rattle.toml_parser.specs.declared.key.Key as code_key
 use Rattle.toml_ordered.specs.Data.{TomlNodes, node_view}
 use Rattle.toml_ordered.specs.Keys.{sealed, table_view}
 use Rattle.toml_ordered.specs.Firsts.{AddsFirsts, IfAgain, IsAgain, IsOther, IsShutAt, table_firsts}
+use Rattle.toml_ordered.specs.Syntax.{string_error}
 use Rattle.toml_ordered.specs.Tables.{Definition, TomlDocument, Edit, Expression, key_value, std_table, array_table, steps_along, along, at_key}
 use Rattle.toml_ordered.specs.declared.route.Way.{Way}
 use Rattle.toml_ordered.specs.declared.document.Document.{Document as CodeDocument}
@@ -29,7 +30,7 @@ IsMemory e = e ≡ fault.Memory
 -- the fault of an error of `toml_parser`
 abbrev pub fault_of : ParseError → Fault
 fault_of parse.OutOfMemory = fault.Memory
-fault_of (parse.At kind from to) = fault.NotToml from
+fault_of (parse.At kind from to) = fault.NotToml from (string_error kind)
 
 -- True if the result, seen through f, is the grammar's, unless an allocation failed.
 abbrev pub ParsesTo : {A B : Type 0} → (A → B) → Result A Fault → Option B → Type 0

@@ -8,12 +8,13 @@ ghost use Rattle.toml_ordered.specs.Keys.{sealed, table_view};
 ghost use Rattle.toml_ordered.specs.Firsts.{IsShutAt};
 ghost use Rattle.toml_ordered.specs.Grammar as spec;
 ghost use Rattle.toml_ordered.specs.Nesting.{ExpressionTells, HasReason};
-ghost use Rattle.toml_ordered.specs.Places.{FaultIsPlaced, IsShutFor, key_parts, whole_path};
+ghost use Rattle.toml_ordered.specs.Places.{FaultIsPlaced, HoldsHere, IsShutFor, key_parts, whole_path};
 ghost use Rattle.toml_ordered.specs.Reading.{Defines, ParsesTo, ReadsExpected, definition_view, document_view, expression_view};
 ghost use Rattle.toml_ordered.specs.Tables.{define, defined_header, defined_pair, key_value, steps_along};
 
 use crate::fault::{Fault, not_toml};
 use crate::route::Route;
+use crate::syntax::SyntaxError;
 use crate::tables::{Definition, Entry, define_at};
 use crate::tree::{Node, Table};
 use crate::values::{key_and_equals, key_before, value};
@@ -103,12 +104,13 @@ impl Document {
 ///
 /// # Errors
 ///
-/// `NotToml` if the text isn't TOML 1.1; `TooDeep` if arrays and tables in braces nest more than 80 deep, or a key has more than 80
-/// parts; `DefinedAgain` if a key is defined twice; `Memory` if an allocation fails.
+/// `NotToml` if the text isn't TOML 1.1, with a reason that fits the bytes at its place; `TooDeep` if arrays and tables in braces nest more
+/// than 80 deep, or a key has more than 80 parts; `DefinedAgain` if a key is defined twice; `Memory` if an allocation fails.
 pub fn read_document(alloc: Global, text: &str) -> Result<Table, Fault>
     ensures value { ParsesTo table_view result (spec.ordered_document text.now) }
     ensures placed { IfErr result (FaultIsPlaced text.now) }
     ensures reason { IfErr result (HasReason text.now) }
+    ensures holds { IfErr result (HoldsHere text.now) }
 {
     let mut read = Document {
         root: Table::new(alloc),
@@ -122,7 +124,7 @@ pub fn read_document(alloc: Global, text: &str) -> Result<Table, Fault>
         }
         let (expression, after) = match line(alloc, start) {
             Ok(found) => found,
-            Err(fault) => return Err(fault.here_or_behind(start)),
+            Err(fault) => return Err(fault.settled(start)),
         };
         if let Err(fault) = read.define(alloc, expression, start.len()) {
             return Err(fault.here(start));
@@ -161,7 +163,7 @@ fn line(alloc: Global, s: &str) -> Result<((Key, Definition), &str), Fault>
     if is_line_end(end) {
         Ok((found, rest))
     } else {
-        Err(not_toml(end))
+        Err(not_toml(end, SyntaxError::LineEnd))
     }
 }
 
@@ -205,6 +207,6 @@ fn header(alloc: Global, s: &str) -> Result<((Key, Definition), &str), Fault>
     } else if first(rest) == b']' {
         Ok(((key, Definition::Tables), skip(rest, 1)))
     } else {
-        Err(not_toml(rest))
+        Err(not_toml(rest, SyntaxError::Bracket))
     }
 }

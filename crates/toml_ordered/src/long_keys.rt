@@ -6,6 +6,7 @@ ghost use Rattle.toml_parser.specs.Strings.{key, starts_string};
 ghost use Rattle.toml_ordered.specs.Nesting.{KeyTells, PassesPart};
 
 use crate::fault::{Fault, not_toml, too_deep};
+use crate::syntax::SyntaxError;
 use std::alloc::Global;
 use toml_parser::bytes::is_bare;
 use toml_parser::text::{byte_at, first, skip, skip_ws};
@@ -27,7 +28,7 @@ pub(crate) fn refused_key(alloc: Global, s: &str) -> Fault
         let next = skip_ws(after);
         if first(next) != b'.' {
             if dots < RECURSION_LIMIT {
-                return not_toml(next);
+                return not_toml(next, SyntaxError::Other);
             }
             return too_deep(s);
         }
@@ -47,7 +48,7 @@ fn past_part(alloc: Global, s: &str) -> Result<&str, Fault>
     if starts_string(s) {
         return past_string(alloc, s);
     }
-    Err(not_toml(s))
+    Err(not_toml(s, SyntaxError::Key))
 }
 
 /// Passes a string that is a part of a key, and returns the rest.

@@ -37,8 +37,16 @@ pub(crate) struct Entry {
 fn defined_again(key: &String, first: usize, second: usize) -> Fault
     ensures { IsPassed (string_bytes key.now) first second result }
 {
+    let Ok(name) = key.clone() else {
+        return Fault::Memory;
+    };
     match key.clone() {
-        Ok(key) => Fault::DefinedAgain { key, first, second },
+        Ok(key) => Fault::DefinedAgain {
+            key,
+            name,
+            first,
+            second,
+        },
         Err(_) => Fault::Memory,
     }
 }
@@ -59,7 +67,7 @@ pub(crate) fn define_at(
         Err(fault) => return Err(fault),
     };
     if let Err(fault) = at_key(alloc, &mut last, entry) {
-        return Err(fault);
+        return Err(fault.named(alloc, route, passed.len()));
     }
     *table = ascend(passed, last);
     Ok(())
@@ -82,7 +90,7 @@ fn descend(
     'steps: while let Some((way, key, rest)) = to_pass.split() {
         let (outer, inner) = match enter(alloc, way, key, left, here) {
             Ok(entered) => entered,
-            Err(fault) => return Err(fault),
+            Err(fault) => return Err(fault.named(alloc, route, passed.len())),
         };
         if let Err(_) = passed.push(outer) {
             return Err(Fault::Memory);

@@ -15,6 +15,8 @@ ghost use Rattle.toml_ordered.specs.Tables as tables;
 use crate::fault::{Fault, not_toml, too_deep};
 use crate::long_keys::refused_key;
 use crate::route::Route;
+use crate::scalars::refused_scalar;
+use crate::syntax::SyntaxError;
 use crate::tables::{Definition, Entry, define_at};
 use crate::tree::{Node, Origin, Table};
 use std::alloc::{AllocError, Global};
@@ -60,7 +62,7 @@ pub(crate) fn value(alloc: Global, s: &str, depth: usize) -> Result<(Node, &str)
                 }
                 match begin(alloc, rest, depth - open.len()) {
                     Ok(next) => (found, rest) = next,
-                    Err(fault) => return Err(fault),
+                    Err(fault) => return Err(fault.inside(separator_in(&open))),
                 }
             }
             Found::Value(node) => match open.pop() {
@@ -71,6 +73,16 @@ pub(crate) fn value(alloc: Global, s: &str, depth: usize) -> Result<(Node, &str)
                 None => return Ok((node, rest)),
             },
         }
+    }
+}
+
+/// Returns what may follow a value in the innermost of these arrays and tables in braces.
+#[cold]
+fn separator_in(open: &[Open]) -> SyntaxError {
+    match open.last() {
+        Some(Open::Array(_)) => SyntaxError::CommaOrBracket,
+        Some(Open::Braces(_)) => SyntaxError::CommaOrBrace,
+        None => SyntaxError::LineEnd,
     }
 }
 
@@ -165,7 +177,7 @@ fn next_pair(alloc: Global, table: Table, s: &str) -> Result<(Found, &str), Faul
                 rest,
             ))
         }
-        Err(fault) => Err(fault),
+        Err(fault) => Err(fault.in_braces(start.len())),
     }
 }
 
@@ -198,8 +210,10 @@ fn past_element(s: &str, closing: u8) -> Result<&str, Fault>
         Ok(skip(rest, 1))
     } else if next == closing {
         Ok(rest)
+    } else if closing == b']' {
+        Err(not_toml(rest, SyntaxError::CommaOrBracket))
     } else {
-        Err(not_toml(rest))
+        Err(not_toml(rest, SyntaxError::CommaOrBrace))
     }
 }
 
@@ -214,11 +228,20 @@ pub(crate) fn key_before(alloc: Global, s: &str, byte: u8) -> Result<(Key, &str)
             if first(rest) == byte {
                 Ok((key, skip(rest, 1)))
             } else {
-                Err(not_toml(rest))
+                Err(not_toml(rest, unless_there(byte)))
             }
         }
         Err(ParseError::OutOfMemory) => Err(Fault::Memory),
         Err(_) => Err(refused_key(alloc, s)),
+    }
+}
+
+/// Returns the reason for a key that lacks this byte after it.
+fn unless_there(byte: u8) -> SyntaxError {
+    if byte == b'=' {
+        SyntaxError::Equals
+    } else {
+        SyntaxError::Bracket
     }
 }
 
@@ -250,7 +273,7 @@ fn atom(alloc: Global, s: &str) -> Result<(Node, &str), Fault>
                 Err(_) => Err(Fault::Memory),
             }
         }
-        Err(error) => Err(Fault::from(error)),
+        Err(error) => Err(refused_scalar(alloc, s, error)),
     }
 }
 

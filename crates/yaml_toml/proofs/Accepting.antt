@@ -1,23 +1,20 @@
 -- The events of a document that doesn't nest too deep are an accepted list.
-use Rattle.yaml_toml.proofs.Common.{suc, ℕ, ◌+◌, ◌≤◌, Bool, false, true, Option, None, Some, List, [], ◌++◌, ◌∷◌, refl, ◌≡◌, append-nil, append_assoc, subst}
-use Rattle.yaml_toml.proofs.Common.{sym, arith, chars, Event, scalar, sequence_start, sequence_end, mapping_start, mapping_end, most_open, is_sound, IsAccepted}
-use Rattle.yaml_toml.proofs.Common.{is_json_integer, yaml_number, bool_tag, bool_text, word_content, text_content, collection_in, number_in, closing}
+use Rattle.yaml_toml.proofs.Common.{suc, ℕ, ◌+◌, ◌≤◌, Bool, true, Option, None, Some, List, [], ◌++◌, ◌∷◌, refl, ◌≡◌, append-nil, append_assoc, subst, sym}
+use Rattle.yaml_toml.proofs.Common.{false, arith, chars, Event, scalar, sequence_start, sequence_end, mapping_start, mapping_end, most_open, is_sound}
+use Rattle.yaml_toml.proofs.Common.{IsAccepted, is_json_integer, yaml_number, bool_tag, bool_text, word_content, text_content, collection_in, number_in}
+use Rattle.yaml_toml.proofs.Common.{closing}
 use Rattle.std.specs.Fmt.{signed_decimal}
-use Rattle.toml_datetime.specs.Text.{datetime_text}
-use Rattle.toml_datetime.specs.declared.datetime.Datetime.{Datetime}
-use Rattle.toml_ordered.specs.Data as toml
 use Rattle.yaml_emitter.proofs.AcceptedLists.{sound, both_sound, Stays, few_open}
 use Rattle.yaml_writer.proofs.Accepting.{bool_sound, closing_stays, first_sound, float_sound, int_sound, mapping_sound, number_sound, opening_stays}
 use Rattle.yaml_writer.proofs.Accepting.{sequence_sound, stream_of_sound, text_sound}
 use Rattle.yaml_writer.proofs.WhyFailed.{NeverPasses}
-use Rattle.yaml_writer.specs.Floats.{special_text}
-use Rattle.yaml_writer.specs.Times.{Moment, ClockTime}
-use Rattle.yaml_writer.specs.TomlDates.{moment_of}
-use Rattle.yaml_writer.specs.declared.floats.SpecialFloat.TheVariants.{NotANumber}
 use Rattle.yaml_toml.specs.Depth.{document_nesting, items_nesting, keys_nesting, toml_nesting}
 use Rattle.yaml_toml.specs.Events.{date_content, decimal_content, infinite, integer_content, toml_items_events, json_word, keys_events, moment_content}
 use Rattle.yaml_toml.specs.Events.{special_content, toml_events}
 use Rattle.yaml_toml.proofs.TomlTrees.{all_events, root_of, stream_flat, toml_stream}
+use Rattle.yaml_writer.specs.{Floats.special_text, Times.Moment, Times.ClockTime, TomlDates.moment_of, declared.floats.SpecialFloat.TheVariants.NotANumber}
+use Rattle.toml_datetime.specs.{Text.datetime_text, declared.datetime.Datetime.Datetime}
+use Rattle.toml_ordered.specs.Data as toml
 
 -- ---- each event is in order
 
@@ -86,13 +83,6 @@ module _ (canonical in_flow : Bool) where
     mutual
       value_stays : (x : toml.TomlNode) (now : ℕ) (rest : List Event) → now + toml_nesting x ≤ most → Stays most now rest
           → Stays most now (toml_events canonical in_flow x ++ rest)
-      value_stays (toml.string text) now rest fits later = (omega (arith, fits), later)
-      value_stays (toml.integer z) now rest fits later = (omega (arith, fits), later)
-      value_stays (toml.decimal word) now rest fits later = (omega (arith, fits), later)
-      value_stays (toml.infinity negative) now rest fits later = (omega (arith, fits), later)
-      value_stays toml.not_a_number now rest fits later = (omega (arith, fits), later)
-      value_stays (toml.boolean flag) now rest fits later = (omega (arith, fits), later)
-      value_stays (toml.datetime date) now rest fits later = (omega (arith, fits), later)
       value_stays (toml.array items) now rest fits later =
           let inside : suc now + items_nesting items ≤ most = omega (arith, fits) in (
             omega (arith, fits),
@@ -120,6 +110,7 @@ module _ (canonical in_flow : Bool) where
                       (keys_stay last (suc (suc now)) (ends ++ rest) deeper (third, (second, later))),
                 )),
           )
+      value_stays _ now rest fits later = (omega (arith, fits), later)
 
       items_stay : (items : toml.Items) (now : ℕ) (rest : List Event) → now + items_nesting items ≤ most → Stays most now rest
           → Stays most now (toml_items_events canonical in_flow items ++ rest)

@@ -1,105 +1,20 @@
 -- The answers of a writer's calls to the walk.
-use Rattle.yaml_toml.proofs.Common.{◌≡◌, ◌⊎◌, ◌∷◌, ◌++◌, [], List, Bool, Option, None, Some, Result, Ok, Err, IfErr, OnOk, inl, inr, refl, subst, sym, ◌∙◌}
-use Rattle.yaml_toml.proofs.Common.{ap, ap₂}
-use Rattle.yaml_toml.proofs.Common.{append-nil, append_assoc, Event, WriterState, GaveEvent, WroteEvent, IsBare, end_event, EndsInnermost}
-use Rattle.yaml_toml.proofs.Common.{Text, Scalar, scalar, plain, is_none, is_some, ◌||◌}
-use Rattle.yaml_writer.proofs.GivenLemmas.{none_more, on_ok, same_last, text_is, wrote_event}
-use Rattle.yaml_writer.proofs.OpenLevels.{gave_end, gave_event, gave_events_then}
-use Rattle.yaml_writer.specs.Failing.{HasErrorSaid}
-use Rattle.yaml_writer.proofs.Taken.{gives_ok, gives_err}
+use Rattle.yaml_toml.proofs.Common.{◌≡◌, ◌∷◌, ◌++◌, [], List, Bool, Option, None, Some, Result, Ok, Err, OnOk, inl, inr, refl, subst, sym, ◌∙◌, ap, ap₂}
+use Rattle.yaml_toml.proofs.Common.{append-nil, append_assoc, Event, WriterState, WroteEvent, IsBare, end_event, EndsInnermost, Text, Scalar, scalar, plain}
+use Rattle.yaml_toml.proofs.Common.{is_none, is_some, ◌||◌}
 use Rattle.std.specs.Str.{chars}
-use Rattle.toml_datetime.specs.Text.{datetime_text}
-use Rattle.toml_datetime.specs.declared.datetime.Datetime.{Datetime}
 use Rattle.toml_ordered.specs.Data.{TomlNode}
-use Rattle.yaml_pen.{proofs.Composing.grows_itself, proofs.Composing.grows_then, proofs.Writing.none_from_result}
-use Rattle.yaml_emitter.proofs.Common.{some_from_result}
-use Rattle.yaml_base.specs.declared.errors.{yaml_error_t.yaml_error_t, yaml_error_t.TheVariants.Memory}
-use Rattle.yaml_base.specs.declared.kinds.CollectionKind.{CollectionKind}
+use Rattle.yaml_writer.proofs.AnswerLemmas.{answers_event, answers_memory}
+use Rattle.yaml_writer.proofs.GivenLemmas.{none_more, on_ok, same_last, text_is, wrote_event}
+use Rattle.yaml_writer.proofs.OpenLevels.{gave_end, gave_events_then}
+use Rattle.yaml_writer.proofs.Taken.{gives_ok}
 use Rattle.yaml_writer.specs.Times.{Moment, timestamp_text}
 use Rattle.yaml_writer.specs.TomlDates.{moment_event}
 use Rattle.yaml_writer.specs.Writing.{Gives, tag_or_default, timestamp_event, timestamp_tag}
-use Rattle.yaml_toml.specs.Depth.{toml_nesting}
-use Rattle.yaml_toml.specs.Events.{date_content, moment_content, toml_events}
-use Rattle.yaml_toml.specs.Walk.{Answers, GivesScalar, HasNumbers, node_size, KeptAfterStop, SoundAfterStop, stop_error, IsStopOf, IsOwnMemory, Moved}
-use Rattle.yaml_toml.specs.WalkSteps.{WroteScalar}
-use Rattle.yaml_toml.specs.declared.walk.Stop.{Stop}
-
--- nothing changed
-unchanged : (before : WriterState) → HasErrorSaid before (Some Memory) before
-unchanged before = inl (refl, λ none. none)
-
--- a call that gives the event of a scalar
-answers_event : (before after : WriterState) (event : Event) (content : Scalar) → event ≡ scalar content → (answer : Result (Unit {0}) yaml_error_t)
-    → OnOk answer (GaveEvent before event (Ok tt) after)
-    → IfErr answer (λ error. GaveEvent before event (Err error) after ⊎ ((error ≡ Memory) × (after ≡ before))) → Answers before (scalar content) answer after
-answers_event before after event content is (Ok done) gave failed =
-    record { grows = gave.emits.grows; sound = none_from_result after.emitter.error gave.emits.answered; failed = tt }
-answers_event before after event content is (Err error) gave (inl given) =
-    let error_is = some_from_result after.emitter.error error given.emits.answered in
-    let same = subst (λ (e : Event). GaveEvent before e (Err error) after) is given in
-    record {
-      grows = given.emits.grows;
-      sound = inr error_is;
-      failed = inr (record { gave = gave_event before before after (scalar content) (Err error) refl refl refl same; is_error = inr error_is });
-    }
-answers_event before after event content is (Err error) gave (inr memory) =
-    subst (λ (now : WriterState). Answers before (scalar content) (Err error) now) (sym memory.1)
-    (record { grows = grows_itself before.emitter.page; sound = inl (memory.0, λ none. none); failed = inl (memory.0, refl) })
-
--- a call that ends a collection, which is open
-pub answers_end : (before after : WriterState) (answer : Result (Unit {0}) yaml_error_t) (outer : List CollectionKind) (kind : CollectionKind)
-    → before.levels ≡ outer ++ kind ∷ [] → IsBare before → EndsInnermost before answer after → Answers before (end_event kind) answer after
-answers_end before after answer outer kind levels bare (inl none) = absurd (none_more outer kind (sym levels ∙ none.0))
-answers_end before after (Ok done) outer kind levels bare (inr end) =
-    record { grows = end.emits.grows; sound = none_from_result after.emitter.error end.emits.answered; failed = tt }
-answers_end before after (Err error) outer kind levels bare (inr end) =
-    let same = same_last end.outer outer end.kind kind (sym end.levels ∙ levels) in
-    let error_is = some_from_result after.emitter.error error end.emits.answered in
-    record {
-      grows = end.emits.grows;
-      sound = inr error_is;
-      failed = inr (record {
-        gave = gave_end outer kind before after (Err error) levels bare end same.1 same.0;
-        is_error = inr error_is;
-      });
-    }
-
--- ---- stops
-
-pub kept_of : {event : Event} (before after : WriterState) (answer : Result (Unit {0}) yaml_error_t) (result : Result (Unit {0}) Stop) → IsStopOf answer result
-    → Answers before event answer after → KeptAfterStop before result after
-kept_of before after (Ok done) (Ok same) is answers = record { grows = answers.grows; sound = answers.sound }
-kept_of before after (Ok done) (Err stopped) is answers = absurd is
-kept_of before after (Err error) (Ok done) is answers = absurd is
-kept_of before after (Err error) (Err stopped) is answers =
-    record { grows = answers.grows; sound = subst (λ (s : Stop). HasErrorSaid before (stop_error s) after) (sym is) answers.sound }
-
-pub ok_of : (P : Type 0) (answer : Result (Unit {0}) yaml_error_t) (result : Result (Unit {0}) Stop) → IsStopOf answer result → OnOk answer P → OnOk result P
-ok_of P (Ok done) (Ok same) is held = held
-ok_of P (Ok done) (Err stopped) is held = absurd is
-ok_of P (Err error) (Ok done) is held = absurd is
-ok_of P (Err error) (Err stopped) is held = tt
-
--- nothing was given
-pub kept_memory : (before : WriterState) (stopped : Stop) → IsOwnMemory stopped → KeptAfterStop before (Err stopped) before
-kept_memory before stopped is =
-    record { grows = grows_itself before.emitter.page; sound = subst (λ (s : Stop). HasErrorSaid before (stop_error s) before) (sym is) (unchanged before) }
-
--- a success, and then another call
-pub kept_then : (before between after : WriterState) (result : Result (Unit {0}) Stop) → KeptAfterStop before (Ok tt) between
-    → KeptAfterStop between result after
-    → KeptAfterStop before result after
-kept_then before between after result one other =
-    record { grows = grows_then {between = between.emitter.page} one.grows other.grows; sound = sound_then result other.sound }
-  where
-    said : (found : Option yaml_error_t) → HasErrorSaid between found after → HasErrorSaid before found after
-    said None stays = λ none. stays one.sound
-    said (Some error) (inl memory) = inl (memory.0, λ none. memory.1 one.sound)
-    said (Some error) (inr has) = inr has
-
-    sound_then : (result : Result (Unit {0}) Stop) → SoundAfterStop between result after → SoundAfterStop before result after
-    sound_then (Ok done) sound = sound
-    sound_then (Err stopped) sound = said (stop_error stopped) sound
+use Rattle.yaml_base.specs.declared.{errors.yaml_error_t.yaml_error_t, errors.yaml_error_t.TheVariants.Memory, kinds.CollectionKind.CollectionKind}
+use Rattle.yaml_toml.specs.{Depth.toml_nesting, Events.date_content, Events.moment_content, Events.toml_events, Walk.GivesScalar, Walk.HasNumbers}
+use Rattle.yaml_toml.specs.{Walk.node_size, Walk.Moved, WalkSteps.WroteScalar}
+use Rattle.toml_datetime.specs.{Text.datetime_text, declared.datetime.Datetime.Datetime}
 
 -- ---- moves
 
@@ -166,7 +81,7 @@ module _ {before after : WriterState} {answer : Result (Unit {0}) yaml_error_t} 
       let gave = gives_ok before after event answer gives in
       record {
         written = on_ok answer (wrote_event before after event (scalar content) is) gave;
-        kept = answers_event before after event content is answer gave (gives_err before after event answer gives);
+        kept = answers_event before after event (scalar content) answer is refl gives;
       }
 
   -- the value that it is
@@ -178,7 +93,4 @@ module _ {before after : WriterState} {answer : Result (Unit {0}) yaml_error_t} 
 
 -- a call for which there was no memory
 pub scalar_memory : (before : WriterState) (content : Scalar) → GivesScalar before content (Err Memory) before
-scalar_memory before content = record {
-  written = tt;
-  kept = record { grows = grows_itself before.emitter.page; sound = unchanged before; failed = inl (refl, refl) };
-}
+scalar_memory before content = record { written = tt; kept = answers_memory before before (scalar content) Memory (refl, refl) }

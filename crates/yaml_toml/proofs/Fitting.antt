@@ -1,22 +1,15 @@
 -- The rests fit the allowed depth, as collections are begun and go on.
-use Rattle.yaml_toml.proofs.Common.{◌≡◌, ℕ, suc, ◌+◌, ◌-◌, ◌<◌, ◌≤◌, arith, ◌∷◌, ◌++◌, [], List, Some, Result, Ok, Err, IfSome, refl, ap, subst}
-use Rattle.yaml_toml.proofs.Common.{sym, ◌∙◌, length, length-append, cases_lt, inl, inr}
+use Rattle.yaml_toml.proofs.Common.{◌≡◌, ℕ, suc, ◌+◌, ◌-◌, ◌<◌, ◌≤◌, arith, ◌∷◌, ◌++◌, [], List, Some, Result, Ok, Err, IfSome, refl, ap, subst, sym, ◌∙◌}
+use Rattle.yaml_toml.proofs.Common.{length, length-append, cases_lt, inl, inr}
 use Rattle.std.specs.Prelude.{◌↔◌, max}
 use Rattle.std.proofs.lemmas.Option.{none-some}
-use Rattle.yaml_base.specs.declared.errors.{yaml_error_t.yaml_error_t, yaml_error_t.TheVariants.Memory}
-use Rattle.toml_ordered.specs.Data.{TomlNodes}
-use Rattle.toml_ordered.specs.Grammar.{ordered_document}
-use Rattle.toml_ordered.specs.Places.{place_left}
-use Rattle.toml_ordered.specs.declared.fault.Fault.{Fault}
+use Rattle.yaml_toml.specs.{Depth.ExplainsDepth, Depth.document_nesting, Fitting.FitsAfter, Fitting.NestsAfter, Fitting.NodeFits, Fitting.PendingFits}
+use Rattle.yaml_toml.specs.{Fitting.RestFits, Fitting.rest_nesting, Places.IsBeforeLeft, Walk.IsOwnMemory, Walk.IsStopOf, Walk.fault_error, Walk.stop_error}
+use Rattle.yaml_toml.specs.{Walk.toml_writers_error, declared.error.TomlError.TomlError, declared.walk.Rest.Rest, declared.walk.Stop.Stop}
+use Rattle.toml_ordered.specs.{Data.TomlNodes, Grammar.ordered_document, Places.place_left, declared.fault.Fault.Fault}
+use Rattle.yaml_base.specs.declared.errors.yaml_error_t.{yaml_error_t, TheVariants.Memory}
 use Rattle.toml_ordered.specs.declared.fault.Fault.TheVariants as fault
-use Rattle.yaml_toml.specs.Depth.{ExplainsDepth, document_nesting}
-use Rattle.yaml_toml.specs.Fitting.{FitsAfter, NestsAfter, NodeFits, PendingFits, RestFits, rest_nesting}
-use Rattle.yaml_toml.specs.Places.{IsBeforeLeft}
-use Rattle.yaml_toml.specs.Walk.{IsOwnMemory, IsStopOf, fault_error, stop_error, toml_writers_error}
-use Rattle.yaml_toml.specs.declared.error.TomlError.{TomlError}
 use Rattle.yaml_toml.specs.declared.error.TomlError.TheVariants as errors
-use Rattle.yaml_toml.specs.declared.walk.Rest.{Rest}
-use Rattle.yaml_toml.specs.declared.walk.Stop.{Stop}
 use Rattle.yaml_toml.specs.declared.walk.Stop.TheVariants as stop
 
 -- ---- one more that is open
@@ -124,19 +117,13 @@ module _ (depth : ℕ) (text : List ℕ) where
       → NestsAfter depth root (Err stopped) → ExplainsDepth depth text error
   stop_explained root stop.TooDeep errors.TooDeep read is nests = record { root = root; read = read; deeper = nests }
   stop_explained root (stop.Failed failure) errors.TooDeep read is nests = absurd (none-some failure is)
-  stop_explained root stopped (errors.NotToml position) read is nests = tt
-  stop_explained root stopped (errors.TooDeepToRead position) read is nests = tt
-  stop_explained root stopped (errors.DefinedAgain key first position) read is nests = tt
-  stop_explained root stopped (errors.Emitter failure) read is nests = tt
+  stop_explained root stopped _ read is nests = tt
 
   -- none was read
   pub fault_explained : (found : Fault) (error : TomlError) → toml_writers_error error ≡ fault_error found
       → IfSome (place_left found) (λ left. IsBeforeLeft text left error) → ExplainsDepth depth text error
   fault_explained fault.Memory errors.TooDeep is at = absurd (none-some Memory is)
-  fault_explained (fault.NotToml left) errors.TooDeep is at = absurd at
+  fault_explained (fault.NotToml left why) errors.TooDeep is at = absurd at
   fault_explained (fault.TooDeep left) errors.TooDeep is at = absurd at
-  fault_explained (fault.DefinedAgain key first second) errors.TooDeep is at = absurd at
-  fault_explained found (errors.NotToml position) is at = tt
-  fault_explained found (errors.TooDeepToRead position) is at = tt
-  fault_explained found (errors.DefinedAgain key first position) is at = tt
-  fault_explained found (errors.Emitter failure) is at = tt
+  fault_explained (fault.DefinedAgain key name first second) errors.TooDeep is at = absurd at
+  fault_explained found _ is at = tt

@@ -2,29 +2,23 @@
 use Rattle.std.proofs.Common.{◌≡◌, ◌⊎◌, ℕ, zero, suc, ◌+◌, ◌-◌, ◌<◌, Bool, true, false, not, cond, pos, ◌^◌, ◌&&◌, ◌||◌, ◌==◌, List, [], ◌∷◌, ◌++◌, length}
 use Rattle.std.proofs.Common.{length-take, take, drop, slice_range, slice_index, codes, Option, None, Some, Float, refl, sym, ap, ap₂, subst, ◌∙◌, arith, inl}
 use Rattle.std.proofs.Common.{inr, bytes_eq, append_assoc, append-nil}
-use Rattle.std.specs.Prelude.{nat_lt, nat_le, if◌then◌else◌}
 use Rattle.std.proofs.Math.Seq.{drop-length, drop-nil}
 use Rattle.std.proofs.lemmas.Bool.{and_parts, eqb-true, ltb-true, lt-ltb, or_cases, or_right, false≢true, leb-true, ne_eqb, not_from_false, and_from}
-use Rattle.std.proofs.lemmas.List.{take-append-drop, length-take-le, nil_from_length}
-use Rattle.std.proofs.lemmas.List.Folds.{length-prefix_len}
 use Rattle.std.proofs.lemmas.Str.{digit_value_digit}
-use Rattle.std.specs.List.{list_all}
-use Rattle.std.specs.Char.{is_ascii_digit, is_digit, digit_value}
-use Rattle.std.specs.Float.Numeral.{digits_len, digits_end, exponent_start, has_exponent, numeral_digits as digits_of, scan_numeral}
-use Rattle.std.specs.Float.Ieee.{inf, nan}
-use Rattle.std.specs.Str.Parse.{digits_value}
-use Rattle.toml_parser.specs.Lexical.{first}
-use Rattle.toml_parser.specs.Numbers.{plain_number, decimal_number, is_decimal as is_toml_decimal, float_of, integer_of, radix_of, prefixed_integer}
-use Rattle.toml_parser.specs.declared.scalar.Scalar.{Scalar}
-use Rattle.toml_parser.specs.declared.scalar.Scalar.TheVariants as scalar
+use Rattle.yaml_writer.proofs.PartLemmas.{number_in_text}
+use Rattle.yaml_writer.specs.NumberParts.{HasNumber}
 use Rattle.yaml_base.specs.Characters.{Text}
 use Rattle.yaml_base.specs.Words.{is_word}
 use Rattle.yaml_base.specs.values.JsonNumbers.{JsonExponent, exponent_text, is_json_number, is_whole_part, json_text, minus}
 use Rattle.yaml_base.specs.values.Resolved.{are_digits}
-use Rattle.yaml_writer.proofs.PartLemmas.{number_in_text}
-use Rattle.yaml_writer.specs.NumberParts.{HasNumber}
-use Rattle.yaml_toml.specs.Events.{json_word}
-use Rattle.yaml_toml.specs.Walk.{IsJsonWord}
+use Rattle.std.specs.{Prelude.nat_lt, Prelude.nat_le, Prelude.if◌then◌else◌, List.list_all, Char.is_ascii_digit, Char.is_digit, Char.digit_value}
+use Rattle.std.specs.{Float.Ieee.inf, Float.Ieee.nan, Str.Parse.digits_value}
+use Rattle.std.proofs.lemmas.List.{take-append-drop, length-take-le, nil_from_length, Folds.length-prefix_len}
+use Rattle.toml_parser.specs.{Lexical.first, declared.scalar.Scalar.Scalar}
+use Rattle.yaml_toml.specs.{Events.json_word, Walk.IsJsonWord}
+use Rattle.std.specs.Float.Numeral.{digits_len, digits_end, exponent_start, has_exponent, numeral_digits as digits_of, scan_numeral}
+use Rattle.toml_parser.specs.Numbers.{plain_number, decimal_number, is_decimal as is_toml_decimal, float_of, integer_of, radix_of, prefixed_integer}
+use Rattle.toml_parser.specs.declared.scalar.Scalar.TheVariants as scalar
 
 -- ---- the rest after some bytes
 

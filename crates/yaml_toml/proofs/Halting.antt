@@ -3,11 +3,9 @@ use Rattle.yaml_toml.proofs.Common.{◌≡◌, ℕ, suc, ◌≤◌, arith, ◌�
 use Rattle.yaml_toml.proofs.Common.{WriterState, WroteEvent}
 use Rattle.std.specs.Prelude.{OnErr, pred, zero}
 use Rattle.yaml_writer.proofs.OpenLevels.{gave_events_then, gave_none}
-use Rattle.yaml_base.specs.declared.errors.yaml_error_t.{yaml_error_t}
-use Rattle.yaml_base.specs.declared.kinds.CollectionKind.{CollectionKind}
-use Rattle.yaml_toml.specs.OpenCounts.{count_after}
-use Rattle.yaml_toml.specs.Walk.{Answers, FailsGiving, IsStopOf, StepsStop}
-use Rattle.yaml_toml.specs.declared.walk.Stop.{Stop}
+use Rattle.yaml_writer.specs.Answering.{Answers, FailsAt}
+use Rattle.yaml_toml.specs.{OpenCounts.count_after, Walk.IsStopOf, Walk.StepsStop, declared.walk.Stop.Stop}
+use Rattle.yaml_base.specs.declared.{errors.yaml_error_t.yaml_error_t, kinds.CollectionKind.CollectionKind}
 
 -- one that is open ends
 pub fewer_fit : (most n : ℕ) → n ≤ most → pred n ≤ most
@@ -27,7 +25,7 @@ module _ {most : ℕ} {due : List Event} {before : List CollectionKind} (was : W
 module _ {most : ℕ} {was now : WriterState} where
   -- an event was given, or nothing
   halts_at : (event : Event) (due : List Event) (before : List CollectionKind) (error : yaml_error_t)
-      → (length before ≤ most → count_after event (length before) ≤ most) → FailsGiving was event error now → StepsStop most was (event ∷ due) before now
+      → (length before ≤ most → count_after event (length before) ≤ most) → FailsAt was event error now → StepsStop most was (event ∷ due) before now
   halts_at event due before error room (inl memory) =
       subst (λ (after : WriterState). StepsStop most was (event ∷ due) before after) (sym memory.1) (halts_at_once was)
   halts_at event due before error room (inr failed) = record {
@@ -41,9 +39,8 @@ module _ {most : ℕ} {was now : WriterState} where
       (result : Result (Unit {0}) Stop) → (length before ≤ most → count_after event (length before) ≤ most) → IsStopOf answer result
       → Answers was event answer now → OnErr result (StepsStop most was (event ∷ due) before now)
   halts_of event due before (Ok done) (Ok same) room is answers = tt
-  halts_of event due before (Ok done) (Err stopped) room is answers = absurd is
-  halts_of event due before (Err error) (Ok done) room is answers = absurd is
   halts_of event due before (Err error) (Err stopped) room is answers = halts_at event due before error room answers.failed
+  halts_of event due before _ _ room is answers = absurd is
 
 -- the same events were due, by other words
 module _ {most : ℕ} {was now : WriterState} {due same : List Event} {before these : List CollectionKind} where

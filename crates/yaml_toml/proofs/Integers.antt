@@ -1,16 +1,14 @@
 -- Integers are numbers of JSON, so both schemas read them as themselves.
-use Rattle.yaml_toml.proofs.Common.{ℕ, ◌<◌, codes, Bool, false, not, true, ◌&&◌, [], ◌++◌, ◌∷◌, ◌≡◌, arith, ap, sym, ◌∙◌, subst, append-nil, Text}
-use Rattle.yaml_toml.proofs.Common.{Schema, if◌then◌else◌, fraction_or_default, is_json_integer}
-use Rattle.yaml_base.specs.values.JsonNumbers.{value_with}
+use Rattle.yaml_toml.proofs.Common.{ℕ, ◌<◌, codes, Bool, false, not, true, ◌&&◌, [], ◌++◌, ◌∷◌, ◌≡◌, arith, ap, sym, ◌∙◌, subst, append-nil, Text, Schema}
+use Rattle.yaml_toml.proofs.Common.{if◌then◌else◌, fraction_or_default, is_json_integer}
 use Rattle.yaml_base.proofs.Common.{meant_integer, meant_decimal, signed, digits_value}
-use Rattle.yaml_base.specs.Words.{is_word}
 use Rattle.yaml_toml.specs.Walk.{FewDigits}
 use Rattle.yaml_writer.proofs.NumberTexts.{first_digit, integer, valid_integer}
 use Rattle.yaml_writer.proofs.ScalarMeanings.{IsPlainWord, ReadsScalars, plain_numbers}
-use Rattle.std.{proofs.Common.FitsSigned, proofs.Common.get_or, proofs.Common.w64, proofs.lemmas.Fmt.decimal_is_IsNumeral_wide}
-use Rattle.std.proofs.lemmas.Bool.{ne_eqb}
 use Rattle.std.specs.Fmt.{decimal, signed_decimal}
 use Rattle.std.specs.Prelude.{ℤ, pos, negsuc, suc, ◌^◌}
+use Rattle.std.proofs.{Common.FitsSigned, Common.get_or, Common.w64, lemmas.Fmt.decimal_is_IsNumeral_wide, lemmas.Bool.ne_eqb}
+use Rattle.yaml_base.specs.{values.JsonNumbers.value_with, Words.is_word}
 
 -- no integer but 0 is written `0`
 not_zero : (n : ℕ) → suc n < 10 ^ 64 → is_word (decimal (suc n)) (codes "0") ≡ false

@@ -5,19 +5,16 @@ use Rattle.yaml_base.proofs.Common.{is_decimal, is_point, is_exponent_letter, pa
 use Rattle.yaml_base.proofs.Common.{meant_text, slice_split, or_from, nat_tests}
 use Rattle.yaml_base.proofs.NumberCuts.{digit_unlike, no_word_of_core}
 use Rattle.yaml_base.specs.values.Resolved.{some_if}
-use Rattle.std.proofs.lemmas.Option.{cond_some, none-some, option_and_then_some, same_Some}
-use Rattle.std.proofs.NetLemmas.Options.{map_some}
-use Rattle.std.proofs.lemmas.List.{Splits.slice_split_none, Sums.AllPass-from_list_all}
-use Rattle.std.specs.List.{All}
-use Rattle.std.proofs.Common.{get_or}
-use Rattle.std.specs.Prelude.{◌+◌, ◌/◌, ◌%◌, nat_lt, nat_le, ℤ, unwrap_or}
 use Rattle.yaml_writer.specs.Dates.{CalendarDate, calendar_date, date_text, is_calendar_date, two_digits}
 use Rattle.yaml_writer.specs.Times.{ClockOffset, ClockTime, Moment, clock_time, is_clock_reading, is_clock_time, is_zone_offset, is_moment}
 use Rattle.yaml_writer.proofs.DateLemmas.{DateSays, date_says, date_passes, behind_first, first_digit}
 use Rattle.toml_datetime.specs.Valid.{magnitude}
-use Rattle.toml_datetime.specs.declared.datetime.{Time.Time, Offset.Offset, Datetime.Datetime}
-use Rattle.toml_datetime.specs.declared.datetime.Offset.TheVariants.{Z, Custom}
 use Rattle.yaml_writer.specs.TomlDates.{date_of, is_west, offset_of, time_by, time_of, moment_by, moment_of}
+use Rattle.std.specs.List.{All}
+use Rattle.std.specs.Prelude.{◌+◌, ◌/◌, ◌%◌, nat_lt, nat_le, ℤ, unwrap_or}
+use Rattle.toml_datetime.specs.declared.datetime.{Time.Time, Offset.Offset, Datetime.Datetime, Offset.TheVariants.Z, Offset.TheVariants.Custom}
+use Rattle.std.proofs.{lemmas.Option.cond_some, lemmas.Option.none-some, lemmas.Option.option_and_then_some, lemmas.Option.same_Some}
+use Rattle.std.proofs.{NetLemmas.Options.map_some, lemmas.List.Splits.slice_split_none, lemmas.List.Sums.AllPass-from_list_all, Common.get_or}
 
 -- ---- dates by the core schema
 
@@ -27,10 +24,7 @@ no_digits a b c d rest = by (is_decimal a) (is_decimal b) (is_decimal c) (is_dec
   where
     by : (w x y z : Bool) → (w && (x && (y && (z && false)))) ≡ false
     by true true true true = refl
-    by true true true false = refl
-    by true true false z = refl
-    by true false y z = refl
-    by false x y z = refl
+    by _ _ _ _ = refl
 
 no_number : (date : CalendarDate) → list_all is_decimal (date_text date) ≡ false
 no_number date =
@@ -124,11 +118,10 @@ valid_by : (date : CalendarDate) (time : Option Time) (offset : Option Offset) (
     → moment_by date time offset ≡ Some moment → is_moment moment ≡ true
 valid_by date None None moment valid e =
     subst (λ (m : Moment). is_moment m ≡ true) (same_Some (record { date = date; time = None }) moment e) (and_from (is_calendar_date date) true valid refl)
-valid_by date None (Some offset) moment valid e = absurd (none-some moment e)
-valid_by date (Some time) None moment valid e = absurd (none-some moment e)
 valid_by date (Some time) (Some offset) moment valid e =
     map_some {B = Moment} (λ clock. record { date = date; time = Some clock }) (time_of time offset) moment e λ clock is same.
     subst (λ (m : Moment). is_moment m ≡ true) same (and_from (is_calendar_date date) (is_clock_time clock) valid (valid_time time offset clock is))
+valid_by date _ _ moment valid e = absurd (none-some moment e)
 
 pub valid_moment : (d : Datetime) (moment : Moment) → moment_of d ≡ Some moment → is_moment moment ≡ true
 valid_moment d moment e =

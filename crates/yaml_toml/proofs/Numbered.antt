@@ -1,25 +1,20 @@
 -- Each decimal that a word of TOML writes is a number of JSON, and each integer has few digits.
-use Rattle.std.proofs.Common.{◌≡◌, ℕ, ℤ, zero, suc, ◌^◌, ◌≤◌, Bool, true, false, cond, not, ◌&&◌, ◌||◌, ◌==◌, List, length, drop, codes, Option, None, Some}
+use Rattle.std.proofs.Common.{◌≡◌, ℕ, ℤ, zero, ◌^◌, ◌≤◌, Bool, true, false, cond, not, ◌&&◌, ◌||◌, ◌==◌, List, length, drop, codes, Option, None, Some}
 use Rattle.std.proofs.Common.{option_map, Float, pos, neg_ℤ, refl, subst, arith, inl, inr, bytes_eq}
-use Rattle.std.specs.Prelude.{IfSome, nat_lt}
-use Rattle.std.specs.Str.Parse.{digits_value}
-use Rattle.std.specs.List.{list_all}
-use Rattle.std.specs.Char.{is_digit}
-use Rattle.std.specs.Float.{float_is_finite, binary64}
-use Rattle.std.specs.Float.Ieee.{inf, nan}
-use Rattle.std.specs.Float.Numeral.{nearest_float as nearest, numeral_digits as digits_of, scan_numeral as scan}
-use Rattle.std.proofs.lemmas.Bool.{and_parts, eqb-true, ltb-true, or_cases}
-use Rattle.std.proofs.lemmas.Option.{IfSome_then}
 use Rattle.toml_datetime.specs.Parse.{parse_datetime}
-use Rattle.toml_parser.specs.Lexical.{first}
-use Rattle.toml_parser.specs.Numbers.{decimal_number, float_of, integer_of, is_decimal, looks_like_datetime, number, plain_number, prefixed_integer, radix_of}
-use Rattle.toml_parser.specs.Numbers.{underscore_radix, underscores_fit, word_value}
-use Rattle.toml_parser.specs.declared.scalar.Scalar.{Scalar}
-use Rattle.toml_parser.specs.declared.scalar.Scalar.TheVariants as scalar
 use Rattle.toml_ordered.specs.Data.{decimal, infinity, not_a_number}
 use Rattle.toml_ordered.specs.Grammar.{float_node, without_sign, plain_word, scalar_node}
 use Rattle.yaml_toml.specs.Walk.{FewDigits, HasNumbers, ScalarsHaveNumbers}
 use Rattle.yaml_toml.proofs.FloatWords.{float_word}
+use Rattle.toml_parser.specs.Lexical.{first}
+use Rattle.toml_parser.specs.Numbers.{decimal_number, float_of, integer_of, is_decimal, looks_like_datetime, number, plain_number, prefixed_integer, radix_of}
+use Rattle.toml_parser.specs.Numbers.{underscore_radix, underscores_fit, word_value}
+use Rattle.toml_parser.specs.declared.scalar.Scalar.{Scalar}
+use Rattle.std.specs.{Prelude.IfSome, Prelude.nat_lt, Str.Parse.digits_value, List.list_all, Char.is_digit, Float.float_is_finite, Float.binary64}
+use Rattle.std.specs.{Float.Ieee.inf, Float.Ieee.nan}
+use Rattle.std.proofs.lemmas.{Bool.and_parts, Bool.eqb-true, Bool.ltb-true, Bool.or_cases, Option.IfSome_then}
+use Rattle.std.specs.Float.Numeral.{nearest_float as nearest, numeral_digits as digits_of, scan_numeral as scan}
+use Rattle.toml_parser.specs.declared.scalar.Scalar.TheVariants as scalar
 
 -- ---- facts of a value that there may be
 
@@ -60,8 +55,7 @@ with_sign negative n = cond negative (neg_ℤ (pos n)) (pos n)
 
 small_signed : (negative : Bool) (n : ℕ) → n ≤ 2 ^ 63 → FewDigits (with_sign negative n)
 small_signed true zero few = omega arith
-small_signed true (suc n) few = omega (arith, few)
-small_signed false n few = omega (arith, few)
+small_signed _ _ few = omega (arith, few)
 
 small_integer : (negative : Bool) (n : ℕ) → IfSome (integer_of negative n) IsSmall
 small_integer negative n = by (nat_lt n (2 ^ 63) || (negative && n == 2 ^ 63)) refl
@@ -98,9 +92,8 @@ float_numbers word x read = by (bytes_eq (without_sign word) (codes "inf")) refl
   where
     by : (a : Bool) → bytes_eq (without_sign word) (codes "inf") ≡ a → (b : Bool) → bytes_eq (without_sign word) (codes "nan") ≡ b
         → HasNumbers (cond a (infinity (first word == 45)) (cond b not_a_number (decimal word)))
-    by true a b is = tt
-    by false a true is = tt
     by false a false is = float_word word x read a is
+    by _ a _ is = tt
 
 abbrev PlainHasNumbers : List ℕ → Scalar → Type 0
 PlainHasNumbers word (scalar.Float x) = HasNumbers (float_node word)
@@ -110,20 +103,17 @@ plain_numbers : (word : List ℕ) → IfSome (plain_number word) (PlainHasNumber
 plain_numbers word = by (plain_number word) refl (small_plain word)
   where
     by : (o : Option Scalar) → plain_number word ≡ o → IfSome o IsSmall → IfSome o (PlainHasNumbers word)
-    by None e small = tt
-    by (Some (scalar.Boolean flag)) e small = tt
     by (Some (scalar.Integer z)) e small = small
     by (Some (scalar.Float x)) e small = float_numbers word x e
-    by (Some (scalar.Datetime d)) e small = tt
+    by _ e small = tt
 
 abbrev WordHasNumbers : List ℕ → Scalar → Type 0
 WordHasNumbers word s = HasNumbers (scalar_node word s)
 
 word_from_plain : (word : List ℕ) (s : Scalar) → PlainHasNumbers (plain_word word) s → WordHasNumbers word s
-word_from_plain word (scalar.Boolean flag) h = tt
 word_from_plain word (scalar.Integer z) h = h
 word_from_plain word (scalar.Float x) h = h
-word_from_plain word (scalar.Datetime d) h = tt
+word_from_plain word _ h = tt
 
 number_numbers : (word : List ℕ) → IfSome (number word) (WordHasNumbers word)
 unfolding number

@@ -1,18 +1,17 @@
 -- The pending events, as collections are begun and go on.
 use Rattle.yaml_toml.proofs.Common.{◌≡◌, ℕ, suc, length, length-append, Scalar, ◌+◌, ◌<◌, ◌≤◌, arith, ◌∷◌, ◌++◌, [], List, Bool, refl, ap, subst, sym, ◌∙◌}
-use Rattle.yaml_toml.proofs.Common.{append-nil, append_assoc}
-use Rattle.yaml_toml.proofs.Common.{Event, WriterState, WroteEvent, start_event, scalar, text_content, chars, sequence_end, mapping_end}
-use Rattle.yaml_base.specs.declared.kinds.CollectionKind.{CollectionKind}
-use Rattle.yaml_base.specs.declared.kinds.CollectionKind.TheVariants.{Mapping, Sequence}
+use Rattle.yaml_toml.proofs.Common.{append-nil, append_assoc, Event, WriterState, WroteEvent, start_event, scalar, text_content, chars, sequence_end}
+use Rattle.yaml_toml.proofs.Common.{mapping_end}
 use Rattle.toml_ordered.specs.Data.{TomlNode, TomlNodes, node, items_view, node_view}
-use Rattle.toml_ordered.specs.declared.tree.Node.{Node as CodeNode}
 use Rattle.std.proofs.lemmas.List.{length-map}
+use Rattle.yaml_toml.proofs.Answering.{moved_event, moved_within, moved_then}
 use Rattle.yaml_toml.specs.Events.{toml_events, toml_items_events, keys_events}
 use Rattle.yaml_toml.specs.OpenCounts.{OpensAtMost, count_after}
-use Rattle.yaml_toml.specs.Walk.{Moved, GaveSome, PendingHaveNumbers, RestHasNumbers, items_left, keys_left}
-use Rattle.yaml_toml.specs.Walk.{rest_kind, kinds_of, pending, rest_events, rest_size, pending_size}
+use Rattle.yaml_toml.specs.Walk.{Moved, GaveSome, PendingHaveNumbers, RestHasNumbers, items_left, keys_left, rest_kind, kinds_of, pending, rest_events}
+use Rattle.yaml_toml.specs.Walk.{rest_size, pending_size}
 use Rattle.yaml_toml.specs.declared.walk.Rest.{Rest}
-use Rattle.yaml_toml.proofs.Answering.{moved_event, moved_within, moved_then}
+use Rattle.yaml_base.specs.declared.kinds.CollectionKind.{CollectionKind, TheVariants.Mapping, TheVariants.Sequence}
+use Rattle.toml_ordered.specs.declared.tree.Node.{Node as CodeNode}
 
 module _ (canonical in_flow : Bool) where
   -- one more that is open

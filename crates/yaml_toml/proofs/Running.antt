@@ -1,26 +1,19 @@
 -- The walk from its start on.
-use Rattle.yaml_toml.proofs.Common.{◌≡◌, ℕ, suc, zero, length, ◌≤◌, ◌∷◌, ◌++◌, [], List, Bool, Ok, refl, ap, subst, sym, ◌∙◌, append-nil, append_assoc, arith}
-use Rattle.yaml_toml.proofs.Common.{Event, WriterState, WasGiven}
 use Rattle.yaml_base.specs.declared.kinds.CollectionKind.{CollectionKind}
-use Rattle.toml_ordered.specs.Data.{TomlNodes, table}
-use Rattle.toml_ordered.specs.declared.tree.Origin.TheVariants.{Header}
-use Rattle.yaml_toml.specs.Events.{toml_events}
-use Rattle.yaml_base.proofs.Common.{sequence_start, sequence_end, mapping_start, mapping_end, open_count}
+use Rattle.yaml_base.proofs.Common.{sequence_start, open_count}
 use Rattle.yaml_emitter.proofs.AcceptedLists.{Stays, after_event, few_open}
-use Rattle.yaml_writer.proofs.GivenLemmas.{leaves_same}
-use Rattle.yaml_writer.proofs.OpenLevels.{gave_events_then}
-use Rattle.yaml_writer.specs.WasGiven.{GivenLeaving, IsBare, levels_after}
-use Rattle.yaml_toml.specs.Failing.{GaveFirst}
-use Rattle.yaml_toml.specs.OpenCounts.{OpensAtMost, count_after}
-use Rattle.yaml_toml.specs.Walk.{Moved, GaveSome, StepsStop, KeptAfterStop, KeysHaveNumbers, PendingHaveNumbers, RestHasNumbers, kinds_of, rest_kind}
-use Rattle.yaml_toml.specs.Walk.{pending, rest_events, HasInnermost}
-use Rattle.yaml_toml.specs.WalkSteps.{RootStopped, StepGiven, StepStopped, value_due, walk_at}
-use Rattle.yaml_writer.specs.declared.settings.ValueSettings.{ValueSettings}
-use Rattle.yaml_toml.specs.declared.walk.Rest.{Rest}
-use Rattle.yaml_toml.specs.declared.walk.Stop.{Stop}
-use Rattle.yaml_toml.proofs.Answering.{moved_then, kept_then}
+use Rattle.yaml_toml.proofs.Common.{◌≡◌, ℕ, length, ◌≤◌, ◌∷◌, ◌++◌, [], List, Bool, Ok, refl, ap, subst, sym, ◌∙◌, append-nil, append_assoc, arith, Event}
+use Rattle.yaml_toml.proofs.Common.{WriterState, WasGiven}
+use Rattle.yaml_toml.proofs.Answering.{moved_then}
 use Rattle.yaml_toml.proofs.Fitting.{DocumentFits, nests_first, nests_never}
 use Rattle.yaml_toml.proofs.Pending.{kinds-push, pending-push}
+use Rattle.yaml_toml.specs.{Events.toml_events, Failing.GaveFirst, OpenCounts.OpensAtMost, OpenCounts.count_after, Walk.Moved, Walk.GaveSome, Walk.StepsStop}
+use Rattle.yaml_toml.specs.{Walk.KeptAfterStop, Walk.KeysHaveNumbers, Walk.PendingHaveNumbers, Walk.RestHasNumbers, Walk.kinds_of, Walk.rest_kind}
+use Rattle.yaml_toml.specs.{Walk.pending, Walk.rest_events, Walk.HasInnermost, WalkSteps.RootStopped, WalkSteps.StepGiven, WalkSteps.StepStopped}
+use Rattle.yaml_toml.specs.{WalkSteps.value_due, WalkSteps.walk_at, declared.walk.Rest.Rest, declared.walk.Stop.Stop}
+use Rattle.yaml_writer.proofs.{AnswerLemmas.kept_then, GivenLemmas.leaves_same, OpenLevels.gave_events_then}
+use Rattle.toml_ordered.specs.{Data.TomlNodes, Data.table, declared.tree.Origin.TheVariants.Header}
+use Rattle.yaml_writer.specs.{WasGiven.GivenLeaving, WasGiven.IsBare, WasGiven.levels_after, declared.settings.ValueSettings.ValueSettings}
 
 numbers-pull : (opened : List Rest) (r : Rest) → RestHasNumbers r → PendingHaveNumbers opened → PendingHaveNumbers (opened ++ r ∷ [])
 numbers-pull [] r have rest = (have, tt)
@@ -40,12 +33,7 @@ opens_then most before between behind (event ∷ first) second one other =
 
 same_after : (event : Event) (n : ℕ) → count_after event n ≡ after_event event n
 same_after (sequence_start start) n = refl
-same_after (mapping_start start) n = refl
-same_after sequence_end zero = refl
-same_after sequence_end (suc n) = refl
-same_after mapping_end zero = refl
-same_after mapping_end (suc n) = refl
-same_after event n = refl
+same_after _ _ = refl
 
 stays_if : (most before behind : ℕ) (events : List Event) → OpensAtMost most before events behind → Stays most before events
 stays_if most before behind [] opens = opens.0

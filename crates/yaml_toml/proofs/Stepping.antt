@@ -2,29 +2,28 @@
 use Rattle.yaml_toml.proofs.Common.{◌≡◌, ℕ, suc, length, ◌+◌, ◌<◌, ◌≤◌, arith, ◌∷◌, ◌++◌, [], List, Bool, Result, Ok, Err, OnOk, refl, ap, subst, sym, ◌∙◌}
 use Rattle.yaml_toml.proofs.Common.{append_assoc, Event, Scalar, scalar, WriterState, WroteEvent, start_event, end_event}
 use Rattle.std.specs.Prelude.{◌↔◌, max, pred}
-use Rattle.toml_ordered.specs.Data.{TomlNode}
-use Rattle.toml_ordered.specs.declared.tree.Origin.{Origin}
 use Rattle.yaml_base.specs.declared.errors.yaml_error_t.{yaml_error_t}
-use Rattle.yaml_base.specs.declared.kinds.CollectionKind.{CollectionKind}
-use Rattle.yaml_base.specs.declared.kinds.CollectionKind.TheVariants.{Mapping, Sequence}
 use Rattle.yaml_writer.proofs.GivenLemmas.{on_ok}
+use Rattle.yaml_toml.proofs.Answering.{on_both}
+use Rattle.yaml_writer.proofs.AnswerLemmas.{kept_by, kept_memory, kept_then, ok_by}
+use Rattle.yaml_toml.proofs.Fitting.{fits_end, fits_enter, fits_failed, fits_leaf, fits_memory, fits_next, fits_same}
+use Rattle.yaml_toml.proofs.Halting.{fewer_fit, halts_after, halts_at_once, halts_of, halts_same}
+use Rattle.yaml_toml.proofs.Pending.{kinds_length, kinds-push, numbers-push, pending-push, size-push, steps_after, steps_end, steps_enter, steps_leaf}
+use Rattle.yaml_toml.proofs.Pending.{steps_same}
 use Rattle.yaml_toml.specs.Depth.{toml_nesting}
 use Rattle.yaml_toml.specs.Events.{toml_events}
 use Rattle.yaml_toml.specs.Fitting.{NodeFits, PendingFits, RestFits, rest_nesting}
 use Rattle.yaml_toml.specs.OpenCounts.{count_after}
-use Rattle.yaml_toml.specs.Walk.{Answers, GaveSome, HasNumbers, IsOwnMemory, IsStopOf, Moved, PendingHaveNumbers, RestHasNumbers, kinds_of, node_size, pending}
-use Rattle.yaml_toml.specs.Walk.{pending_size, rest_events, rest_kind, rest_size}
+use Rattle.yaml_toml.specs.Walk.{GaveSome, HasNumbers, IsOwnMemory, IsStopOf, KeptAfterStop, Moved, PendingHaveNumbers, RestHasNumbers, kinds_of, node_size}
+use Rattle.yaml_toml.specs.Walk.{pending, stop_error, pending_size, rest_events, rest_kind, rest_size}
 use Rattle.yaml_toml.specs.WalkSteps.{Due, DueFits, DueHasNumbers, TomlStep, all_due, collection_due, due_size, events_due, kinds_around, rest_due, value_due}
 use Rattle.yaml_toml.specs.WalkSteps.{WroteScalar, value_of_rest, walk_at}
-use Rattle.yaml_writer.specs.declared.settings.ValueSettings.{ValueSettings}
-use Rattle.yaml_toml.specs.declared.walk.Rest.{Rest}
+use Rattle.yaml_base.specs.declared.kinds.CollectionKind.{CollectionKind, TheVariants.Mapping, TheVariants.Sequence}
+use Rattle.yaml_toml.specs.declared.walk.{Rest.Rest, Stop.Stop}
+use Rattle.toml_ordered.specs.{Data.TomlNode, declared.tree.Origin.Origin}
+use Rattle.yaml_writer.specs.{declared.settings.ValueSettings.ValueSettings, Answering.Answers}
+use Rattle.yaml_toml.specs.declared.walk.Stop.TheVariants as stop
 use Rattle.yaml_toml.specs.declared.walk.Rest.TheVariants as rest
-use Rattle.yaml_toml.specs.declared.walk.Stop.{Stop}
-use Rattle.yaml_toml.proofs.Answering.{on_both, kept_memory, kept_of, kept_then, ok_of}
-use Rattle.yaml_toml.proofs.Fitting.{fits_end, fits_enter, fits_failed, fits_leaf, fits_memory, fits_next, fits_same}
-use Rattle.yaml_toml.proofs.Halting.{fewer_fit, halts_after, halts_at_once, halts_of, halts_same}
-use Rattle.yaml_toml.proofs.Pending.{kinds_length, kinds-push, numbers-push, pending-push, size-push, steps_after}
-use Rattle.yaml_toml.proofs.Pending.{steps_end, steps_enter, steps_leaf, steps_same}
 
 -- these events and then one due part are another due part, and each is within its collections
 pub record SameDue (ahead : List Event) (depth : ℕ) (canonical in_flow : Bool) (part : Due) (kept : List Rest) (whole : Due) (opened : List Rest)
@@ -63,12 +62,14 @@ due_begun : (depth : ℕ) (canonical in_flow : Bool) (origin : Origin) (r : Rest
     → SameDue [] depth canonical in_flow (collection_due r) opened (value_due (value_of_rest origin r)) opened
 due_begun depth canonical in_flow origin (rest.Items items) opened =
     record { events = refl; kinds = refl; numbers = λ have. have; size = omega arith; fits = (λ fits. fits, λ fits. fits) }
-due_begun depth canonical in_flow origin (rest.Tables done last) opened =
-    record { events = refl; kinds = refl; numbers = λ have. have; size = omega arith; fits = (λ fits. fits, λ fits. fits) }
-due_begun depth canonical in_flow origin (rest.Members keys) opened =
+due_begun depth canonical in_flow origin _ opened =
     record { events = refl; kinds = refl; numbers = λ have. have; size = omega arith; fits = (λ fits. fits, λ fits. fits) }
 
 module _ (settings : ValueSettings) (was : WriterState) where
+  kept_of : {event : Event} (now : WriterState) (answer : Result (Unit {0}) yaml_error_t) (result : Result (Unit {0}) Stop) → IsStopOf answer result
+      → Answers was event answer now → KeptAfterStop was result now
+  kept_of = kept_by (λ error. stop.Failed error) stop_error (λ error. refl) was
+
   -- ---- before the writer was called
 
   -- an allocation of the call's own failed
@@ -77,7 +78,7 @@ module _ (settings : ValueSettings) (was : WriterState) where
   step_memory due opened after stopped is = record {
     nests = fits_memory settings.depth (DueFits settings.depth due opened) stopped after is;
     stopped = halts_at_once was;
-    kept = kept_memory was stopped is;
+    kept = kept_memory stop_error was stopped (ap stop_error is);
   }
 
   -- ---- a call of the writer
@@ -92,7 +93,7 @@ module _ (settings : ValueSettings) (was : WriterState) where
     step_failed due opened after event more answer stopped events room is answers = record {
       nests = fits_failed settings.depth (DueFits settings.depth due opened) answer stopped after is;
       stopped = halts_same events refl (halts_of event more (kinds_around due opened) answer (Err stopped) room is answers);
-      kept = kept_of was now answer (Err stopped) is answers;
+      kept = kept_of now answer (Err stopped) is answers;
     }
 
     step_by : (due : Due) (opened after : List Rest) (event : Event) (more : List Event) (answer : Result (Unit {0}) yaml_error_t)
@@ -103,11 +104,10 @@ module _ (settings : ValueSettings) (was : WriterState) where
         (DueHasNumbers due × PendingHaveNumbers opened) (due_size due + pending_size opened) now after)
         → TomlStep settings due (walk_at was opened) result (walk_at now after)
     step_by due opened after event more (Ok done) (Ok same) events room fits is answers gave =
-        record { written = gave; nests = fits; kept = kept_of was now (Ok done) (Ok same) is answers }
-    step_by due opened after event more (Ok done) (Err stopped) events room fits is answers gave = absurd is
-    step_by due opened after event more (Err error) (Ok done) events room fits is answers gave = absurd is
+        record { written = gave; nests = fits; kept = kept_of now (Ok done) (Ok same) is answers }
     step_by due opened after event more (Err error) (Err stopped) events room fits is answers gave =
         step_failed due opened after event more (Err error) stopped events room is answers
+    step_by due opened after event more _ _ events room fits is answers gave = absurd is
 
     -- of a scalar
     pub step_scalar : (opened : List Rest) (x : TomlNode) (answer : Result (Unit {0}) yaml_error_t) (result : Result (Unit {0}) Stop) → IsStopOf answer result
@@ -200,17 +200,17 @@ module _ (settings : ValueSettings) (was : WriterState) where
         → IsStopOf answer (Ok tt) → OnOk answer (WroteEvent was (scalar content) between) → Answers was (scalar content) answer between
         → TomlStep settings part (walk_at between kept) result (walk_at now after) → TomlStep settings whole (walk_at was opened) result (walk_at now after)
     step_behind between content part whole kept opened after answer (Ok done) same is told answers step =
-        let wrote = ok_of (WroteEvent was (scalar content) between) answer (Ok tt) is told in
+        let wrote = ok_by (λ (error : yaml_error_t). stop.Failed error) (WroteEvent was (scalar content) between) answer (Ok tt) is told in
         record {
           written = steps_same (same_events between content part kept wrote.canonical ∙ same.events) same.kinds same.numbers same.size
               (steps_after wrote step.written);
           nests = fits_same settings.depth _ _ (Ok done) after same.fits step.nests;
-          kept = kept_then was between now (Ok tt) (kept_of was between answer (Ok tt) is answers) step.kept;
+          kept = kept_then was between now (Ok tt) (kept_of between answer (Ok tt) is answers) step.kept;
         }
     step_behind between content part whole kept opened after answer (Err stopped) same is told answers step =
-        let wrote = ok_of (WroteEvent was (scalar content) between) answer (Ok tt) is told in
+        let wrote = ok_by (λ (error : yaml_error_t). stop.Failed error) (WroteEvent was (scalar content) between) answer (Ok tt) is told in
         record {
           nests = fits_same settings.depth _ _ (Err stopped) after same.fits step.nests;
           stopped = halts_same (same_events between content part kept wrote.canonical ∙ same.events) same.kinds (halts_after wrote step.stopped);
-          kept = kept_then was between now (Err stopped) (kept_of was between answer (Ok tt) is answers) step.kept;
+          kept = kept_then was between now (Err stopped) (kept_of between answer (Ok tt) is answers) step.kept;
         }

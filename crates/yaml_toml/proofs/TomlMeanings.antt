@@ -1,32 +1,34 @@
 -- The meaning of the tree of a TOML value, at any place of each scalar.
-use Rattle.yaml_toml.proofs.Common.{Option, None, Some, codes, Bool, false, true, List, [], ◌++◌, ◌∷◌, refl, ◌≡◌, if◌then◌else◌, is_some, append-nil, ap, subst}
-use Rattle.yaml_toml.proofs.Common.{append_assoc, sym, ◌∙◌, and_parts, chars, node_tree, Text, plain, Scalar, scalar_tag, scalar_node, Nodes, Pairs, no_nodes}
-use Rattle.yaml_toml.proofs.Common.{nodes_and, no_pairs, pairs_and, Effective, is_empty, is_plain, Tree, int_tag, text_content, collection_in, float_tag}
+use Rattle.yaml_toml.proofs.Common.{Option, None, Some, codes, Bool, false, true, List, [], ◌++◌, ◌∷◌, refl, ◌≡◌, if◌then◌else◌, is_some, append-nil, ap}
+use Rattle.yaml_toml.proofs.Common.{subst, append_assoc, sym, ◌∙◌, and_parts, chars, node_tree, Text, plain, Scalar, scalar_tag, scalar_node, Nodes, Pairs}
+use Rattle.yaml_toml.proofs.Common.{no_nodes, nodes_and, no_pairs, pairs_and, Effective, is_empty, is_plain, Tree, int_tag, text_content, collection_in}
+use Rattle.yaml_toml.proofs.Common.{float_tag}
 use Rattle.yaml_base.proofs.Common.{TagDirective, as_item, as_key, as_value, Place, has_no_nodes, has_no_pairs, is_simple, is_simple_at, charset_of, choice_of}
 use Rattle.yaml_base.proofs.Common.{style_asked_at, allowed_under, is_written_in_flow, entry_place, allowances, chosen, stood_plain, stood_quoted, Tagging}
 use Rattle.yaml_base.proofs.Common.{without_tag, sequence_tree, mapping_tree, mapping_node, meant_integer}
 use Rattle.yaml_base.proofs.PlainUnderQuotes.{plain_under}
 use Rattle.yaml_base.proofs.stream_nodes.StreamAgrees.{tagging_in, nodes_tree, pairs_tree}
-use Rattle.yaml_writer.proofs.ScalarMeanings.{IsPlainWord, ReadsScalars, flag_at, number_at, plain_word, reads_by_11, reads_by_core, text_at, untagged, word_at}
-use Rattle.yaml_writer.specs.Means.{canonical_tag, trees_in_order, pairs_in_order}
-use Rattle.yaml_writer.proofs.{DateLemmas.dates_read, DateLemmas.dates_plain, FloatLemmas.special_floats_read, TimeLemmas.timestamps_read}
-use Rattle.yaml_writer.specs.Dates.{CalendarDate, date_text, is_calendar_date}
-use Rattle.yaml_writer.specs.Times.{Moment, ClockTime, is_moment, moment_in, timestamp_text}
-use Rattle.yaml_writer.specs.Floats.{special_text, special_meaning}
-use Rattle.yaml_writer.specs.declared.floats.SpecialFloat.{SpecialFloat}
-use Rattle.yaml_writer.specs.declared.floats.SpecialFloat.TheVariants.{Infinity, NegativeInfinity, NotANumber}
+use Rattle.yaml_writer.proofs.ScalarMeanings.{IsPlainWord, ReadsScalars, flag_at, number_at, plain_word, reads_by_11, reads_by_core, text_at, untagged}
+use Rattle.yaml_writer.proofs.ScalarMeanings.{word_at}
+use Rattle.yaml_writer.proofs.DateLemmas.{dates_read, dates_plain}
+use Rattle.yaml_writer.proofs.FloatLemmas.{special_floats_read}
+use Rattle.yaml_writer.proofs.TimeLemmas.{timestamps_read}
 use Rattle.std.specs.Fmt.{signed_decimal}
 use Rattle.yaml_base.specs.values.Resolved.{meant_infinity}
-use Rattle.toml_datetime.specs.Text.{datetime_text}
-use Rattle.toml_datetime.specs.declared.datetime.Datetime.{Datetime}
-use Rattle.toml_ordered.specs.Data as toml
-use Rattle.yaml_writer.specs.TomlDates.{moment_of}
 use Rattle.yaml_toml.specs.Events.{json_word, infinite, moment_content, date_content}
 use Rattle.yaml_toml.specs.Means.{SchemaReader, by_11, by_core, IsDated, MeansDate, MeansToml, ItemsMeanToml, KeysMean}
 use Rattle.yaml_toml.specs.Walk.{HasNumbers, ItemsHaveNumbers, KeysHaveNumbers}
 use Rattle.yaml_toml.proofs.Moments.{valid_moment, core_date}
 use Rattle.yaml_toml.proofs.Integers.{integer_read, integer_plain}
 use Rattle.yaml_toml.proofs.TomlTrees.{toml_node, items_nodes, keys_pairs}
+use Rattle.yaml_writer.specs.Means.{canonical_tag, trees_in_order, pairs_in_order}
+use Rattle.yaml_writer.specs.Dates.{CalendarDate, date_text, is_calendar_date}
+use Rattle.yaml_writer.specs.Times.{Moment, ClockTime, is_moment, moment_in, timestamp_text}
+use Rattle.yaml_writer.specs.Floats.{special_text, special_meaning}
+use Rattle.yaml_writer.specs.TomlDates.{moment_of}
+use Rattle.yaml_writer.specs.declared.floats.SpecialFloat.{SpecialFloat, TheVariants.Infinity, TheVariants.NegativeInfinity, TheVariants.NotANumber}
+use Rattle.toml_datetime.specs.{Text.datetime_text, declared.datetime.Datetime.Datetime}
+use Rattle.toml_ordered.specs.Data as toml
 
 -- a reader's types of the scalars of TOML
 pub record ReadsToml (reader : SchemaReader) : Type 0 where
@@ -49,8 +51,7 @@ special_plain NotANumber = plain_word (codes ".nan") refl
 
 special_tagged : (value : SpecialFloat) → float_tag ≡ canonical_tag (special_meaning value)
 special_tagged Infinity = refl
-special_tagged NegativeInfinity = refl
-special_tagged NotANumber = refl
+special_tagged _ = refl
 
 infinite_meant : (negative : Bool) → special_meaning (infinite negative) ≡ meant_infinity negative
 infinite_meant true = refl

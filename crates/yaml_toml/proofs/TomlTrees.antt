@@ -1,24 +1,19 @@
 -- The tree of the events of a TOML document, which is written alike in every mode.
-use Rattle.yaml_toml.proofs.Common.{None, Some, Option, Bool, true, false, List, [], ◌++◌, ◌∷◌, ◌||◌, refl, ◌≡◌, append-nil, append_assoc, ap, sym, ◌∙◌}
-use Rattle.yaml_toml.proofs.Common.{chars, if◌then◌else◌, Event, scalar, sequence_start, sequence_end, Nodes}
-use Rattle.yaml_toml.proofs.Common.{mapping_start, mapping_end, scalar_node, Pairs, no_nodes, nodes_and, no_pairs, pairs_and, Document, no_documents, Stream}
-use Rattle.yaml_toml.proofs.Common.{documents_and, collection_tag, directives_in_force, text_content, bool_content, collection_in, opening, closing, Text}
-use Rattle.yaml_toml.proofs.Common.{bool_tag, bool_text, int_tag, float_tag, number_tag, number_in, yaml_number, is_json_integer, word_content}
-use Rattle.yaml_base.proofs.Common.{stream_start, stream_end, document_end, Node, sequence_node, mapping_node, node_events, nodes_events, pairs_events}
-use Rattle.yaml_base.proofs.Common.{stream_events, or_from}
+use Rattle.yaml_writer.proofs.DocumentsOf.{stream_of, stream_flat as one_flat}
+use Rattle.yaml_writer.proofs.Unsigned.{collection_unsigned, number_unsigned, text_unsigned, word_unsigned}
+use Rattle.yaml_toml.proofs.Common.{None, Some, Option, Bool, true, false, List, [], ◌++◌, ◌∷◌, ◌||◌, refl, ◌≡◌, append-nil, append_assoc, ap, sym, ◌∙◌, chars}
+use Rattle.yaml_toml.proofs.Common.{Event, scalar, sequence_start, sequence_end, Nodes, mapping_start, mapping_end, scalar_node, Pairs, no_nodes, nodes_and}
+use Rattle.yaml_toml.proofs.Common.{no_pairs, pairs_and, Stream, collection_tag, directives_in_force, text_content, bool_content, collection_in, opening}
+use Rattle.yaml_toml.proofs.Common.{closing, bool_tag, bool_text, int_tag, float_tag, number_tag, number_in, yaml_number, is_json_integer}
+use Rattle.yaml_base.proofs.Common.{Node, sequence_node, mapping_node, node_events, nodes_events, pairs_events, stream_events, or_from}
 use Rattle.yaml_base.specs.StreamLaw.{tag_has_flow_indicator, node_has_flow_indicator, nodes_have_flow_indicator, pairs_have_flow_indicator}
-use Rattle.yaml_writer.proofs.Common.{plain_start}
-use Rattle.yaml_writer.specs.Floats.{special_text}
-use Rattle.yaml_writer.specs.Times.{Moment, ClockTime}
-use Rattle.yaml_writer.specs.declared.floats.SpecialFloat.TheVariants.{NotANumber}
 use Rattle.std.specs.Fmt.{signed_decimal}
-use Rattle.toml_datetime.specs.Text.{datetime_text}
-use Rattle.toml_datetime.specs.declared.datetime.Datetime.{Datetime}
-use Rattle.toml_ordered.specs.Data as toml
 use Rattle.toml_ordered.specs.declared.tree.Origin.TheVariants.{Header}
-use Rattle.yaml_writer.specs.TomlDates.{moment_of}
 use Rattle.yaml_toml.specs.Events.{json_word, integer_content, decimal_content, infinite, special_content, moment_content, date_content, toml_events}
 use Rattle.yaml_toml.specs.Events.{toml_items_events, keys_events}
+use Rattle.yaml_writer.specs.{Floats.special_text, Times.Moment, Times.ClockTime, declared.floats.SpecialFloat.TheVariants.NotANumber, TomlDates.moment_of}
+use Rattle.toml_datetime.specs.{Text.datetime_text, declared.datetime.Datetime.Datetime}
+use Rattle.toml_ordered.specs.Data as toml
 
 -- a value as a node; items, and keys with their values, after others
 abbrev mutual
@@ -55,13 +50,6 @@ last_table start items keys =
 
 mutual
   pub node_flat : (x : toml.TomlNode) (canonical in_flow : Bool) → node_events (toml_node x canonical in_flow) ≡ toml_events canonical in_flow x
-  node_flat (toml.string text) canonical in_flow = refl
-  node_flat (toml.integer z) canonical in_flow = refl
-  node_flat (toml.decimal word) canonical in_flow = refl
-  node_flat (toml.infinity negative) canonical in_flow = refl
-  node_flat toml.not_a_number canonical in_flow = refl
-  node_flat (toml.boolean flag) canonical in_flow = refl
-  node_flat (toml.datetime date) canonical in_flow = refl
   node_flat (toml.array items) canonical in_flow =
       ap (λ (events : List Event). sequence_start (collection_in in_flow) ∷ (events ++ sequence_end ∷ [])) (items_flat items canonical in_flow no_nodes)
   node_flat (toml.table origin keys) canonical in_flow =
@@ -74,6 +62,7 @@ mutual
       ∷ (events ++ mapping_end ∷ []))) ++ sequence_end ∷ [])) (keys_flat last canonical in_flow no_pairs)
       ∙ ap (λ (events : List Event). sequence_start (collection_in in_flow) ∷ events)
       (last_table (mapping_start (collection_in in_flow)) (toml_items_events canonical in_flow done) (keys_events canonical in_flow last))
+  node_flat _ canonical in_flow = refl
 
   items_flat : (items : toml.Items) (canonical in_flow : Bool) (before : Nodes)
       → nodes_events (items_nodes items canonical in_flow before) ≡ nodes_events before ++ toml_items_events canonical in_flow items
@@ -94,49 +83,26 @@ mutual
       ∙ ap (λ (events : List Event). pairs_events before ++ (scalar (text_content (chars key)) ∷ (events ++ keys_events canonical in_flow keys)))
       (node_flat x canonical in_flow)
 
--- the one document of a table
+-- the root of a document
 abbrev pub root_of : toml.TomlNodes → toml.TomlNode
 root_of keys = toml.table Header keys
-
-abbrev pub toml_document : toml.TomlNodes → (canonical in_flow : Bool) → Document
-toml_document keys canonical in_flow =
-    record {
-      start = record { version = None; directives = []; implicit = true };
-      root = toml_node (root_of keys) canonical in_flow;
-      end_implicit = true;
-    }
-
-abbrev pub toml_stream : toml.TomlNodes → (canonical in_flow : Bool) → Stream
-toml_stream keys canonical in_flow = record { encoding = None; documents = documents_and no_documents (toml_document keys canonical in_flow) }
 
 abbrev pub all_events : toml.TomlNodes → (canonical in_flow : Bool) → List Event
 all_events keys canonical in_flow = opening ++ toml_events canonical in_flow (root_of keys) ++ closing
 
+abbrev pub toml_stream : toml.TomlNodes → (canonical in_flow : Bool) → Stream
+toml_stream keys canonical in_flow = stream_of (toml_node (root_of keys) canonical in_flow ∷ [])
+
 pub stream_flat : (keys : toml.TomlNodes) (canonical in_flow : Bool) → stream_events (toml_stream keys canonical in_flow) ≡ all_events keys canonical in_flow
 stream_flat keys canonical in_flow =
-    ap (λ (events : List Event). stream_start None ∷ plain_start ∷ ((events ++ document_end true ∷ []) ++ stream_end ∷ []))
-    (node_flat (root_of keys) canonical in_flow)
-    ∙ ap (λ (events : List Event). stream_start None ∷ plain_start ∷ events)
-    (append_assoc (toml_events canonical in_flow (root_of keys)) (document_end true ∷ []) (stream_end ∷ []))
+    one_flat (toml_node (root_of keys) canonical in_flow) []
+    ∙ ap (λ (events : List Event). opening ++ events ++ closing) (node_flat (root_of keys) canonical in_flow)
 
 -- ---- no tag has a flow indicator
 
 no_more : (x y : Bool) → y ≡ false → (x || y) ≡ x
 no_more true y h = refl
 no_more false y h = h
-
-word_unsigned : (tag : Text) → tag_has_flow_indicator (directives_in_force []) (Some tag) ≡ false → (canonical : Bool) (word : Text)
-    → node_has_flow_indicator canonical (directives_in_force []) (scalar_node (word_content canonical tag word)) ≡ false
-word_unsigned tag h true word = h
-word_unsigned tag h false word = refl
-
-text_unsigned : (text : Text) (canonical : Bool) → node_has_flow_indicator canonical (directives_in_force []) (scalar_node (text_content text)) ≡ false
-text_unsigned text true = refl
-text_unsigned text false = refl
-
-number_unsigned : (x : Bool) → tag_has_flow_indicator (directives_in_force []) (Some (if x then int_tag else float_tag)) ≡ false
-number_unsigned true = refl
-number_unsigned false = refl
 
 moment_unsigned : (moment : Moment) (canonical : Bool) (time : Option ClockTime)
     → node_has_flow_indicator canonical (directives_in_force []) (scalar_node (moment_content canonical (record { date = moment.date; time = time }))) ≡ false
@@ -149,10 +115,6 @@ date_unsigned : (date : Datetime) (canonical : Bool) (found : Option Moment)
     → node_has_flow_indicator canonical (directives_in_force []) (scalar_node (date_content canonical date found)) ≡ false
 date_unsigned date canonical None = text_unsigned (chars (datetime_text date)) canonical
 date_unsigned date canonical (Some moment) = moment_unsigned moment canonical moment.time
-
-collection_unsigned : (canonical in_flow : Bool) → tag_has_flow_indicator (directives_in_force []) (collection_tag canonical (collection_in in_flow)) ≡ false
-collection_unsigned true in_flow = refl
-collection_unsigned false in_flow = refl
 
 mutual
   pub value_unsigned : (x : toml.TomlNode) (canonical in_flow : Bool)

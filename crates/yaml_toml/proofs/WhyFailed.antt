@@ -1,34 +1,27 @@
 -- The reasons why a writer failed that was given the events of a document.
 use Rattle.yaml_toml.proofs.Common.{ℕ, ◌+◌, ◌≤◌, ◌<◌, Option, None, Some, Bool, true, List, [], ◌++◌, ◌∷◌, refl, ◌≡◌, append-nil, append_assoc, inl, inr, ap}
-use Rattle.yaml_toml.proofs.Common.{subst, sym, ◌∙◌, arith, cond, IfSome, Event, IsPrefix, Settings, State, WriterState, most_open, list_all, Stream}
-use Rattle.yaml_toml.proofs.Common.{is_sound, open_count, begins_collection, opening, closing, subst₂}
+use Rattle.yaml_toml.proofs.Common.{subst, sym, ◌∙◌, arith, cond, IfSome, Event, IsPrefix, Settings, State, WriterState, most_open, list_all, Stream, is_sound}
+use Rattle.yaml_toml.proofs.Common.{open_count, begins_collection, opening, closing, subst₂}
 use Rattle.std.proofs.lemmas.Option.{none-some, same_Some}
 use Rattle.yaml_base.proofs.Common.{stream_start, stream_events, sum_by-append, count_by, ends_collection}
-use Rattle.yaml_base.specs.declared.errors.{yaml_error_t.yaml_error_t, yaml_error_t.TheVariants.Memory, yaml_error_t.TheVariants.WriteError}
-use Rattle.yaml_base.specs.declared.errors.{yaml_error_t.TheVariants.TooDeep}
-use Rattle.yaml_emitter.proofs.Common.{IsRefusal, StandsAfter}
-use Rattle.yaml_emitter.proofs.standing.{StandingPromises.promises_refusal}
-use Rattle.yaml_writer.specs.Failing.{HasErrorSaid}
-use Rattle.yaml_writer.proofs.Common.{plain_start}
-use Rattle.yaml_writer.proofs.WhyFailed.{NeverPasses, fails_by, first_passes, overflowed_more, refused_deeper, refused_depth, unfinished_deeper}
-use Rattle.yaml_writer.proofs.WhyFailed.{unfinished_depth}
-use Rattle.yaml_writer.specs.Unfinished.{IsNoStream, IsUnfinished, PassesLimit}
-use Rattle.yaml_writer.specs.Writing.{IsNewWriter}
-use Rattle.toml_ordered.specs.Data as toml
-use Rattle.toml_ordered.specs.Grammar.{ordered_document}
-use Rattle.yaml_toml.specs.Depth.{NestsDeeper, NestsWithin, document_nesting}
-use Rattle.yaml_toml.specs.Events.{toml_events}
-use Rattle.yaml_toml.specs.Failing.{DocumentOverLimit, TomlFailsBy, GaveFirst, StopsInDocument}
-use Rattle.toml_ordered.specs.declared.fault.Fault.{Fault}
-use Rattle.toml_ordered.specs.declared.fault.Fault.TheVariants as fault
-use Rattle.yaml_toml.specs.Walk.{WroteToml, fault_error, toml_writers_error}
-use Rattle.yaml_toml.specs.declared.error.TomlError.{TomlError}
-use Rattle.yaml_toml.specs.declared.error.TomlError.TheVariants as errors
 use Rattle.yaml_toml.proofs.Accepting.{document_shallow, stream_shallow, stream_sound, toml_accepted}
 use Rattle.yaml_toml.proofs.TomlTrees.{all_events, root_of, stream_flat, toml_stream}
 use Rattle.yaml_toml.proofs.YamlOf.{new_events}
+use Rattle.yaml_writer.proofs.Common.{plain_start}
+use Rattle.yaml_writer.proofs.WhyFailed.{NeverPasses, fails_by, first_passes, overflowed_more, refused_deeper, refused_depth, unfinished_deeper}
+use Rattle.yaml_writer.proofs.WhyFailed.{unfinished_depth}
 use Rattle.yaml_writer.proofs.OpenLevels.{gave_none}
-use Rattle.yaml_writer.specs.WasGiven.{IsBare}
+use Rattle.yaml_writer.specs.{Failing.HasErrorSaid, Unfinished.IsNoStream, Unfinished.IsUnfinished, Unfinished.PassesLimit, Writing.IsNewWriter}
+use Rattle.yaml_writer.specs.{WasGiven.IsBare}
+use Rattle.yaml_toml.specs.{Depth.NestsDeeper, Depth.NestsWithin, Depth.document_nesting, Events.toml_events, Failing.DocumentOverLimit, Failing.TomlFailsBy}
+use Rattle.yaml_toml.specs.{Failing.GaveFirst, Failing.StopsInDocument, Walk.WroteToml, Walk.fault_error, Walk.toml_writers_error}
+use Rattle.yaml_toml.specs.{declared.error.TomlError.TomlError}
+use Rattle.yaml_base.specs.declared.errors.yaml_error_t.{yaml_error_t, TheVariants.Memory, TheVariants.WriteError, TheVariants.TooDeep}
+use Rattle.toml_ordered.specs.{Grammar.ordered_document, declared.fault.Fault.Fault}
+use Rattle.yaml_emitter.proofs.{Common.IsRefusal, Common.StandsAfter, standing.StandingPromises.promises_refusal}
+use Rattle.toml_ordered.specs.Data as toml
+use Rattle.toml_ordered.specs.declared.fault.Fault.TheVariants as fault
+use Rattle.yaml_toml.specs.declared.error.TomlError.TheVariants as errors
 
 -- the beginning of a stream opens nothing
 few_opened : (first : List Event) (depth : ℕ) → ((prefix rest : List Event) → prefix ++ rest ≡ first → open_count prefix ≤ depth) → (prefix rest : List Event)
@@ -149,9 +142,7 @@ gave_nothing depth due was bare = record {
 
 fault_memory : (found : Fault) → IfSome (fault_error found) (λ code. code ≡ Memory)
 fault_memory fault.Memory = refl
-fault_memory (fault.NotToml left) = tt
-fault_memory (fault.TooDeep left) = tt
-fault_memory (fault.DefinedAgain key first second) = tt
+fault_memory _ = tt
 
 module _ (depth : ℕ) (in_flow : Bool) (text : List ℕ) (was : WriterState) (error : TomlError) where
   -- no document was read
@@ -189,11 +180,8 @@ module _ (given : Settings) (in_flow : Bool) (depth : ℕ) (text : List ℕ) (fi
 
   pub text_failed : (error : TomlError) → StopsInDocument depth in_flow text first error now → HasErrorSaid first (toml_writers_error error) now
       → IfSome (toml_writers_error error) (TomlFailsBy given in_flow depth text)
-  text_failed (errors.NotToml position) stops sound = tt
-  text_failed (errors.TooDeepToRead position) stops sound = tt
-  text_failed (errors.DefinedAgain key first position) stops sound = tt
-  text_failed errors.TooDeep stops sound = tt
   text_failed (errors.Emitter code) stops sound = said code stops sound
+  text_failed _ stops sound = tt
 
   pub finish_failed : WroteToml in_flow text first now → NestsWithin depth text → (error : yaml_error_t) → IsUnfinished now.emitter error
       → TomlFailsBy given in_flow depth text error

@@ -1,5 +1,5 @@
 -- The events that a writer is given of a document, and the rest of it.
-use Rattle.std.specs.Prelude.{◌≡◌, ◌⊎◌, ℕ, ℤ, ◌<◌, ◌+◌, ◌^◌, Bool, Option, None, Some, Result, Ok, Err, List, [], ◌∷◌, ◌++◌, map, length, ◌≤◌, IfErr, OnOk}
+use Rattle.std.specs.Prelude.{◌≡◌, ℕ, ℤ, ◌<◌, ◌+◌, ◌^◌, Bool, Option, None, Some, Result, Ok, Err, List, [], ◌∷◌, ◌++◌, map, length, ◌≤◌, OnOk}
 use Rattle.std.specs.Int.Signed.{mag}
 use Rattle.toml_ordered.specs.Data.{TomlNode, integer, decimal, array, table, tables, Items, no_items, item, TomlNodes, no_nodes, node, items_view}
 use Rattle.toml_ordered.specs.Keys.{live_view}
@@ -11,11 +11,11 @@ use Rattle.toml_ordered.specs.declared.tree.Origin.TheVariants.{Header}
 use Rattle.yaml_base.specs.Event.{Event, Scalar as Content, scalar, sequence_end, mapping_start, mapping_end}
 use Rattle.yaml_base.specs.declared.errors.yaml_error_t.{yaml_error_t}
 use Rattle.yaml_base.specs.declared.errors.yaml_error_t.TheVariants.{Memory}
-use Rattle.yaml_pen.specs.Wrote.{Grows}
 use Rattle.yaml_base.specs.declared.kinds.CollectionKind.{CollectionKind}
 use Rattle.yaml_base.specs.declared.kinds.CollectionKind.TheVariants.{Mapping, Sequence}
 use Rattle.yaml_base.specs.Prefix.{IsPrefix}
-use Rattle.yaml_writer.specs.Failing.{FailedHaving, HasErrorSaid}
+use Rattle.yaml_writer.specs.Answering.{Answers, IsAnswerBy, KeptBy}
+use Rattle.yaml_writer.specs.Failing.{HasErrorSaid}
 use Rattle.yaml_writer.specs.WasGiven.{GaveEvents, IsBare, WasGiven, WroteEvent}
 use Rattle.yaml_writer.specs.Contents.{collection_in}
 use Rattle.yaml_writer.specs.NumberParts.{IsNumber, number_in}
@@ -155,21 +155,6 @@ pub record StepsStop (most : ℕ) (was : WriterState) (due : List Event) (before
 
 -- ---- the results of calls
 
--- the emitter has no error after a success, and after an error the one that is returned, unless an allocation of the call's own failed
-abbrev pub StaysSoundAfterToml : WriterState → Result (Unit {0}) yaml_error_t → WriterState → Type 0
-StaysSoundAfterToml was (Ok done) now = now.emitter.error ≡ None
-StaysSoundAfterToml was (Err error) now = HasErrorSaid was (Some error) now
-
--- An allocation failed, and nothing changed; or this event was given to a writer that can be used further, and whose error this is.
-abbrev pub FailsGiving : WriterState → Event → yaml_error_t → WriterState → Type 0
-FailsGiving was event error now = ((error ≡ Memory) × (now ≡ was)) ⊎ FailedHaving was (event ∷ []) error now
-
--- and its text and its output only grow; after an error this event was given, or nothing changed
-pub record Answers (was : WriterState) (event : Event) (result : Result (Unit {0}) yaml_error_t) (now : WriterState) : Type 0 where
-  pub grows : Grows was.emitter.page now.emitter.page
-  pub sound : StaysSoundAfterToml was result now
-  pub failed : IfErr result (λ error. FailsGiving was event error now)
-
 -- the event of a scalar was given, or there was an error
 pub record GivesScalar (was : WriterState) (content : Content) (result : Result (Unit {0}) yaml_error_t) (now : WriterState) : Type 0 where
   pub written : OnOk result (WroteEvent was (scalar content) now)
@@ -185,17 +170,11 @@ IsOwnMemory stopped = stopped ≡ stop.Failed Memory
 
 -- the writer's answer
 abbrev pub IsStopOf : Result (Unit {0}) yaml_error_t → Result (Unit {0}) Stop → Type 0
-IsStopOf (Ok done) (Ok same) = Unit {0}
-IsStopOf (Err error) (Err stopped) = stopped ≡ stop.Failed error
-IsStopOf _ _ = ⊥
+IsStopOf = IsAnswerBy (λ (error : yaml_error_t). stop.Failed error)
 
-abbrev pub SoundAfterStop : WriterState → Result (Unit {0}) Stop → WriterState → Type 0
-SoundAfterStop was (Ok done) now = now.emitter.error ≡ None
-SoundAfterStop was (Err stopped) now = HasErrorSaid was (stop_error stopped) now
-
-pub record KeptAfterStop (was : WriterState) (result : Result (Unit {0}) Stop) (now : WriterState) : Type 0 where
-  pub grows : Grows was.emitter.page now.emitter.page
-  pub sound : SoundAfterStop was result now
+-- The emitter has no error after a success, and after an error the one that is returned, if any; its text and its output only grow.
+abbrev pub KeptAfterStop : WriterState → Result (Unit {0}) Stop → WriterState → Type 0
+KeptAfterStop = KeptBy stop_error
 
 abbrev pub toml_writers_error : TomlError → Option yaml_error_t
 toml_writers_error (errors.Emitter error) = Some error
@@ -217,9 +196,9 @@ pub record WroteToml (in_flow : Bool) (text : List ℕ) (was now : WriterState) 
 
 -- an error that says that the text is no document of TOML
 abbrev pub DeniesToml : TomlError → Type 0
-DeniesToml (errors.NotToml position) = Unit {0}
+DeniesToml (errors.NotToml position why) = Unit {0}
 DeniesToml (errors.TooDeepToRead position) = Unit {0}
-DeniesToml (errors.DefinedAgain key first position) = Unit {0}
+DeniesToml (errors.DefinedAgain key name first position) = Unit {0}
 DeniesToml _ = ⊥
 
 -- the writer's error that a fault is

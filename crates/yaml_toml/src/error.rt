@@ -1,21 +1,25 @@
 //! The reasons why a text isn't written as YAML.
 use thiserror::Error;
+use toml_ordered::SyntaxError;
 use yaml_base::{Position, Quoted};
 use yaml_writer::yaml_error_t;
 
 /// The reason why a text isn't written as YAML.
 #[derive(Debug, Drop, Error)]
 pub enum TomlError {
-    /// The text is no TOML: it can't go on here, and it is neither `DefinedAgain` nor `TooDeepToRead`.
-    #[error("{position}: not TOML")]
+    /// The text is no TOML: it can't go on here, and it is neither `DefinedAgain` nor `TooDeepToRead`. `why` tells what is wrong here.
+    #[error("{position}: {why}")]
     NotToml {
         position: Position,
+        why: SyntaxError,
     },
     /// The expression that begins here defines a key, or something in it, that takes no more. The expression that defined it first begins
-    /// at the position `first`. The message has the key in quotes, escaped, and of more than 80 characters only both ends.
-    #[error("{position}: {name} is defined at {first}, and takes no more", name = Quoted(.key.as_str()))]
+    /// at the position `first`. `name` is the whole dotted key, up to the key that takes no more. The message has it in quotes, escaped, and
+    /// of more than 80 characters only both ends.
+    #[error("{position}: {quoted} is defined at {first}, and takes no more", quoted = Quoted(.name.as_str()))]
     DefinedAgain {
         key: String,
+        name: String,
         first: Position,
         position: Position,
     },

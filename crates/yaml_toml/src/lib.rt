@@ -10,6 +10,7 @@ mod walk;
 
 pub use error::TomlError;
 pub use texts::{write_toml, yaml_from_toml};
+pub use toml_ordered::SyntaxError;
 pub use yaml_base::Position;
 pub use yaml_writer::{
     Quotes, Settings, ValueSettings, Writer, YAML_ANY_BREAK, YAML_ANY_ENCODING, YAML_CR_BREAK,

@@ -1,7 +1,7 @@
 //! TOML documents as YAML.
 ghost use Rattle.std.specs.Prelude.{◌≡◌, ◌-◌, IfSome, length};
 ghost use Rattle.toml_ordered.specs.Nesting.{HasReason};
-ghost use Rattle.toml_ordered.specs.Places.{place_left};
+ghost use Rattle.toml_ordered.specs.Places.{HoldsHere, place_left};
 ghost use Rattle.yaml_base.specs.Positions.{IsPositionOf};
 ghost use Rattle.yaml_writer.specs.WasGiven.{IsBare};
 ghost use Rattle.yaml_toml.specs.Places.{HasTomlReason, IsBeforeLeft};
@@ -26,18 +26,25 @@ fn position_before(text: &str, left: usize) -> Position
 fn error_of(text: &str, fault: Fault) -> TomlError
     ensures error { toml_writers_error result ≡ fault_error fault }
     ensures place { IfSome (place_left fault) (λ left. IsBeforeLeft text.now left result) }
-    ensures reason { HasReason text.now fault → HasTomlReason text.now result }
+    ensures reason { HasReason text.now fault → HoldsHere text.now fault → HasTomlReason text.now result }
 {
     match fault {
         Fault::Memory => TomlError::Emitter(yaml_error_t::Memory),
-        Fault::NotToml { left } => TomlError::NotToml {
+        Fault::NotToml { left, why } => TomlError::NotToml {
             position: position_before(text, left),
+            why,
         },
         Fault::TooDeep { left } => TomlError::TooDeepToRead {
             position: position_before(text, left),
         },
-        Fault::DefinedAgain { key, first, second } => TomlError::DefinedAgain {
+        Fault::DefinedAgain {
             key,
+            name,
+            first,
+            second,
+        } => TomlError::DefinedAgain {
+            key,
+            name,
             first: position_before(text, first),
             position: position_before(text, second),
         },

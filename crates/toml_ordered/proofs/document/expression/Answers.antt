@@ -1,11 +1,7 @@
 use Rattle.std.proofs.Common.{arith, inr}
-use Rattle.toml_parser.specs.Reading.{key_view}
-use Rattle.toml_parser.specs.Strings.{recursion_limit}
-use Rattle.toml_ordered.proofs.Conflicts.{reason_in}
-use Rattle.toml_ordered.proofs.Unblamed.{valued_neither}
-use Rattle.toml_ordered.proofs.Heads.{pair_bad, pair_is, pair_keyless, pair_nameless}
-use Rattle.toml_ordered.specs.Data.{node_view}
-use Rattle.toml_ordered.specs.Nesting.{ClashesIn, ExpressionNestsPast, NestsPast, PairClashes}
+use Rattle.toml_ordered.proofs.{Conflicts.reason_in, Unblamed.valued_neither, Heads.pair_bad, Heads.pair_is, Heads.pair_keyless, Heads.pair_nameless}
+use Rattle.toml_parser.specs.{Reading.key_view, Strings.recursion_limit}
+use Rattle.toml_ordered.specs.{Data.node_view, Nesting.ClashesIn, Nesting.ExpressionNestsPast, Nesting.NestsPast, Nesting.PairClashes}
 use Rattle.toml_ordered.proofs.document.expression.Goals as goal
 
 pub returns-in-Err : goal.returns-in-Err

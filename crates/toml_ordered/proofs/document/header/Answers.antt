@@ -41,7 +41,7 @@ returns-then-first-eq93 c =
 pub returns-else-first-eq93 : goal.returns-else-first-eq93
 returns-else-first-eq93 c =
     let brackets = c.bracket_count-brackets in
-    ends_text (length c.in-Ok.read.1.now) c.not_toml.result _ _ _ c.not_toml.ensures
+    ends_text (length c.in-Ok.read.1.now) _ c.not_toml.result _ _ _ c.not_toml.ensures
     (header_open c.args.s.now c.requires brackets.result brackets.ensures c.skip.result.now c.skip.ensures.rest c.skip_ws.result.now c.skip_ws.ensures.rest
     (key_view c.in-Ok.read.0) c.in-Ok.read.1.now c.in-Ok.ensures.0 c.if-brackets-eq1.false c.first.result c.first.ensures c.if-first-eq93.false)
     (header_neither c.args.s.now c.requires brackets.result brackets.ensures c.skip.result.now c.skip.ensures.rest c.skip_ws.result.now

@@ -1,12 +1,13 @@
-use Rattle.std.proofs.Common.{◌≡◌, ◌==◌, suc, length, false, inl, inr, rules, arith, ap}
+use Rattle.std.proofs.Common.{◌≡◌, ◌==◌, suc, length, false, inl, inr, rules, arith, ap, subst, sym}
 use Rattle.std.proofs.Common.{◌∙◌}
 use Rattle.std.proofs.lemmas.Grind.{common_steps}
 use Rattle.toml_parser.specs.Lexical.{skip_blank}
 use Rattle.toml_ordered.proofs.Conflicts.{expressions_conflict, knows_more, knows_none, reads_more, value_reason}
-use Rattle.toml_ordered.proofs.Stopping.{placed, placed_within}
+use Rattle.toml_ordered.proofs.Endings.{ends_then, line_left, skip_blank_ends, unmarked_ends}
+use Rattle.toml_ordered.proofs.Stopping.{holds_within, placed, placed_within, settled_memory}
 use Rattle.toml_ordered.proofs.Turns.{document_ends, document_goes_on, document_refuses, document_stops}
 use Rattle.toml_ordered.specs.Firsts.{keys_firsts}
-use Rattle.toml_ordered.specs.Places.{moved_to, moved_within}
+use Rattle.toml_ordered.specs.Places.{EndsWith, moved_to}
 use Rattle.toml_ordered.specs.Reading.{document_view}
 use Rattle.toml_ordered.proofs.document.read_document.Goals as goal
 
@@ -21,6 +22,7 @@ lines-init c = (
   },
   knows_none c.args.text.now c.without_mark-rest.result.now _ (ap keys_firsts c.new.ensures.keys),
   (0, rw (c.without_mark-rest.ensures.rest, c.new.ensures.view, c.new-2.ensures.items)),
+  subst (EndsWith c.args.text.now) (sym c.without_mark-rest.ensures.rest) (unmarked_ends c.args.text.now),
 )
 
 pub returns-then-is_empty-clause-value : goal.returns-then-is_empty-clause-value
@@ -35,12 +37,12 @@ returns-in-Err-clause-value c refused =
     document_stops c.args.text.now (document_view c.lines.read) c.lines.rest.now c.lines.invariant.2 other
     (rw start_is at
     (c.in-Err.ensures.0
-    (λ memory. refused (c.here_or_behind.ensures ∙ ap (moved_within (length c.skip_blank-start.result.now)) memory))))
+    (λ memory. refused (settled_memory c.skip_blank-start.result.now c.in-Err.fault c.settled.result c.settled.ensures memory))))
 
 pub returns-in-Err-clause-placed : goal.returns-in-Err-clause-placed
 returns-in-Err-clause-placed c =
     let start_is = c.skip_blank-start.ensures.rest in
-    placed_within c.args.text.now (length c.skip_blank-start.result.now) c.in-Err.fault c.here_or_behind.result c.here_or_behind.ensures
+    placed_within c.args.text.now c.skip_blank-start.result.now c.in-Err.fault c.settled.result c.settled.ensures
     λ real left within. record {
       doc = document_view c.lines.read;
       rest = c.lines.rest.now;
@@ -87,14 +89,23 @@ lines-preserved c =
             here = ap length start_is;
           }) before shorter c.in_default.ensures.1,
       reads_more c.args.text.now (document_view c.lines.read) _ c.lines.rest.now _ _ c.lines.invariant.4 read c.in_default.ensures.0,
+      line_left c.args.text.now c.lines.rest.now _ c.in-Ok.found.1.now c.lines.invariant.5 read,
     )
+
+pub returns-in-Err-clause-holds : goal.returns-in-Err-clause-holds
+returns-in-Err-clause-holds c =
+    let start_is = c.skip_blank-start.ensures.rest in
+    let start = c.skip_blank-start.result.now in
+    holds_within c.args.text.now start c.in-Err.fault c.settled.result c.settled.ensures
+    (subst (EndsWith c.args.text.now) (sym start_is)
+    (ends_then c.args.text.now c.lines.rest.now (skip_blank c.lines.rest.now) c.lines.invariant.5 (skip_blank_ends c.lines.rest.now)))
 
 pub returns-in-Err-clause-reason : goal.returns-in-Err-clause-reason
 returns-in-Err-clause-reason c =
     let start_is = c.skip_blank-start.ensures.rest in
-    value_reason c.args.text.now c.lines.rest.now (document_view c.lines.read) c.in-Err.fault c.here_or_behind.result
+    value_reason c.args.text.now c.lines.rest.now (document_view c.lines.read) c.in-Err.fault c.settled.result
     c.lines.invariant.4 (rw start_is at c.in-Err.ensures.0)
-    (rw start_is at c.in-Err.ensures.1) (rw start_is at c.here_or_behind.ensures)
+    (rw start_is at c.in-Err.ensures.1) (rw start_is at c.settled.ensures)
 
 pub returns-in-Err-define-clause-reason : goal.returns-in-Err-define-clause-reason
 returns-in-Err-define-clause-reason c =

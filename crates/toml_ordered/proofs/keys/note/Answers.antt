@@ -1,9 +1,7 @@
 use Rattle.std.proofs.Common.{string_bytes, subst, ◌≡◌, ℕ, List, Some, bytes_eq, arith}
-use Rattle.std.proofs.lemmas.Grind.{common_steps}
-use Rattle.std.proofs.lemmas.Map.Text.{btree_map_updates_text}
-use Rattle.std.specs.BTreeMap.{get_by_text}
-use Rattle.std.specs.Map.{update}
 use Rattle.toml_ordered.proofs.KeyPlaces.{noted_indexed}
+use Rattle.std.proofs.lemmas.{Grind.common_steps, Map.Text.btree_map_updates_text}
+use Rattle.std.specs.{BTreeMap.get_by_text, Map.update}
 use Rattle.toml_ordered.proofs.keys.note.Goals as goal
 
 pub returns-clause-noted : goal.returns-clause-noted

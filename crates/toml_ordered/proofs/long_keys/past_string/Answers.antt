@@ -1,17 +1,6 @@
-use Rattle.std.proofs.Common.{◌≡◌, slice_index, sym, ◌∙◌}
-use Rattle.toml_ordered.proofs.Heads.{no_token}
-use Rattle.toml_ordered.proofs.LongKeys.{empty_passed, quote_ascii, quotes_differ}
+use Rattle.std.proofs.Common.{◌∙◌}
+use Rattle.toml_ordered.proofs.{Heads.no_token, LongKeys.empty_passed, LongKeys.quotes_differ}
 use Rattle.toml_ordered.proofs.long_keys.past_string.Goals as goal
-
-pub skip-requires-clause-there : goal.skip-requires-clause-there
-skip-requires-clause-there c =
-    let here : slice_index c.args.s.now 1 ≡ slice_index c.args.s.now 0 = sym c.byte_at.ensures ∙ c.if-byte_at-byte.true ∙ c.first-byte.ensures in
-    rw here (quote_ascii c.args.s.now c.requires).0
-
-pub skip-requires-clause-ascii : goal.skip-requires-clause-ascii
-skip-requires-clause-ascii c =
-    let here : slice_index c.args.s.now 1 ≡ slice_index c.args.s.now 0 = sym c.byte_at.ensures ∙ c.if-byte_at-byte.true ∙ c.first-byte.ensures in
-    rw here (quote_ascii c.args.s.now c.requires).1
 
 pub returns-then-byte_at-byte : goal.returns-then-byte_at-byte
 returns-then-byte_at-byte c = (

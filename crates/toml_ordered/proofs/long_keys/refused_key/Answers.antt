@@ -1,11 +1,8 @@
 use Rattle.std.proofs.Common.{◌≡◌, ℕ, suc, ◌+◌, List, drop, rules, arith, ap, subst, ◌∙◌}
 use Rattle.toml_parser.specs.Lexical.{first, skip_ws}
 use Rattle.toml_ordered.proofs.Conflicts.{other_than}
-use Rattle.toml_ordered.proofs.LongKeys.{UpToPart, key_long, key_short, no_parts, part_more, part_none, tells_long, tells_short}
+use Rattle.toml_ordered.proofs.LongKeys.{UpToPart, key_long, key_short, part_more, part_none, tells_long, tells_short}
 use Rattle.toml_ordered.proofs.long_keys.refused_key.Goals as goal
-
-pub parts-init : goal.parts-init
-parts-init c = (search rules, no_parts c.args.s.now, omega arith)
 
 pub returns-in-Err : goal.returns-in-Err
 returns-in-Err c =
@@ -18,7 +15,7 @@ returns-then-dots-lt-RECURSION_LIMIT c =
     let s = c.args.s.now in
     let l = c.parts in
     let (part, read) = c.in-Ok.ensures.0 in
-    tells_short s c.not_toml.result _ c.not_toml.ensures
+    tells_short s c.not_toml.result _ _ c.not_toml.ensures
     (key_short s l.dots l.rest.now l.invariant.1 part c.in-Ok.after.now read c.in-Ok.ensures.1 c.first.result
     (c.first.ensures ∙ ap (λ (t : List ℕ). first t) c.skip_ws-next.ensures.rest) c.if-first-ne46.true c.if-dots-lt-RECURSION_LIMIT.true)
 

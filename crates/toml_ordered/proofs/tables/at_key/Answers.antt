@@ -4,12 +4,8 @@ use Rattle.std.specs.Vec.{with_item}
 use Rattle.toml_ordered.proofs.Defining.{defines}
 use Rattle.toml_ordered.proofs.KeyPlaces.{found_here, written_here}
 use Rattle.toml_ordered.proofs.FirstKeys.{adds_along, adds_missing, adds_none, adds_nothing, again_along, again_memory, with_refusal}
-use Rattle.toml_ordered.specs.Firsts.{IsShutAt}
-use Rattle.toml_ordered.specs.Tables.{redefine}
 use Rattle.toml_ordered.proofs.Turns.{at_key_there, at_key_new}
-use Rattle.toml_ordered.specs.Data.{node_view}
-use Rattle.toml_ordered.specs.Keys.{table_view}
-use Rattle.toml_ordered.specs.Reading.{definition_view}
+use Rattle.toml_ordered.specs.{Firsts.IsShutAt, Tables.redefine, Data.node_view, Keys.table_view, Reading.definition_view}
 use Rattle.toml_ordered.specs.declared.tree.Table.{Table as CodeTable}
 use Rattle.toml_ordered.proofs.tables.at_key.Goals as goal
 
@@ -50,6 +46,3 @@ returns-in-Ok c =
     (λ _ last. adds_missing k [] left (table_view table) table.keys.items _ (c.args.entry.key, c.in-Ok.node, left) refl refl none
     (adds_none [] left _ _ node.firsts) last) c.append.ensures.last)
     (IfErr-weaker c.append.result _ _ (again_memory (k ∷ []) left _ _) c.append.ensures.failed)
-
-pub returns-in-Err : goal.returns-in-Err
-returns-in-Err c = (λ real. absurd (real refl), tt)

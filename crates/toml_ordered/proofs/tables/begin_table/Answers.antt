@@ -1,8 +1,6 @@
 use Rattle.std.proofs.Common.{ap, ◌∙◌}
 use Rattle.toml_ordered.proofs.Trees.{items_view-push, node_view-Table}
-use Rattle.toml_ordered.specs.Data.{table, push_item, items_view}
-use Rattle.toml_ordered.specs.Keys.{table_view}
-use Rattle.toml_ordered.specs.declared.tree.Origin.TheVariants.{Closed}
+use Rattle.toml_ordered.specs.{Data.table, Data.push_item, Data.items_view, Keys.table_view, declared.tree.Origin.TheVariants.Closed}
 use Rattle.toml_ordered.specs.declared.tree.Table.{Table as CodeTable}
 use Rattle.toml_ordered.proofs.tables.begin_table.Goals as goal
 

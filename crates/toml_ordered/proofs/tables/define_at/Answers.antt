@@ -1,7 +1,7 @@
 use Rattle.std.proofs.Common.{string_bytes, ◌∙◌}
+use Rattle.toml_ordered.proofs.FirstKeys.{refused_reworded}
 use Rattle.toml_ordered.proofs.Turns.{along_end}
-use Rattle.toml_ordered.specs.Reading.{definition_view}
-use Rattle.toml_ordered.specs.Tables.{Edit, at_key}
+use Rattle.toml_ordered.specs.{Reading.definition_view, Tables.Edit, Tables.at_key}
 use Rattle.toml_ordered.proofs.tables.define_at.Goals as goal
 
 pub returns-in-Err : goal.returns-in-Err
@@ -16,7 +16,8 @@ pub returns-in-Err-at_key : goal.returns-in-Err-at_key
 returns-in-Err-at_key c =
     let edit : Edit = at_key (string_bytes c.args.entry.key) (definition_view c.args.entry.what) in
     let same = c.replace-outermost.ensures.value in
-    let refused = c.in-Err-at_key.ensures in (
+    let refused = c.in-Err-at_key.ensures in
+    refused_reworded _ _ c.args.entry.left _ _ c.in-Err-at_key.fault c.named.result c.named.ensures (
       λ real. rw same at (c.in-Ok.ensures.refused edit (along_end edit _ ∙ refused.0 real)),
       rw same at (c.in-Ok.ensures.again (string_bytes c.args.entry.key) (definition_view c.args.entry.what) c.in-Err-at_key.fault refused.1),
     )

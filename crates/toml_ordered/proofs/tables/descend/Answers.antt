@@ -1,5 +1,5 @@
-use Rattle.std.proofs.Common.{ℕ, List, refl, reverse, sym, subst}
-use Rattle.toml_ordered.proofs.Passing.{passes_on, refused_on, refuses_memory}
+use Rattle.std.proofs.Common.{ℕ, List, reverse, sym, subst}
+use Rattle.toml_ordered.proofs.Passing.{passes_on, refused_on, refuses_reworded}
 use Rattle.toml_ordered.specs.Passing.{AreFilled, PassesSteps}
 use Rattle.toml_ordered.specs.Reading.{steps_of}
 use Rattle.toml_ordered.specs.declared.route.Way.{Way}
@@ -8,9 +8,10 @@ use Rattle.toml_ordered.proofs.tables.descend.Goals as goal
 
 pub returns-in-Err : goal.returns-in-Err
 returns-in-Err c =
-    refused_on (steps_of c.args.route) _ c.args.left c.args.outermost c.steps.here (AreFilled (reverse c.steps.passed.items)) c.in-Err.fault
+    refuses_reworded (steps_of c.args.route) c.args.left c.args.outermost c.in-Err.fault c.named.result c.named.ensures
+    (refused_on (steps_of c.args.route) _ c.args.left c.args.outermost c.steps.here (AreFilled (reverse c.steps.passed.items)) c.in-Err.fault
     (subst (λ (steps : List (Way × List ℕ)). PassesSteps (steps_of c.args.route) steps c.args.left c.args.outermost c.steps.here
-    (AreFilled (reverse c.steps.passed.items))) c.in-Some.ensures c.steps.invariant) (c.in-Err.ensures (steps_of c.in-Some.rest))
+    (AreFilled (reverse c.steps.passed.items))) c.in-Some.ensures c.steps.invariant) (c.in-Err.ensures (steps_of c.in-Some.rest)))
 
 pub steps-preserved : goal.steps-preserved
 steps-preserved c =
@@ -20,6 +21,3 @@ steps-preserved c =
     c.in-Ok.entered.0
     (subst (λ (steps : List (Way × List ℕ)). PassesSteps (steps_of c.args.route) steps c.args.left c.args.outermost c.steps.here
     (AreFilled (reverse c.steps.passed.items))) c.in-Some.ensures c.steps.invariant) (c.in-Ok.ensures (steps_of c.in-Some.rest)))
-
-pub returns-in-Err-push : goal.returns-in-Err-push
-returns-in-Err-push c = refuses_memory _ c.args.left c.args.outermost _ refl

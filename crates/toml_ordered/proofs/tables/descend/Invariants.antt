@@ -1,6 +1,5 @@
 use Rattle.std.proofs.Common.{length, reverse}
-use Rattle.toml_ordered.specs.Passing.{AreFilled, PassesSteps}
-use Rattle.toml_ordered.specs.Reading.{steps_of}
+use Rattle.toml_ordered.specs.{Passing.AreFilled, Passing.PassesSteps, Reading.steps_of}
 use Rattle.toml_ordered.proofs.tables.descend.Given as goal
 
 abbrev pub invariant-steps : goal.invariant-steps

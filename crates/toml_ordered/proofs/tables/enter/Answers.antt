@@ -1,9 +1,8 @@
 use Rattle.std.proofs.Common.{◌≡◌, ◌∷◌, ℕ, List, string_bytes, refl, sym, subst, ◌∙◌, arith}
 use Rattle.std.proofs.lemmas.Grind.{common_steps}
 use Rattle.std.specs.Vec.{with_item}
-use Rattle.toml_ordered.proofs.Passing.{passes_there, passes_new, refuses_memory, refuses_there}
-use Rattle.toml_ordered.specs.Passing.{Fills, PassesSteps}
-use Rattle.toml_ordered.specs.declared.tree.Node.{NotANumber}
+use Rattle.toml_ordered.proofs.Passing.{passes_there, passes_new, refuses_there}
+use Rattle.toml_ordered.specs.{Passing.Fills, Passing.PassesSteps, declared.tree.Node.NotANumber}
 use Rattle.toml_ordered.specs.declared.tree.Table.{Table as CodeTable}
 use Rattle.toml_ordered.specs.declared.tree.holder.Holder.TheVariants as holder
 use Rattle.toml_ordered.proofs.tables.enter.Goals as goal
@@ -20,12 +19,6 @@ returns-in-Err c rest =
     refuses_there c.args.way (string_bytes c.args.key.now) rest c.args.left c.in-Some.at c.args.outer c.index_mut.result.now
     (rw c.as_str.ensures.value at c.in-Some.ensures.found) (sym c.index_mut.ensures.value) c.in-Err.fault c.in-Err.ensures.taken.0
     c.in-Err.ensures.taken.1
-
-pub returns-in_default : goal.returns-in_default
-returns-in_default c rest = refuses_memory _ c.args.left c.args.outer _ refl
-
-pub returns-in-Err-append : goal.returns-in-Err-append
-returns-in-Err-append c rest = refuses_memory _ c.args.left c.args.outer c.in-Err-append.fault c.in-Err-append.ensures.failed
 
 pub returns-in_default-append : goal.returns-in_default-append
 returns-in_default-append c rest =

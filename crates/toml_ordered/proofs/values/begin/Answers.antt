@@ -1,17 +1,10 @@
 use Rattle.std.proofs.Common.{◌≡◌, suc, ◌==◌, ◌-◌, true, false, ℕ, sym, subst, ap, ◌∙◌, arith}
-use Rattle.std.proofs.lemmas.Bool.{ne_eqb}
-use Rattle.std.proofs.lemmas.Grind.{common_steps}
 use Rattle.std.specs.Prelude.{◌⊎◌}
 use Rattle.toml_parser.specs.Lexical.{first}
-use Rattle.toml_ordered.proofs.Around.{array_begins, braces_begin, pair_begins}
-use Rattle.toml_ordered.proofs.Blaming.{atom_unblamed, neither}
-use Rattle.toml_ordered.proofs.Conflicts.{other_than}
-use Rattle.toml_ordered.proofs.Depths.{nests_here}
-use Rattle.toml_ordered.proofs.Heads.{val_opens}
-use Rattle.toml_ordered.proofs.Turns.{val_atom}
-use Rattle.toml_ordered.specs.Data.{items_view}
-use Rattle.toml_ordered.specs.Inside.{IsFoundHere}
-use Rattle.toml_ordered.specs.Nesting.{ClashesIn}
+use Rattle.toml_ordered.proofs.{Around.array_begins, Around.braces_begin, Around.pair_begins, Blaming.atom_unblamed, Blaming.neither, Conflicts.other_than}
+use Rattle.toml_ordered.proofs.{Depths.nests_here, Heads.val_opens, Turns.val_atom}
+use Rattle.toml_ordered.specs.{Data.items_view, Inside.IsFoundHere, Nesting.ClashesIn}
+use Rattle.std.proofs.lemmas.{Bool.ne_eqb, Grind.common_steps}
 use Rattle.toml_ordered.proofs.values.begin.Goals as goal
 
 pub returns-in-Ok : goal.returns-in-Ok

@@ -1,8 +1,5 @@
-use Rattle.std.proofs.Common.{refl, arith, ◌∙◌}
-use Rattle.toml_ordered.proofs.Around.{array_ends, inside_ends}
-use Rattle.toml_ordered.proofs.Depths.{ends_within}
-use Rattle.toml_ordered.proofs.Heads.{closes, closes_not}
-use Rattle.toml_ordered.proofs.Trees.{node_view-Array}
+use Rattle.std.proofs.Common.{arith, ◌∙◌}
+use Rattle.toml_ordered.proofs.{Around.array_ends, Around.inside_ends, Depths.ends_within, Heads.closes, Trees.node_view-Array}
 use Rattle.toml_ordered.proofs.values.next_item.Goals as goal
 
 pub returns-then-first-eq93 : goal.returns-then-first-eq93
@@ -17,10 +14,3 @@ returns-then-first-eq93 c =
           (array_ends depth text _ s known closing ∙ rw (c.skip.ensures.rest, blank, node_view-Array c.args.items), omega arith)),
       omega (arith, before, shorter),
     )
-
-pub returns-else-first-eq93 : goal.returns-else-first-eq93
-returns-else-first-eq93 c =
-    let s = c.args.s.now in
-    let blank = c.skip_blank-start.ensures.rest in
-    let other = closes_not 93 s c.skip_blank-start.result.now blank c.first.result c.first.ensures c.if-first-eq93.false in
-    ((λ depth text known. (depth, refl, (s, known, other, blank))), c.skip_blank-start.ensures.within)

@@ -1,9 +1,10 @@
-use Rattle.std.proofs.Common.{ℕ, List, refl, ap, subst, length, ◌∙◌, arith}
+use Rattle.std.proofs.Common.{ℕ, suc, List, subst, ◌∙◌, arith}
 use Rattle.toml_ordered.proofs.Around.{braces_end, braces_keyless, braces_nameless, inside_ends}
+use Rattle.toml_ordered.proofs.Conflicts.{reworded}
 use Rattle.toml_ordered.proofs.Depths.{ends_within}
 use Rattle.toml_ordered.proofs.Heads.{closes, closes_not}
 use Rattle.toml_ordered.proofs.Trees.{node_view-Table}
-use Rattle.toml_ordered.specs.Nesting.{KeyTells}
+use Rattle.toml_ordered.specs.Nesting.{ClashesIn, KeyTells, NestsPast}
 use Rattle.toml_ordered.specs.declared.tree.Origin.TheVariants.{Closed}
 use Rattle.toml_ordered.proofs.values.next_pair.Goals as goal
 
@@ -23,22 +24,13 @@ returns-then-first-eq125 c =
       omega (arith, before, shorter),
     )
 
-pub returns-in-Ok : goal.returns-in-Ok
-returns-in-Ok c =
-    let s = c.args.s.now in
-    let blank = c.skip_blank-start.ensures.rest in
-    let before = c.skip_blank-start.ensures.within in
-    let shorter = c.in-Ok.ensures.1 in
-    let other = closes_not 125 s c.skip_blank-start.result.now blank c.first.result c.first.ensures c.if-first-eq125.false in (
-      (λ depth text known. (depth, refl, (s, known, other, rw blank at c.in-Ok.ensures.0, ap length blank))),
-      omega (arith, before, shorter),
-    )
-
 pub returns-in-Err : goal.returns-in-Err
 returns-in-Err c depth text known =
     let s = c.args.s.now in
     let blank = c.skip_blank-start.ensures.rest in
-    let other = closes_not 125 s c.skip_blank-start.result.now blank c.first.result c.first.ensures c.if-first-eq125.false in (
+    let other = closes_not 125 s c.skip_blank-start.result.now blank c.first.result c.first.ensures c.if-first-eq125.false in
+    reworded _ (λ key one two. ClashesIn (suc depth) key one two text) (λ left. NestsPast (suc depth) left text) c.in-Err.fault c.in_braces.result
+    c.in_braces.ensures (
       (λ real. braces_nameless depth text c.args.table s known other (rw blank at (c.in-Err.ensures.0 real))),
       braces_keyless depth text c.args.table s known c.in-Err.fault (λ real. rw blank at (c.in-Err.ensures.0 real))
           (subst (λ (t : List ℕ). KeyTells t c.in-Err.fault) blank c.in-Err.ensures.1),

@@ -18,8 +18,14 @@ returns-then-next-closing c = (
   c.skip_blank-rest.ensures.within,
 )
 
-pub returns-else-next-closing : goal.returns-else-next-closing
-returns-else-next-closing c =
-    no_text (length c.skip_blank-rest.result.now) c.not_toml.result _ c.not_toml.ensures
+pub returns-then-closing-eq93 : goal.returns-then-closing-eq93
+returns-then-closing-eq93 c =
+    no_text (length c.skip_blank-rest.result.now) _ c.not_toml.result _ c.not_toml.ensures
+    (element_unended c.args.closing c.args.s.now c.skip_blank-rest.result.now c.skip_blank-rest.ensures.rest c.first-next.result c.first-next.ensures
+    c.if-next-eq44.false c.if-next-closing.false)
+
+pub returns-else-closing-eq93 : goal.returns-else-closing-eq93
+returns-else-closing-eq93 c =
+    no_text (length c.skip_blank-rest.result.now) _ c.not_toml-else-closing-eq93.result _ c.not_toml-else-closing-eq93.ensures
     (element_unended c.args.closing c.args.s.now c.skip_blank-rest.result.now c.skip_blank-rest.ensures.rest c.first-next.result c.first-next.ensures
     c.if-next-eq44.false c.if-next-closing.false)

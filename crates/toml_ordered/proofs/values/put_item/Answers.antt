@@ -1,14 +1,9 @@
-use Rattle.std.proofs.Common.{refl, arith}
+use Rattle.std.proofs.Common.{arith}
 use Rattle.toml_parser.specs.Lexical.{skip_blank}
-use Rattle.toml_ordered.proofs.Around.{array_more, array_neither, array_unended}
-use Rattle.toml_ordered.proofs.Blaming.{read_unblamed}
-use Rattle.toml_ordered.proofs.Conflicts.{other_than}
-use Rattle.toml_ordered.proofs.Trees.{items_view-push}
 use Rattle.toml_ordered.specs.Data.{node_view}
+use Rattle.toml_ordered.proofs.{Around.array_more, Around.array_neither, Around.array_unended, Blaming.read_unblamed, Conflicts.other_than}
+use Rattle.toml_ordered.proofs.{Trees.items_view-push}
 use Rattle.toml_ordered.proofs.values.put_item.Goals as goal
-
-pub returns-in-Err : goal.returns-in-Err
-returns-in-Err c depth text at inside read = (λ real. absurd (real refl), tt)
 
 pub returns-in-Ok : goal.returns-in-Ok
 returns-in-Ok c =

@@ -1,12 +1,8 @@
 use Rattle.std.proofs.Common.{◌≡◌}
-use Rattle.toml_parser.specs.Reading.{key_view}
-use Rattle.toml_parser.specs.Strings.{Key}
-use Rattle.toml_ordered.proofs.Around.{braces_again, braces_more, braces_parted, braces_unended, pair_goes_on}
-use Rattle.toml_ordered.proofs.Conflicts.{other_than}
-use Rattle.toml_ordered.proofs.Turns.{val_sealed}
-use Rattle.toml_ordered.specs.Data.{TomlNode, node_view}
-use Rattle.toml_ordered.specs.Keys.{sealed}
-use Rattle.toml_ordered.specs.declared.values.Open.TheVariants.{Braces}
+use Rattle.toml_ordered.specs.{Data.TomlNode, Data.node_view, Keys.sealed, declared.values.Open.TheVariants.Braces}
+use Rattle.toml_parser.specs.{Reading.key_view, Strings.Key}
+use Rattle.toml_ordered.proofs.{Around.braces_again, Around.braces_more, Around.braces_parted, Around.braces_unended, Around.pair_goes_on}
+use Rattle.toml_ordered.proofs.{Conflicts.other_than, Turns.val_sealed}
 use Rattle.toml_ordered.proofs.values.put_pair.Goals as goal
 
 pub returns-in-Err : goal.returns-in-Err

@@ -1,5 +1,7 @@
 use Rattle.std.proofs.Common.{ℕ, suc, ◌-◌, ◌≤◌, List, rules, ◌∙◌}
 use Rattle.toml_ordered.proofs.Around.{Stands, stands_closed, stands_opened, stands_refused}
+use Rattle.toml_ordered.proofs.Conflicts.{reworded}
+use Rattle.toml_ordered.specs.Nesting.{ClashesIn, NestsPast}
 use Rattle.toml_ordered.specs.Inside.{IsNextInside, IsValueRead}
 use Rattle.toml_ordered.proofs.values.value.Goals as goal
 use Rattle.toml_ordered.proofs.values.value.Goals.{After-len, After-go_on}
@@ -23,7 +25,11 @@ pub returns-in-Err-begin : goal.returns-in-Err-begin
 returns-in-Err-begin c =
     let stands = (opened (goal.at.returns-in-Err-begin c).After-len).1 in
     let pushed = c.push.new.self.items in
-    stands_refused pushed c.args.depth c.args.s.now _ c.values.rest.now c.in-Err-begin.fault stands c.in-Err-begin.ensures
+    let deep = c.args.depth - c.len.result in
+    let at = c.values.rest.now in
+    stands_refused pushed c.args.depth c.args.s.now deep at c.inside.result stands
+    (reworded _ (λ key one two. ClashesIn deep key one two at) (λ left. NestsPast deep left at) c.in-Err-begin.fault c.inside.result c.inside.ensures
+    c.in-Err-begin.ensures)
 
 closed : (c : After-go_on)
     → (inner : ℕ) × (at : List ℕ) × (from : List ℕ) × Stands c.pop.new.self.items c.args.depth c.args.s.now (suc inner) from

@@ -1,22 +1,16 @@
 use Rattle.yaml_toml.proofs.Common.{◌∷◌, [], ℕ, List, refl, ap, subst, ◌∙◌, scalar, chars, text_content, bool_content, bool_tag, bool_text, int_tag, float_tag}
 use Rattle.yaml_writer.proofs.GivenLemmas.{always, on_ok, word_is}
-use Rattle.std.specs.Prelude.{string_bytes, FitsSigned}
-use Rattle.std.proofs.Common.{ℤ, rules, w64}
-use Rattle.std.proofs.lemmas.Int.{to_z-of_z}
-use Rattle.std.specs.Fmt.{signed_decimal}
-use Rattle.toml_ordered.specs.Data as toml
 use Rattle.toml_ordered.specs.Data.{node_view}
-use Rattle.yaml_writer.specs.Floats.{special_text}
-use Rattle.yaml_writer.specs.Writing.{Gives, int_event}
-use Rattle.yaml_writer.specs.TomlDates.{moment_of}
-use Rattle.yaml_writer.specs.declared.floats.SpecialFloat.{SpecialFloat}
-use Rattle.yaml_writer.specs.declared.floats.SpecialFloat.TheVariants as special
-use Rattle.yaml_toml.specs.Events.{date_content, decimal_content, integer_content, special_content}
-use Rattle.yaml_toml.specs.Walk.{IsJsonWord}
 use Rattle.yaml_toml.proofs.Answering.{datetime_is, gives_scalar, wrote_scalar}
 use Rattle.yaml_toml.proofs.Integers.{few_digits}
 use Rattle.yaml_toml.proofs.Views.{node_view-Text, node_view-Integer, node_view-Decimal, node_view-Infinity, node_view-NotANumber, node_view-Boolean}
 use Rattle.yaml_toml.proofs.Views.{node_view-Datetime}
+use Rattle.yaml_writer.specs.{Floats.special_text, Writing.Gives, Writing.int_event, TomlDates.moment_of, declared.floats.SpecialFloat.SpecialFloat}
+use Rattle.std.specs.{Prelude.string_bytes, Prelude.FitsSigned, Fmt.signed_decimal}
+use Rattle.std.proofs.{Common.ℤ, Common.rules, Common.w64, lemmas.Int.to_z-of_z}
+use Rattle.yaml_toml.specs.{Events.date_content, Events.decimal_content, Events.integer_content, Events.special_content, Walk.IsJsonWord}
+use Rattle.toml_ordered.specs.Data as toml
+use Rattle.yaml_writer.specs.declared.floats.SpecialFloat.TheVariants as special
 use Rattle.yaml_toml.proofs.scalars.write_scalar.Goals as goal
 
 pub returns-in-Text : goal.returns-in-Text

@@ -1,6 +1,5 @@
-use Rattle.yaml_toml.proofs.Common.{chars, text_content}
 use Rattle.yaml_writer.proofs.GivenLemmas.{text_is}
-use Rattle.yaml_toml.proofs.Answering.{gives_scalar}
+use Rattle.yaml_toml.proofs.{Common.chars, Common.text_content, Answering.gives_scalar}
 use Rattle.yaml_toml.proofs.scalars.write_text.Goals as goal
 
 pub returns : goal.returns

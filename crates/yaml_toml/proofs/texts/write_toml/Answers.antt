@@ -1,10 +1,7 @@
-use Rattle.yaml_toml.proofs.Common.{◌≡◌, Some, refl}
-use Rattle.toml_ordered.specs.Keys.{table_view}
-use Rattle.toml_ordered.specs.Grammar.{ordered_document}
 use Rattle.yaml_pen.proofs.Composing.{grows_itself}
-use Rattle.yaml_toml.proofs.WhyFailed.{stops_read, stops_unread}
-use Rattle.yaml_toml.proofs.Fitting.{fault_explained, stop_explained}
-use Rattle.yaml_toml.proofs.Refusing.{denied, placed_of, said_of}
+use Rattle.yaml_toml.proofs.{Common.◌≡◌, Common.Some, Common.refl, WhyFailed.stops_read, WhyFailed.stops_unread, Fitting.fault_explained}
+use Rattle.yaml_toml.proofs.{Fitting.stop_explained, Refusing.denied, Refusing.placed_of, Refusing.said_of}
+use Rattle.toml_ordered.specs.{Keys.table_view, Grammar.ordered_document}
 use Rattle.yaml_toml.specs.declared.error.TomlError.TheVariants as errors
 use Rattle.yaml_toml.specs.declared.walk.Stop.TheVariants as stop
 use Rattle.yaml_toml.proofs.texts.write_toml.Goals as goal
@@ -25,7 +22,7 @@ returns-in-Err g c =
       deep = fault_explained s.depth text fault error says.error says.place;
       stopped = stops_unread s.depth s.flow text was error fault c.requires says.error;
       place = placed_of text fault error says.error found.placed says.place;
-      reason = says.reason found.reason;
+      reason = says.reason found.reason found.holds;
     }
 
 pub returns-in-Ok-write_root : goal.returns-in-Ok-write_root

@@ -1,8 +1,6 @@
-use Rattle.yaml_toml.proofs.Common.{refl, inl}
 use Rattle.yaml_writer.proofs.GivenLemmas.{bare_awaits_none}
-use Rattle.yaml_toml.proofs.WhyFailed.{finish_failed, text_failed}
 use Rattle.yaml_emitter.specs.Given.{seen_settings}
-use Rattle.yaml_toml.proofs.YamlOf.{yaml_of}
+use Rattle.yaml_toml.proofs.{Common.refl, Common.inl, WhyFailed.finish_failed, WhyFailed.text_failed, YamlOf.yaml_of}
 use Rattle.yaml_toml.proofs.texts.yaml_from_toml.Goals as goal
 
 pub returns-in_default : goal.returns-in_default

@@ -1,5 +1,5 @@
-use Rattle.yaml_writer.proofs.GivenLemmas.{bare_awaits_none}
-use Rattle.yaml_toml.proofs.Answering.{answers_end, on_end}
+use Rattle.yaml_toml.proofs.Answering.{on_end}
+use Rattle.yaml_writer.proofs.{GivenLemmas.bare_awaits_none, AnswerLemmas.answers_end}
 use Rattle.yaml_toml.proofs.walk.end_innermost.Goals as goal
 
 pub returns : goal.returns

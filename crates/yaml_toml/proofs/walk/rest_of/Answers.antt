@@ -1,9 +1,8 @@
 use Rattle.yaml_toml.proofs.Common.{List, ap, ap₂, sym, ◌∙◌}
-use Rattle.toml_ordered.specs.Data as toml
-use Rattle.toml_ordered.specs.Data.{items_view, node_view}
-use Rattle.toml_ordered.specs.declared.tree.Node.{Node as CodeNode}
-use Rattle.toml_ordered.specs.declared.tree.Origin.TheVariants.{Header}
 use Rattle.toml_ordered.proofs.Trees.{node_view-Array, node_view-Table, node_view-Tables}
+use Rattle.toml_ordered.specs.{Data.items_view, Data.node_view, declared.tree.Origin.TheVariants.Header}
+use Rattle.toml_ordered.specs.Data as toml
+use Rattle.toml_ordered.specs.declared.tree.Node.{Node as CodeNode}
 use Rattle.yaml_toml.proofs.walk.rest_of.Goals as goal
 
 pub returns-in-Array : goal.returns-in-Array

@@ -1,14 +1,13 @@
 use Rattle.yaml_toml.proofs.Common.{◌≡◌, ◌∷◌, ◌++◌, [], ◌+◌, List, refl, ap, subst, sym, ◌∙◌, append_assoc, arith}
 use Rattle.std.proofs.lemmas.Grind.{common_steps}
 use Rattle.toml_ordered.specs.Data.{items_view, node_view}
-use Rattle.toml_ordered.specs.declared.tree.Node.{Node as CodeNode}
 use Rattle.yaml_base.specs.declared.kinds.CollectionKind.TheVariants.{Sequence}
-use Rattle.yaml_toml.specs.Depth.{items_nesting}
-use Rattle.yaml_toml.specs.Walk.{ItemsHaveNumbers, items_left, items_size, kinds_of}
-use Rattle.yaml_toml.specs.WalkSteps.{rest_due, value_due}
-use Rattle.yaml_toml.specs.declared.walk.Rest.TheVariants as rest
 use Rattle.yaml_toml.proofs.Pending.{items_left-more}
 use Rattle.yaml_toml.proofs.Stepping.{due_next, step_end, step_memory, step_same}
+use Rattle.yaml_toml.specs.{Depth.items_nesting, Walk.ItemsHaveNumbers, Walk.items_left, Walk.items_size, Walk.kinds_of, WalkSteps.rest_due}
+use Rattle.yaml_toml.specs.{WalkSteps.value_due}
+use Rattle.toml_ordered.specs.declared.tree.Node.{Node as CodeNode}
+use Rattle.yaml_toml.specs.declared.walk.Rest.TheVariants as rest
 use Rattle.yaml_toml.proofs.walk.write_item.Goals as goal
 
 pub returns-in-None : goal.returns-in-None

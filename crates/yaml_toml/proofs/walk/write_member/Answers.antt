@@ -1,18 +1,14 @@
-use Rattle.yaml_toml.proofs.Common.{◌≡◌, ◌∷◌, ◌++◌, [], ◌+◌, ℕ, List, Result, refl, ap, subst, sym, ◌∙◌, append_assoc, arith, Event}
-use Rattle.yaml_toml.proofs.Common.{scalar, chars, text_content}
+use Rattle.yaml_toml.proofs.Common.{◌≡◌, ◌∷◌, ◌++◌, [], ◌+◌, ℕ, List, Result, refl, ap, subst, sym, ◌∙◌, append_assoc, arith, Event, scalar, chars}
+use Rattle.yaml_toml.proofs.Common.{text_content}
 use Rattle.std.proofs.lemmas.Grind.{common_steps}
 use Rattle.std.specs.Prelude.{string_bytes}
-use Rattle.toml_ordered.specs.Data.{TomlNodes, no_nodes, node, node_view}
-use Rattle.toml_ordered.specs.Keys.{live_view}
 use Rattle.yaml_base.specs.declared.kinds.CollectionKind.TheVariants.{Mapping}
-use Rattle.yaml_toml.specs.Depth.{keys_nesting}
-use Rattle.yaml_toml.specs.Events.{toml_events}
-use Rattle.yaml_toml.specs.Walk.{IsStopOf, KeysHaveNumbers, keys_left, keys_size, kinds_of, pending}
-use Rattle.yaml_toml.specs.WalkSteps.{rest_due, value_due}
-use Rattle.yaml_toml.specs.declared.walk.Rest.TheVariants as rest
-use Rattle.yaml_toml.specs.declared.walk.Stop.{Stop}
 use Rattle.yaml_toml.proofs.Pending.{keys_left-more}
 use Rattle.yaml_toml.proofs.Stepping.{due_next, step_behind, step_end, step_failed, step_memory}
+use Rattle.yaml_toml.specs.{Depth.keys_nesting, Events.toml_events, Walk.IsStopOf, Walk.KeysHaveNumbers, Walk.keys_left, Walk.keys_size, Walk.kinds_of}
+use Rattle.yaml_toml.specs.{Walk.pending, WalkSteps.rest_due, WalkSteps.value_due, declared.walk.Stop.Stop}
+use Rattle.toml_ordered.specs.{Data.TomlNodes, Data.no_nodes, Data.node, Data.node_view, Keys.live_view}
+use Rattle.yaml_toml.specs.declared.walk.Rest.TheVariants as rest
 use Rattle.yaml_toml.proofs.walk.write_member.Goals as goal
 
 pub returns-in-None : goal.returns-in-None

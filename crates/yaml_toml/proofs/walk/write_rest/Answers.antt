@@ -1,19 +1,14 @@
-use Rattle.yaml_toml.proofs.Common.{◌≡◌, ◌∷◌, ◌++◌, [], List, refl, ap, subst, sym, ◌∙◌, append_assoc, mapping_start, mapping_end, sequence_end}
-use Rattle.yaml_toml.proofs.Common.{collection_in, arith, Event}
+use Rattle.yaml_toml.proofs.Common.{◌≡◌, ◌∷◌, ◌++◌, [], List, refl, ap, subst, sym, ◌∙◌, append_assoc, mapping_start, mapping_end, sequence_end, collection_in}
+use Rattle.yaml_toml.proofs.Common.{arith, Event}
 use Rattle.std.proofs.lemmas.List.{nil_from_length}
 use Rattle.std.specs.Prelude.{max, suc}
-use Rattle.toml_ordered.specs.Data as toml
-use Rattle.toml_ordered.specs.Data.{items_view, node_view}
-use Rattle.toml_ordered.specs.Keys.{live_view}
-use Rattle.toml_ordered.specs.declared.tree.Node.{Node as CodeNode}
-use Rattle.toml_ordered.specs.declared.tree.Origin.TheVariants.{Header}
-use Rattle.yaml_toml.specs.Depth.{items_nesting, keys_nesting}
-use Rattle.yaml_toml.specs.Events.{toml_events, toml_items_events, keys_events}
-use Rattle.yaml_toml.specs.Walk.{ItemsHaveNumbers, items_size}
-use Rattle.yaml_toml.specs.WalkSteps.{TomlStep, rest_due, value_due, walk_at}
-use Rattle.yaml_toml.specs.declared.walk.Rest.{Rest}
-use Rattle.yaml_toml.specs.declared.walk.Rest.TheVariants as rest
 use Rattle.yaml_toml.proofs.Stepping.{due_next, step_begun, step_memory, step_same}
+use Rattle.yaml_toml.specs.{Depth.items_nesting, Depth.keys_nesting, Events.toml_events, Events.toml_items_events, Events.keys_events, Walk.ItemsHaveNumbers}
+use Rattle.yaml_toml.specs.{Walk.items_size, WalkSteps.TomlStep, WalkSteps.rest_due, WalkSteps.value_due, WalkSteps.walk_at, declared.walk.Rest.Rest}
+use Rattle.toml_ordered.specs.{Data.items_view, Data.node_view, Keys.live_view, declared.tree.Origin.TheVariants.Header}
+use Rattle.toml_ordered.specs.Data as toml
+use Rattle.toml_ordered.specs.declared.tree.Node.{Node as CodeNode}
+use Rattle.yaml_toml.specs.declared.walk.Rest.TheVariants as rest
 use Rattle.yaml_toml.proofs.walk.write_rest.Goals as goal
 
 pub returns-in-Err : goal.returns-in-Err

@@ -1,19 +1,14 @@
-use Rattle.yaml_toml.proofs.Common.{◌≡◌, ◌+◌, [], List, Result, Ok, Err, WriterState, subst, ap, sym, arith}
-use Rattle.toml_ordered.specs.Data.{TomlNodes, table}
-use Rattle.toml_ordered.specs.Keys.{table_view}
-use Rattle.toml_ordered.specs.declared.tree.Origin.TheVariants.{Header}
-use Rattle.yaml_toml.specs.Events.{toml_events}
-use Rattle.yaml_toml.specs.Walk.{pending_size, rest_size}
-use Rattle.yaml_toml.specs.WalkSteps.{TomlStep, collection_due, value_due, value_of_rest, walk_at}
 use Rattle.yaml_writer.specs.declared.settings.ValueSettings.{ValueSettings}
-use Rattle.yaml_toml.specs.declared.walk.Rest.{Rest}
-use Rattle.yaml_toml.specs.declared.walk.Rest.TheVariants as rest
-use Rattle.yaml_toml.specs.declared.walk.Stop.{Stop}
-use Rattle.yaml_toml.proofs.Answering.{kept_then}
+use Rattle.yaml_toml.proofs.Common.{◌≡◌, ◌+◌, [], List, Result, Ok, Err, WriterState, subst, ap, sym, arith}
+use Rattle.yaml_writer.proofs.AnswerLemmas.{kept_then}
 use Rattle.yaml_toml.proofs.Pending.{size-push}
 use Rattle.yaml_toml.proofs.Fitting.{nests_on, nests_stopped}
 use Rattle.yaml_toml.proofs.Running.{innermost, runs_first, runs_on, runs_out, runs_stopped, so_given, stopped_first}
 use Rattle.yaml_toml.proofs.Stepping.{step_begun}
+use Rattle.yaml_toml.specs.{Events.toml_events, Walk.pending_size, Walk.rest_size, WalkSteps.TomlStep, WalkSteps.collection_due, WalkSteps.value_due}
+use Rattle.yaml_toml.specs.{WalkSteps.value_of_rest, WalkSteps.walk_at, declared.walk.Rest.Rest, declared.walk.Stop.Stop}
+use Rattle.toml_ordered.specs.{Data.TomlNodes, Data.table, Keys.table_view, declared.tree.Origin.TheVariants.Header}
+use Rattle.yaml_toml.specs.declared.walk.Rest.TheVariants as rest
 use Rattle.yaml_toml.proofs.walk.write_root.Goals as goal
 
 -- the root table is begun

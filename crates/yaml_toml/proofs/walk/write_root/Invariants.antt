@@ -1,10 +1,6 @@
-use Rattle.toml_ordered.specs.Data.{table}
-use Rattle.toml_ordered.specs.Keys.{table_view}
-use Rattle.toml_ordered.specs.declared.tree.Origin.TheVariants.{Header}
-use Rattle.yaml_toml.specs.Events.{toml_events}
-use Rattle.yaml_toml.specs.Walk.{KeysHaveNumbers, pending_size}
-use Rattle.yaml_toml.proofs.Fitting.{DocumentFits}
-use Rattle.yaml_toml.proofs.Running.{Running}
+use Rattle.toml_ordered.specs.{Data.table, Keys.table_view, declared.tree.Origin.TheVariants.Header}
+use Rattle.yaml_toml.proofs.{Fitting.DocumentFits, Running.Running}
+use Rattle.yaml_toml.specs.{Events.toml_events, Walk.KeysHaveNumbers, Walk.pending_size}
 use Rattle.yaml_toml.proofs.walk.write_root.Given as goal
 
 abbrev pub invariant-rests : goal.invariant-rests

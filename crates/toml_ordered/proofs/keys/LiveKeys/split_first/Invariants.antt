@@ -1,6 +1,5 @@
 use Rattle.std.proofs.Common.{◌≡◌, ◌-◌, drop, length}
-use Rattle.toml_ordered.specs.Data.{nodes_from}
-use Rattle.toml_ordered.specs.Keys.{entries_view, live_view}
+use Rattle.toml_ordered.specs.{Data.nodes_from, Keys.entries_view, Keys.live_view}
 use Rattle.toml_ordered.proofs.keys.LiveKeys.split_first.Given as goal
 
 -- the keys that were passed over don't count

@@ -1,13 +1,7 @@
 use Rattle.std.proofs.Common.{ap, ◌∙◌, rules}
-use Rattle.toml_ordered.proofs.Counts.{left, left_last, node_count-Array, node_count-Table, node_count-Tables}
+use Rattle.toml_ordered.proofs.Counts.{left, node_count-Table, node_count-Tables}
 use Rattle.toml_ordered.specs.Counts.{member_count, node_count}
 use Rattle.toml_ordered.proofs.tree.Node.pop.Goals as goal
-
-pub returns-in-Array : goal.returns-in-Array
-returns-in-Array c =
-    let it = c.in-Array in
-    left_last it.items c.pop.new.self _ _ c.pop.result (ap node_count it.is ∙ node_count-Array it.items) (search (rules, node_count-Array))
-    (rw it.items-is at c.pop.ensures.items) (rw it.items-is at c.pop.ensures.cases)
 
 pub returns-in-Table : goal.returns-in-Table
 returns-in-Table c =

@@ -1,8 +1,7 @@
 use Rattle.std.proofs.Common.{sym, ap, ◌∙◌}
 use Rattle.toml_ordered.proofs.Trees.{items_view-push, node_view-Table, node_view-Tables, node_view-Array}
-use Rattle.toml_ordered.specs.Data.{TomlNode, Items, array, push_item, items_view, node_view}
-use Rattle.toml_ordered.specs.Keys.{sealed}
-use Rattle.toml_ordered.specs.declared.tree.Origin.TheVariants.{Closed}
+use Rattle.toml_ordered.specs.{Data.TomlNode, Data.Items, Data.array, Data.push_item, Data.items_view, Data.node_view, Keys.sealed}
+use Rattle.toml_ordered.specs.{declared.tree.Origin.TheVariants.Closed}
 use Rattle.toml_ordered.proofs.tree.Node.sealed.Goals as goal
 
 pub returns-in_ok-push-in-Tables-clause-value : goal.returns-in_ok-push-in-Tables-clause-value

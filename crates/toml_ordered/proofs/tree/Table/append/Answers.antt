@@ -1,9 +1,7 @@
 use Rattle.std.proofs.Common.{◌≡◌, ℕ, List, Some, length, string_bytes, subst, sym, ap, ◌∙◌, arith, rules}
 use Rattle.std.proofs.lemmas.Grind.{common_steps}
-use Rattle.toml_ordered.proofs.KeyPlaces.{appended}
-use Rattle.toml_ordered.proofs.Trees.{Entry}
-use Rattle.toml_ordered.specs.Data.{TomlNodes}
-use Rattle.toml_ordered.specs.Keys.{IsNoted, keys_view}
+use Rattle.toml_ordered.proofs.{KeyPlaces.appended, Trees.Entry}
+use Rattle.toml_ordered.specs.{Data.TomlNodes, Keys.IsNoted, Keys.keys_view}
 use Rattle.toml_ordered.proofs.tree.Table.append.Goals as goal
 
 pub returns : goal.returns

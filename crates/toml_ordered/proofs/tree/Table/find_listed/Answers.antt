@@ -3,9 +3,6 @@ use Rattle.std.proofs.lemmas.Grind.{common_steps}
 use Rattle.toml_ordered.proofs.KeyPlaces.{key_here, listed_here, seen_all, seen_more}
 use Rattle.toml_ordered.proofs.tree.Table.find_listed.Goals as goal
 
-pub keys-init : goal.keys-init
-keys-init c = λ before less has. omega (arith, less)
-
 pub keys-preserved : goal.keys-preserved
 keys-preserved c =
     let es = c.args.self.now.keys.items in
@@ -28,8 +25,3 @@ returns-else-at-len-clause-found c =
     let es = c.args.self.now.keys.items in
     let past : length es ≤ c.keys.at = grind (arith, common_steps) in
     λ at less has. seen_all c.args.key.now c.keys.at es past c.keys.invariant at has
-
-pub returns-after-keys-clause-found : goal.returns-after-keys-clause-found
-returns-after-keys-clause-found c =
-    let past : 16 ≤ c.keys.at = grind (arith, common_steps) in
-    λ at less has. c.keys.invariant at (omega (arith, less, past)) has
