@@ -148,9 +148,9 @@ module _ (settings : ValueSettings) (file : List ℕ) (root : TomlNodes) (read :
   by_code code status (inr has) = never code has status
 
   never_unwritten : (error : TomlError) → toml_status error ≡ 1 → DocumentUnwritten settings file was error now → ⊥
-  never_unwritten (errors.NotToml position) status stops = none_is_some root (sym (stops.refused tt) ∙ read)
+  never_unwritten (errors.NotToml position why) status stops = none_is_some root (sym (stops.refused tt) ∙ read)
   never_unwritten (errors.TooDeepToRead position) status stops = none_is_some root (sym (stops.refused tt) ∙ read)
-  never_unwritten (errors.DefinedAgain name first position) status stops = none_is_some root (sym (stops.refused tt) ∙ read)
+  never_unwritten (errors.DefinedAgain key name first position) status stops = none_is_some root (sym (stops.refused tt) ∙ read)
   never_unwritten errors.TooDeep status stops = not_deeper stops.deep
   never_unwritten (errors.Emitter code) status stops = by_code code status stops.sound
 

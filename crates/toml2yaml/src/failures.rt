@@ -24,15 +24,16 @@ pub fn failure_of(error: TomlError) -> Failure
     ensures { faults.failure_status result ≡ statuses.toml_status error }
 {
     match error {
-        TomlError::NotToml { position } => refused(position, "not TOML"),
+        TomlError::NotToml { position, why } => refused(position, why.words()),
         TomlError::TooDeepToRead { position } => refused(position, TOO_DEEP),
         TomlError::DefinedAgain {
-            key,
+            name,
             first,
             position,
+            ..
         } => Failure::Refused {
             place: Some(position),
-            reason: Reason::Twice { name: key, first },
+            reason: Reason::Twice { name, first },
         },
         TomlError::TooDeep => Failure::Refused {
             place: None,

@@ -1,6 +1,7 @@
 mod Differing
 mod Doing
 mod Headings
+mod LineLemmas
 mod Parts
 mod Portable
 mod Telling

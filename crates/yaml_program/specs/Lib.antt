@@ -4,3 +4,4 @@ pub mod Options
 pub mod Conversions
 pub mod Bounds
 pub mod Streams
+pub mod Differences

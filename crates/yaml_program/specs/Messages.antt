@@ -13,6 +13,7 @@ use Rattle.yaml_base.specs.Quoting.{quoted_text}
 use Rattle.yaml_base.specs.Sinks.{AppendsFirst}
 use Rattle.yaml_base.specs.declared.errors.yaml_error_t.TheVariants.{Memory}
 use Rattle.yaml_base.specs.declared.places.Position.{Position}
+use Rattle.yaml_program.specs.Differences.{IsFirstDifference}
 use Rattle.yaml_program.specs.declared.faults.Failure.{Failure}
 use Rattle.yaml_program.specs.declared.faults.Failure.TheVariants as failures
 use Rattle.yaml_program.specs.declared.faults.Place.{Place}
@@ -116,6 +117,24 @@ pub record IsFailureLine (program : List ℕ) (failure : Failure) (name : Option
 abbrev pub IsNameLine : (program name words : List ℕ) → (line : List ℕ) → Type 0
 IsNameLine program name words line =
     (shown : List ℕ) × IfSome (quoted_text name) (λ text. shown ≡ text) × (line ≡ message_line program (shown ++ words))
+
+abbrev pub difference_words : (name number old new : List ℕ) → List ℕ
+difference_words name number old new = name ++ codes " would be changed at line " ++ number ++ codes ": " ++ old ++ codes " would be " ++ new
+
+-- True if the line is a message about the first line in which a file differs from what would be written to it. The file's name and the lines are
+-- known if they are ASCII.
+pub record IsDifferenceLine (program name old new line : List ℕ) : Type 0 where
+  pub number : ℕ
+  pub old_line : List ℕ
+  pub new_line : List ℕ
+  pub first : IsFirstDifference old new number old_line new_line
+  pub shown : List ℕ
+  pub old_shown : List ℕ
+  pub new_shown : List ℕ
+  pub named : IfSome (quoted_text name) (λ text. shown ≡ text)
+  pub old_is : IfSome (quoted_text old_line) (λ text. old_shown ≡ text)
+  pub new_is : IfSome (quoted_text new_line) (λ text. new_shown ≡ text)
+  pub whole : line ≡ message_line program (difference_words shown (decimal number) old_shown new_shown)
 
 -- ---- what messages are told
 

@@ -5,6 +5,7 @@
 mod arguments;
 mod bounds;
 mod checking;
+mod differences;
 mod each;
 mod faults;
 mod formats;

@@ -31,8 +31,8 @@ macro_rules! flags {
         "check",
         "Writes nothing; status 1 if --output or --each would change a file",
         concat!(
-        "Writes nothing, and compares what would be written by --output or by --each with what is there. If a file differs or is missing, a \
-        line names it, and the status is 1.{n}Example: ", $program, " --check --output=out.yaml in", $ending),
+        "Writes nothing, and compares what would be written by --output or by --each with what is there. If a file differs, a \
+        message shows the first line that does; if it is missing, a message names it. The status is then 1.{n}Example: ", $program, " --check --output=out.yaml in", $ending),
     ),
     (
         "flow",

@@ -1,13 +1,38 @@
-use Rattle.std.proofs.Common.{[], codes}
+use Rattle.std.proofs.Common.{List, ℕ, ap, sym, subst, ◌∙◌, ◌≡◌, IfSome, Option}
 use Rattle.std.specs.Fmt.InlineText.{inline_text}
-use Rattle.yaml_program.specs.Messages.{IsNameLine}
-use Rattle.yaml_program.proofs.Parts.{named_line, tells}
+use Rattle.yaml_base.specs.Quoting.{quoted_text}
+use Rattle.yaml_program.specs.Messages.{IsDifferenceLine, difference_words, message_line}
+use Rattle.yaml_program.proofs.Parts.{tells}
 use Rattle.yaml_program.proofs.checking.tell_difference.Goals as goal
+
+-- The text of a part, as a string, is what the part shows.
+shows : (known : Option (List ℕ)) (part text : List ℕ) → text ≡ part → IfSome known (λ shown. part ≡ shown) → IfSome known (λ shown. text ≡ shown)
+shows known part text same = subst (λ (t : List ℕ). IfSome known (λ shown. t ≡ shown)) (sym same)
 
 pub returns-clause-told : goal.returns-clause-told
 returns-clause-told g c =
     let program = c.args.faults.now.words.now.name.now in
-    tells g.W.Write.contents c.args.faults.now c.tell.new.self c.part-shown.new.self _
-    (IsNameLine program c.args.name.now (codes " would be changed")) c.part-shown.ensures.kept
-    (λ kept. named_line program c.args.name.now (codes " would be changed") [] (inline_text c.part-shown.result) c.as_str.result.now _
-    (c.part-shown.ensures.shown kept) c.as_str.ensures.value c.line_of.ensures) c.tell.ensures
+    tells g.W.Write.contents c.args.faults.now c.tell.new.self c.line_part-new.new.loss _
+    (IsDifferenceLine program c.args.name.now c.args.there.now c.args.yaml.now)
+    (λ kept. c.part-shown.ensures.kept (c.part-number.ensures.kept (c.line_part-old.ensures.kept (c.line_part-new.ensures.kept kept))))
+    (λ kept.
+    let old_kept = c.line_part-new.ensures.kept kept in
+    let number_kept = c.line_part-old.ensures.kept old_kept in
+    record {
+      number = c.first_difference-difference.result.number;
+      old_line = c.first_difference-difference.result.old.now;
+      new_line = c.first_difference-difference.result.new.now;
+      first = c.first_difference-difference.ensures;
+      shown = c.as_str.result.now;
+      old_shown = c.as_str-3.result.now;
+      new_shown = c.as_str-4.result.now;
+      named = shows (quoted_text c.args.name.now) (inline_text c.part-shown.result) _ c.as_str.ensures.value
+          (c.part-shown.ensures.shown (c.part-number.ensures.kept number_kept));
+      old_is = shows (quoted_text c.first_difference-difference.result.old.now) (inline_text c.line_part-old.result) _ c.as_str-3.ensures.value
+          (c.line_part-old.ensures.shown old_kept);
+      new_is = shows (quoted_text c.first_difference-difference.result.new.now) (inline_text c.line_part-new.result) _ c.as_str-4.ensures.value
+          (c.line_part-new.ensures.shown kept);
+      whole = c.difference_line.ensures
+          ∙ ap (λ (number : List ℕ). message_line program (difference_words c.as_str.result.now number c.as_str-3.result.now c.as_str-4.result.now))
+          (c.as_str-2.ensures.value ∙ c.part-number.ensures.shown number_kept);
+    }) c.tell.ensures
