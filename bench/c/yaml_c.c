@@ -1,4 +1,4 @@
-/* yaml_c DOCUMENTS SCALARS: the events that libyaml.c gives, as an array, by one call of yaml_emit; writes the stream. The last line on
+/* yaml_c DOCUMENTS SCALARS: the events that libyaml.c gives, as an array, by one call of yaml_c_emit; writes the stream. The last line on
  * standard error is what the events, their texts and the output take, in bytes.
  * cc -O2 -I ../../crates/yaml_c/include -o yaml_c yaml_c.c libyaml_c.a liblibc_c.a */
 #include <stdio.h>
@@ -37,7 +37,7 @@ int main(int count, char **words) {
         give(&stream, 4, "");
     }
     give(&stream, 2, "");
-    if (yaml_emit(stream.events, stream.count, none, 0, stream.arena, stream.length, &settings, out, capacity, &result) != YAML_DONE) return 1;
+    if (yaml_c_emit(stream.events, stream.count, none, 0, stream.arena, stream.length, &settings, out, capacity, &result) != YAML_C_DONE) return 1;
     fwrite(out, 1, result.length, stdout);
     fprintf(stderr, "%zu\n", stream.count * sizeof *stream.events + stream.length + result.length);
     return 0;

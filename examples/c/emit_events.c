@@ -23,23 +23,23 @@ static const struct yaml_c_event events[] = {
 
 /* By the settings of a new emitter, without directives. */
 static int32_t emit(size_t count, uint8_t *out, size_t capacity, struct yaml_c_result *result) {
-    return yaml_emit(events, count, NULL, 0, texts, sizeof texts - 1, NULL, out, capacity, result);
+    return yaml_c_emit(events, count, NULL, 0, texts, sizeof texts - 1, NULL, out, capacity, result);
 }
 
 int main(void) {
     size_t count = sizeof events / sizeof *events;
     struct yaml_c_result result;
-    if (emit(count, NULL, 0, &result) != YAML_TOO_SMALL) return 1;
+    if (emit(count, NULL, 0, &result) != YAML_C_TOO_SMALL) return 1;
     printf("%zu bytes\n", result.length);
     uint8_t *yaml = malloc(result.length);
     if (yaml == NULL) return 1;
-    if (emit(count, yaml, result.length, &result) != YAML_DONE) return 1;
+    if (emit(count, yaml, result.length, &result) != YAML_C_DONE) return 1;
     fwrite(yaml, 1, result.length, stdout);
     free(yaml);
     int32_t status =
-        yaml_emit((struct yaml_c_event[]){{.kind = YAML_C_STREAM_START}, {.kind = YAML_C_MAPPING_END}}, 2, NULL, 0, NULL, 0, NULL, NULL, 0, &result);
-    if (status != YAML_REFUSED) return 1;
-    printf("%s: event %" PRIu64 ", %s\n", yaml_status_text(status), result.event, yaml_error_text(result.error));
+        yaml_c_emit((struct yaml_c_event[]){{.kind = YAML_C_STREAM_START}, {.kind = YAML_C_MAPPING_END}}, 2, NULL, 0, NULL, 0, NULL, NULL, 0, &result);
+    if (status != YAML_C_REFUSED) return 1;
+    printf("%s: event %" PRIu64 ", %s\n", yaml_c_status_text(status), result.event, yaml_c_error_text(result.error));
     if (yaml_c_version() != YAML_C_VERSION) return 1;
     return 0;
 }

@@ -88,10 +88,10 @@ static struct yaml_c_event read_event(const yaml_event_t *event) {
 static void give(const yaml_event_t *event) {
     struct yaml_c_event record = read_event(event);
     int32_t status = yaml_c_emitter_emit(&emitter, &record, directives.bytes, record.directives.length, texts.bytes, texts_length, &result);
-    if (status == YAML_DONE && event->type == YAML_STREAM_END_EVENT) status = yaml_c_emitter_flush(&emitter, &result);
-    if (status == YAML_NO_MEMORY) stop(3, yaml_status_text(status));
-    if (status != YAML_DONE) stop(1, status == YAML_REFUSED ? yaml_error_text(result.error) : yaml_status_text(status));
-    while (yaml_c_emitter_take_output(&emitter, out.bytes, out.room, &result) == YAML_TOO_SMALL) reserve(&out, result.length);
+    if (status == YAML_C_DONE && event->type == YAML_STREAM_END_EVENT) status = yaml_c_emitter_flush(&emitter, &result);
+    if (status == YAML_C_NO_MEMORY) stop(3, yaml_c_status_text(status));
+    if (status != YAML_C_DONE) stop(1, status == YAML_C_REFUSED ? yaml_c_error_text(result.error) : yaml_c_status_text(status));
+    while (yaml_c_emitter_take_output(&emitter, out.bytes, out.room, &result) == YAML_C_TOO_SMALL) reserve(&out, result.length);
     if (fwrite(out.bytes, 1, result.length, stdout) != result.length) stop(3, "cannot write");
 }
 
@@ -121,7 +121,7 @@ int main(int count, char **words) {
             stop(2, "usage: reformat [--indent=COLUMNS] [--width=COLUMN] [--indented-sequences] [--portable] [--canonical]");
     yaml_parser_t parser;
     yaml_event_t event = {0};
-    if (!yaml_parser_initialize(&parser) || yaml_c_emitter_new(&settings, &emitter) != YAML_DONE) stop(3, "out of memory");
+    if (!yaml_parser_initialize(&parser) || yaml_c_emitter_new(&settings, &emitter) != YAML_C_DONE) stop(3, "out of memory");
     yaml_parser_set_input_file(&parser, stdin);
     for (int ended = 0; !ended; yaml_event_delete(&event)) {
         if (!yaml_parser_parse(&parser, &event)) stop_reading(&parser);

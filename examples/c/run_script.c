@@ -18,21 +18,21 @@ static const char script[] =
     "-STR\n";
 
 static int32_t run(const char *text, uint8_t *out, size_t capacity, struct yaml_c_result *result) {
-    return yaml_run((const uint8_t *)text, strlen(text), out, capacity, result);
+    return yaml_c_run((const uint8_t *)text, strlen(text), out, capacity, result);
 }
 
 int main(void) {
     struct yaml_c_result result;
-    if (run(script, NULL, 0, &result) != YAML_TOO_SMALL) return 1;
+    if (run(script, NULL, 0, &result) != YAML_C_TOO_SMALL) return 1;
     printf("%zu bytes\n", result.length);
     uint8_t *yaml = malloc(result.length);
     if (yaml == NULL) return 1;
-    if (run(script, yaml, result.length, &result) != YAML_DONE) return 1;
+    if (run(script, yaml, result.length, &result) != YAML_C_DONE) return 1;
     fwrite(yaml, 1, result.length, stdout);
     free(yaml);
-    if (run("+STR any\n+STR\n", NULL, 0, &result) != YAML_BAD_LINE) return 1;
+    if (run("+STR any\n+STR\n", NULL, 0, &result) != YAML_C_BAD_LINE) return 1;
     printf("line %" PRIu64 " can't be read\n", result.line);
-    if (run("+STR any\n-DOC 1\n", NULL, 0, &result) != YAML_REFUSED) return 1;
+    if (run("+STR any\n-DOC 1\n", NULL, 0, &result) != YAML_C_REFUSED) return 1;
     printf("the event of line %" PRIu64 " is refused\n", result.line);
     return 0;
 }

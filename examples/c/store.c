@@ -64,10 +64,10 @@ struct entry {
 
 /* The entry of canonical bytes, which stay the caller's. */
 static int32_t seal(const uint8_t *bytes, size_t length, struct entry *entry, struct yaml_c_result *result) {
-    int32_t status = yaml_is_canonical(bytes, length, NULL, result);
+    int32_t status = yaml_c_is_canonical(bytes, length, NULL, result);
     entry->bytes = bytes;
     entry->length = length;
-    if (status == YAML_DONE) sha256(bytes, length, entry->digest);
+    if (status == YAML_C_DONE) sha256(bytes, length, entry->digest);
     return status;
 }
 
@@ -80,9 +80,9 @@ static int opens(const struct entry *entry) {
         puts("the digest differs");
         return 0;
     }
-    int32_t status = yaml_is_canonical(entry->bytes, entry->length, NULL, &result);
-    if (status == YAML_DONE) return 1;
-    printf("line %" PRIu64 ", column %" PRIu64 ": %s\n", result.line, result.column, yaml_status_text(status));
+    int32_t status = yaml_c_is_canonical(entry->bytes, entry->length, NULL, &result);
+    if (status == YAML_C_DONE) return 1;
+    printf("line %" PRIu64 ", column %" PRIu64 ": %s\n", result.line, result.column, yaml_c_status_text(status));
     return 0;
 }
 
@@ -92,7 +92,7 @@ int main(void) {
     static const uint8_t twice[] = "---\n!!map {\n  ? !!str \"port\"\n  : !!int \"80\",\n  ? !!str \"port\"\n  : !!int \"8080\",\n}\n";
     struct yaml_c_result result;
     struct entry entry, other = {padded, sizeof padded - 1, {0}};
-    if (seal(bytes, sizeof bytes - 1, &entry, &result) != YAML_DONE) return 1;
+    if (seal(bytes, sizeof bytes - 1, &entry, &result) != YAML_C_DONE) return 1;
     for (int i = 0; i < 32; i++) printf("%02x", entry.digest[i]);
     if (opens(&entry)) puts("\nas it was sealed");
     /* A byte that was changed, and a digest. */
@@ -102,10 +102,10 @@ int main(void) {
     entry.digest[31] ^= 1;
     opens(&entry);
     /* Bytes that aren't canonical, and those of a map with a key twice, aren't sealed, nor opened under their own digest. */
-    if (seal(padded, sizeof padded - 1, &other, &result) == YAML_DONE) return 1;
+    if (seal(padded, sizeof padded - 1, &other, &result) == YAML_C_DONE) return 1;
     sha256(padded, sizeof padded - 1, other.digest);
     opens(&other);
-    if (seal(twice, sizeof twice - 1, &other, &result) == YAML_DONE) return 1;
+    if (seal(twice, sizeof twice - 1, &other, &result) == YAML_C_DONE) return 1;
     sha256(twice, sizeof twice - 1, other.digest);
     opens(&other);
     return 0;

@@ -1,4 +1,4 @@
-/* Calls of yaml_is_canonical and yaml_canonical_from_json, for each status but YAML_NO_MEMORY and with NULL; a line for each that isn't as
+/* Calls of yaml_c_is_canonical and yaml_c_canonical_from_json, for each status but YAML_C_NO_MEMORY and with NULL; a line for each that isn't as
  * the header says, and for each text of which other bytes are canonical than were counted by hand. (`depths.c` has values that nest as deep
  * as they may.) */
 #include <stdio.h>
@@ -30,7 +30,7 @@ static void tell(const char *name, int32_t status, int good) {
 static void check_bytes(const char *name, const uint8_t *bytes, size_t length, int32_t status, uint64_t line, uint64_t column) {
     int32_t got;
     memset(&result, 0xff, sizeof result);
-    got = yaml_is_canonical(bytes, length, settings, &result);
+    got = yaml_c_is_canonical(bytes, length, settings, &result);
     tell(name, got, got == status && reports(0, line, column));
 }
 
@@ -104,15 +104,15 @@ static const struct {
 static void places(void) {
     size_t row;
     for (row = 0; row < sizeof misplaced / sizeof *misplaced; row++)
-        expect_check(misplaced[row].bytes, YAML_NOT_CANONICAL, misplaced[row].line, misplaced[row].column);
+        expect_check(misplaced[row].bytes, YAML_C_NOT_CANONICAL, misplaced[row].line, misplaced[row].column);
 }
 
 static void checks(void) {
-    expect_check("---\n!!null \"null\"\n", YAML_DONE, 0, 0);
-    expect_check("---\n!!seq [\n  !!bool \"true\",\n  !!int \"-5\",\n  !!str \"b\303\251\",\n  !!map {},\n]\n", YAML_DONE, 0, 0);
-    expect_check("---\n!!str \"\360\"\n", YAML_NOT_CANONICAL, 2, 8);
-    expect_check("---\n!!str \"a\"\n---\n", YAML_NOT_CANONICAL, 3, 1);
-    expect_check("---\n!!map {\n  ? !!int \"1\"\n  : !!int \"2\",\n}\n", YAML_DONE, 0, 0);
+    expect_check("---\n!!null \"null\"\n", YAML_C_DONE, 0, 0);
+    expect_check("---\n!!seq [\n  !!bool \"true\",\n  !!int \"-5\",\n  !!str \"b\303\251\",\n  !!map {},\n]\n", YAML_C_DONE, 0, 0);
+    expect_check("---\n!!str \"\360\"\n", YAML_C_NOT_CANONICAL, 2, 8);
+    expect_check("---\n!!str \"a\"\n---\n", YAML_C_NOT_CANONICAL, 3, 1);
+    expect_check("---\n!!map {\n  ? !!int \"1\"\n  : !!int \"2\",\n}\n", YAML_C_DONE, 0, 0);
 }
 
 /* The canonical bytes of a map with a key twice; of one that is a key, and in it after another map two keys that are equal lists; and of one
@@ -130,18 +130,18 @@ static void checks(void) {
     "  : !!int \"1\",\n}\n"
 
 static void keys(void) {
-    expect_check(TWICE, YAML_DUPLICATE_NAME, 5, 5);
-    expect_check(TWICE_WITHIN, YAML_DUPLICATE_NAME, 11, 7);
-    expect_check(TWICE_UNENDED, YAML_DUPLICATE_NAME, 5, 5);
-    expect_check(DIFFERENT, YAML_DONE, 0, 0);
+    expect_check(TWICE, YAML_C_DUPLICATE_NAME, 5, 5);
+    expect_check(TWICE_WITHIN, YAML_C_DUPLICATE_NAME, 11, 7);
+    expect_check(TWICE_UNENDED, YAML_C_DUPLICATE_NAME, 5, 5);
+    expect_check(DIFFERENT, YAML_C_DONE, 0, 0);
     /* A key is compared only if `: ` follows it, and bytes that aren't UTF-8 are reported first. */
-    expect_check("---\n!!map {\n  ? !!str \"a\"\n  : !!int \"1\",\n  ? !!str \"a\",\n}\n", YAML_NOT_CANONICAL, 5, 14);
-    expect_check(TWICE "\360", YAML_NOT_CANONICAL, 8, 1);
+    expect_check("---\n!!map {\n  ? !!str \"a\"\n  : !!int \"1\",\n  ? !!str \"a\",\n}\n", YAML_C_NOT_CANONICAL, 5, 14);
+    expect_check(TWICE "\360", YAML_C_NOT_CANONICAL, 8, 1);
     settings = &allowing;
-    expect_check(TWICE, YAML_DONE, 0, 0);
-    expect_check(TWICE_WITHIN, YAML_DONE, 0, 0);
-    expect_check(TWICE_UNENDED, YAML_NOT_CANONICAL, 6, 5);
-    expect_check(DIFFERENT, YAML_DONE, 0, 0);
+    expect_check(TWICE, YAML_C_DONE, 0, 0);
+    expect_check(TWICE_WITHIN, YAML_C_DONE, 0, 0);
+    expect_check(TWICE_UNENDED, YAML_C_NOT_CANONICAL, 6, 5);
+    expect_check(DIFFERENT, YAML_C_DONE, 0, 0);
     settings = NULL;
 }
 
@@ -180,10 +180,10 @@ static int is_taken(const char *name, const uint8_t *bytes, size_t length) {
     int32_t got;
     int placed;
     memset(&result, 0xff, sizeof result);
-    got = yaml_is_canonical(bytes, length, settings, &result);
+    got = yaml_c_is_canonical(bytes, length, settings, &result);
     placed = result.line > 0 && result.column > 0 && reports(0, result.line, result.column);
-    tell(name, got, got == YAML_DONE ? reports(0, 0, 0) : (got == YAML_NOT_CANONICAL || got == YAML_DUPLICATE_NAME) && placed);
-    return got == YAML_DONE;
+    tell(name, got, got == YAML_C_DONE ? reports(0, 0, 0) : (got == YAML_C_NOT_CANONICAL || got == YAML_C_DUPLICATE_NAME) && placed);
+    return got == YAML_C_DONE;
 }
 
 /* How many other bytes in place of the one at an offset are canonical. */
@@ -230,13 +230,13 @@ static void deep(void) {
     static const char *const begins[] = {"!!seq []", "!!map {}", "!!seq [", "!!map {"};
     static uint8_t bytes[2016064];
     size_t row, length = nested(bytes, 49, "!!seq [],\n");
-    check_bytes("deep", bytes, length, YAML_DONE, 0, 0);
-    check_bytes("deep, without its end", bytes, length - 1, YAML_NOT_CANONICAL, 100, 2);
+    check_bytes("deep", bytes, length, YAML_C_DONE, 0, 0);
+    check_bytes("deep, without its end", bytes, length - 1, YAML_C_NOT_CANONICAL, 100, 2);
     length = nested(bytes, 1000, "!!seq [],\n");
-    check_bytes("too deep", bytes, length, YAML_TOO_DEEP, 1002, 2001);
+    check_bytes("too deep", bytes, length, YAML_C_TOO_DEEP, 1002, 2001);
     for (row = 0; row < sizeof begins / sizeof *begins; row++) {
         length = begun(bytes, 1000, begins[row]);
-        check_bytes(begins[row], bytes, length, YAML_TOO_DEEP, 1002, 2001);
+        check_bytes(begins[row], bytes, length, YAML_C_TOO_DEEP, 1002, 2001);
     }
 }
 
@@ -247,13 +247,13 @@ static void expect_bytes(const char *text, const char *bytes) {
     int32_t got;
     memset(&result, 0xff, sizeof result);
     memset(out, 'x', sizeof out);
-    got = yaml_canonical_from_json((const uint8_t *)text, strlen(text), settings, out, length, &result);
-    tell(text, got, got == YAML_DONE && reports(length, 0, 0) && memcmp(out, bytes, length) == 0 && out[length] == 'x');
-    got = yaml_is_canonical(out, length, settings, &result);
-    tell(text, got, got == YAML_DONE && reports(0, 0, 0));
+    got = yaml_c_canonical_from_json((const uint8_t *)text, strlen(text), settings, out, length, &result);
+    tell(text, got, got == YAML_C_DONE && reports(length, 0, 0) && memcmp(out, bytes, length) == 0 && out[length] == 'x');
+    got = yaml_c_is_canonical(out, length, settings, &result);
+    tell(text, got, got == YAML_C_DONE && reports(0, 0, 0));
     memset(out, 'x', sizeof out);
-    got = yaml_canonical_from_json((const uint8_t *)text, strlen(text), settings, out, length - 1, &result);
-    tell(text, got, got == YAML_TOO_SMALL && reports(length, 0, 0) && out[0] == 'x');
+    got = yaml_c_canonical_from_json((const uint8_t *)text, strlen(text), settings, out, length - 1, &result);
+    tell(text, got, got == YAML_C_TOO_SMALL && reports(length, 0, 0) && out[0] == 'x');
 }
 
 /* Why a text of JSON has none. */
@@ -262,7 +262,7 @@ static void expect_none(const char *name, const char *text, size_t length, int32
     int32_t got;
     memset(&result, 0xff, sizeof result);
     memset(out, 'x', sizeof out);
-    got = yaml_canonical_from_json((const uint8_t *)text, length, settings, out, sizeof out, &result);
+    got = yaml_c_canonical_from_json((const uint8_t *)text, length, settings, out, sizeof out, &result);
     tell(name, got, got == status && reports(0, line, column) && out[0] == 'x');
 }
 
@@ -288,19 +288,19 @@ static const struct {
     uint64_t line, column;
 } refused[] = {
     /* The first number that isn't an integer of 64 bits. */
-    {"9223372036854775808", YAML_NOT_INTEGER, 1, 1},
-    {"[1,\n 1.0]", YAML_NOT_INTEGER, 2, 2},
-    {"[1,\n 1.0, 1e2]", YAML_NOT_INTEGER, 2, 2},
-    {"{\"a\": 1e2}", YAML_NOT_INTEGER, 1, 7},
-    {"[-0]", YAML_NOT_INTEGER, 1, 2},
-    {"[\"\303\251\", -0]", YAML_NOT_INTEGER, 1, 7},
-    {"[\"\303\251\", 0.5, 0.5]", YAML_NOT_INTEGER, 1, 7},
+    {"9223372036854775808", YAML_C_NOT_INTEGER, 1, 1},
+    {"[1,\n 1.0]", YAML_C_NOT_INTEGER, 2, 2},
+    {"[1,\n 1.0, 1e2]", YAML_C_NOT_INTEGER, 2, 2},
+    {"{\"a\": 1e2}", YAML_C_NOT_INTEGER, 1, 7},
+    {"[-0]", YAML_C_NOT_INTEGER, 1, 2},
+    {"[\"\303\251\", -0]", YAML_C_NOT_INTEGER, 1, 7},
+    {"[\"\303\251\", 0.5, 0.5]", YAML_C_NOT_INTEGER, 1, 7},
     /* Texts that aren't JSON are refused first. */
-    {"[0.5, nul]", YAML_NOT_JSON, 1, 7},
-    {"[\"\360\"]", YAML_NOT_JSON, 1, 3},
-    {"{\"a\": 1, \"a\": 2}", YAML_DUPLICATE_NAME, 1, 10},
-    {"{\"a\": 0.5, \"a\": 2}", YAML_DUPLICATE_NAME, 1, 12},
-    {"{\"a\": 1,\n \"\\u0061\": 2}", YAML_DUPLICATE_NAME, 2, 2},
+    {"[0.5, nul]", YAML_C_NOT_JSON, 1, 7},
+    {"[\"\360\"]", YAML_C_NOT_JSON, 1, 3},
+    {"{\"a\": 1, \"a\": 2}", YAML_C_DUPLICATE_NAME, 1, 10},
+    {"{\"a\": 0.5, \"a\": 2}", YAML_C_DUPLICATE_NAME, 1, 12},
+    {"{\"a\": 1,\n \"\\u0061\": 2}", YAML_C_DUPLICATE_NAME, 2, 2},
 };
 
 static void texts_of_json(void) {
@@ -311,10 +311,10 @@ static void texts_of_json(void) {
         expect_none(refused[row].text, refused[row].text, strlen(refused[row].text), refused[row].status, refused[row].line,
                     refused[row].column);
     memset(deep_text, '[', sizeof deep_text);
-    expect_none("deep", deep_text, sizeof deep_text, YAML_TOO_DEEP, 1, 1001);
+    expect_none("deep", deep_text, sizeof deep_text, YAML_C_TOO_DEEP, 1, 1001);
     settings = &allowing;
     expect_bytes("{\"a\": 1, \"\\u0061\": 2}", TWICE);
-    expect_none("a fraction, and a name twice", "{\"a\": 0.5, \"a\": 2}", 18, YAML_NOT_INTEGER, 1, 7);
+    expect_none("a fraction, and a name twice", "{\"a\": 0.5, \"a\": 2}", 18, YAML_C_NOT_INTEGER, 1, 7);
     settings = NULL;
 }
 
@@ -322,10 +322,10 @@ static void texts_of_json(void) {
 static void nothing(void) {
     int32_t got;
     memset(&result, 0xff, sizeof result);
-    got = yaml_canonical_from_json(NULL, 0, NULL, NULL, 0, &result);
-    tell("no text", got, got == YAML_NOT_JSON && reports(0, 1, 1));
-    got = yaml_canonical_from_json((const uint8_t *)"1", 1, NULL, NULL, 0, &result);
-    tell("no buffer", got, got == YAML_TOO_SMALL && reports(14, 0, 0));
+    got = yaml_c_canonical_from_json(NULL, 0, NULL, NULL, 0, &result);
+    tell("no text", got, got == YAML_C_NOT_JSON && reports(0, 1, 1));
+    got = yaml_c_canonical_from_json((const uint8_t *)"1", 1, NULL, NULL, 0, &result);
+    tell("no buffer", got, got == YAML_C_TOO_SMALL && reports(14, 0, 0));
 }
 
 int main(void) {
@@ -337,8 +337,8 @@ int main(void) {
     texts_of_json();
     nothing();
     memset(&result, 0xff, sizeof result);
-    got = yaml_is_canonical(NULL, 0, NULL, &result);
-    tell("no bytes", got, got == YAML_NOT_CANONICAL && reports(0, 1, 1));
+    got = yaml_c_is_canonical(NULL, 0, NULL, &result);
+    tell("no bytes", got, got == YAML_C_NOT_CANONICAL && reports(0, 1, 1));
     deep();
     printf("%d calls, %d not as written\n", calls, failures);
     return failures != 0;

@@ -1,4 +1,4 @@
-/* Calls of yaml_is_canonical and yaml_canonical_from_json over values that nest as deep as they may, each in a stack of its own of 64 KB, which
+/* Calls of yaml_c_is_canonical and yaml_c_canonical_from_json over values that nest as deep as they may, each in a stack of its own of 64 KB, which
  * the header names. Prints a line for each that isn't as the header says, or that writes below its stack. (`canonical.c` has values that nest
  * too deep.) */
 #define _XOPEN_SOURCE 700
@@ -32,10 +32,10 @@ static struct yaml_c_result result;
 static int32_t status;
 static int calls, failures;
 
-static void check_bytes(void) { status = yaml_is_canonical(bytes, length, settings, &result); }
+static void check_bytes(void) { status = yaml_c_is_canonical(bytes, length, settings, &result); }
 
 static void make_bytes(void) {
-    status = yaml_canonical_from_json((const uint8_t *)text, strlen(text), settings, out, sizeof out, &result);
+    status = yaml_c_canonical_from_json((const uint8_t *)text, strlen(text), settings, out, sizeof out, &result);
 }
 
 /* Makes a call in the stack. Returns whether nothing below it was written. */
@@ -66,7 +66,7 @@ static void expect_done(const char *name, void (*call)(void), size_t wanted) {
     memset(&result, 0xff, sizeof result);
     fits = called(call);
     calls++;
-    if (fits && status == YAML_DONE && result.length == wanted && !result.event && !result.line && !result.column && !result.error) return;
+    if (fits && status == YAML_C_DONE && result.length == wanted && !result.event && !result.line && !result.column && !result.error) return;
     failures++;
     printf("%s: status %d, line %lu, column %lu%s\n", name, (int)status, (unsigned long)result.line, (unsigned long)result.column,
            fits ? "" : ", and more stack than there is");

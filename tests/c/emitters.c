@@ -38,18 +38,18 @@ static void give(uint32_t kind, const char *text, int32_t status, uint32_t error
 }
 
 static void begin(void) {
-    make("a new emitter", YAML_DONE);
-    give(YAML_C_STREAM_START, "", YAML_DONE, 0);
-    give(YAML_C_DOCUMENT_START, "", YAML_DONE, 0);
+    make("a new emitter", YAML_C_DONE);
+    give(YAML_C_STREAM_START, "", YAML_C_DONE, 0);
+    give(YAML_C_DOCUMENT_START, "", YAML_C_DONE, 0);
 }
 
-/* Takes the output into a buffer of `capacity` bytes: these bytes, or with YAML_TOO_SMALL only their number. */
+/* Takes the output into a buffer of `capacity` bytes: these bytes, or with YAML_C_TOO_SMALL only their number. */
 static void take(const char *name, size_t capacity, const char *bytes) {
     uint8_t out[128];
     size_t i, length = strlen(bytes), written = length <= capacity ? length : 0;
     memset(out, 0xa5, sizeof out);
     memset(&result, 0xff, sizeof result);
-    check(name, yaml_c_emitter_take_output(emitter, out, capacity, &result), length <= capacity ? YAML_DONE : YAML_TOO_SMALL, length, 0);
+    check(name, yaml_c_emitter_take_output(emitter, out, capacity, &result), length <= capacity ? YAML_C_DONE : YAML_C_TOO_SMALL, length, 0);
     for (i = written; i < sizeof out && out[i] == 0xa5; i++) {}
     if (i == sizeof out && memcmp(out, bytes, written) == 0) return;
     failures++;
@@ -64,20 +64,20 @@ static void flush(int32_t status, uint32_t error) {
 static void written(void) {
     begin();
     take("nothing is written", 0, "");
-    give(YAML_C_SEQUENCE_START, "", YAML_DONE, 0);
-    give(YAML_C_SCALAR, "one", YAML_DONE, 0);
-    give(YAML_C_SCALAR, "two", YAML_DONE, 0);
+    give(YAML_C_SEQUENCE_START, "", YAML_C_DONE, 0);
+    give(YAML_C_SCALAR, "one", YAML_C_DONE, 0);
+    give(YAML_C_SCALAR, "two", YAML_C_DONE, 0);
     take("nothing is flushed", 128, "");
-    flush(YAML_DONE, 0);
+    flush(YAML_C_DONE, 0);
     take("one byte too few", 10, "- one\n- two");
     take("just enough", 11, "- one\n- two");
     take("nothing is left", 0, "");
-    give(YAML_C_SCALAR, "three", YAML_DONE, 0);
-    give(YAML_C_SEQUENCE_END, "", YAML_DONE, 0);
-    give(YAML_C_DOCUMENT_END, "", YAML_DONE, 0);
-    give(YAML_C_STREAM_END, "", YAML_DONE, 0);
+    give(YAML_C_SCALAR, "three", YAML_C_DONE, 0);
+    give(YAML_C_SEQUENCE_END, "", YAML_C_DONE, 0);
+    give(YAML_C_DOCUMENT_END, "", YAML_C_DONE, 0);
+    give(YAML_C_STREAM_END, "", YAML_C_DONE, 0);
     take("the rest", 128, "\n- three\n");
-    give(YAML_C_SCALAR, "late", YAML_REFUSED, YAML_EXPECTED_NOTHING);
+    give(YAML_C_SCALAR, "late", YAML_C_REFUSED, YAML_C_EXPECTED_NOTHING);
     yaml_c_emitter_delete(emitter);
 }
 
@@ -101,51 +101,51 @@ static void named(void) {
     city.tag.length = 15;
     city.value.start = 31;
     city.value.length = 4;
-    make("a new emitter", YAML_DONE);
-    give(YAML_C_STREAM_START, "", YAML_DONE, 0);
-    check("a start", yaml_c_emitter_emit(emitter, &start, directives, 1, (const uint8_t *)texts, sizeof texts - 1, &result), YAML_DONE, 0, 0);
-    check("a city", yaml_c_emitter_emit(emitter, &city, directives, 0, (const uint8_t *)texts, sizeof texts - 1, &result), YAML_DONE, 0, 0);
+    make("a new emitter", YAML_C_DONE);
+    give(YAML_C_STREAM_START, "", YAML_C_DONE, 0);
+    check("a start", yaml_c_emitter_emit(emitter, &start, directives, 1, (const uint8_t *)texts, sizeof texts - 1, &result), YAML_C_DONE, 0, 0);
+    check("a city", yaml_c_emitter_emit(emitter, &city, directives, 0, (const uint8_t *)texts, sizeof texts - 1, &result), YAML_C_DONE, 0, 0);
     city.value.length = 5;
     check("a text past the arena", yaml_c_emitter_emit(emitter, &city, directives, 0, (const uint8_t *)texts, sizeof texts - 1, &result),
-          YAML_BAD_EVENT, 0, 0);
-    give(YAML_C_DOCUMENT_END, "", YAML_DONE, 0);
+          YAML_C_BAD_EVENT, 0, 0);
+    give(YAML_C_DOCUMENT_END, "", YAML_C_DONE, 0);
     take("a document", 128, "%YAML 1.1\n%TAG !e! tag:e,2000:\n--- &a1 !e!city Oslo\n");
     yaml_c_emitter_delete(emitter);
 }
 
 static void refused(void) {
     begin();
-    give(11, "", YAML_BAD_EVENT, 0);
-    give(YAML_C_SCALAR, "\xff", YAML_BAD_EVENT, 0);
-    give(YAML_C_SCALAR, "one", YAML_DONE, 0);
-    give(YAML_C_DOCUMENT_END, "", YAML_DONE, 0);
-    give(YAML_C_SCALAR, "two", YAML_REFUSED, YAML_EXPECTED_DOCUMENT_START);
-    give(YAML_C_DOCUMENT_START, "", YAML_REFUSED, YAML_EXPECTED_DOCUMENT_START);
-    give(11, "", YAML_BAD_EVENT, 0);
-    give(YAML_C_SCALAR, "\xff", YAML_BAD_EVENT, 0);
-    give(YAML_C_SCALAR, "two", YAML_REFUSED, YAML_EXPECTED_DOCUMENT_START);
-    flush(YAML_REFUSED, YAML_EXPECTED_DOCUMENT_START);
+    give(11, "", YAML_C_BAD_EVENT, 0);
+    give(YAML_C_SCALAR, "\xff", YAML_C_BAD_EVENT, 0);
+    give(YAML_C_SCALAR, "one", YAML_C_DONE, 0);
+    give(YAML_C_DOCUMENT_END, "", YAML_C_DONE, 0);
+    give(YAML_C_SCALAR, "two", YAML_C_REFUSED, YAML_C_EXPECTED_DOCUMENT_START);
+    give(YAML_C_DOCUMENT_START, "", YAML_C_REFUSED, YAML_C_EXPECTED_DOCUMENT_START);
+    give(11, "", YAML_C_BAD_EVENT, 0);
+    give(YAML_C_SCALAR, "\xff", YAML_C_BAD_EVENT, 0);
+    give(YAML_C_SCALAR, "two", YAML_C_REFUSED, YAML_C_EXPECTED_DOCUMENT_START);
+    flush(YAML_C_REFUSED, YAML_C_EXPECTED_DOCUMENT_START);
     take("the output before the refused event", 128, "one\n");
     yaml_c_emitter_delete(emitter);
 }
 
 static void set(void) {
     settings.encoding = 4;
-    make("an unknown encoding", YAML_BAD_SETTINGS);
+    make("an unknown encoding", YAML_C_BAD_SETTINGS);
     settings.encoding = 0;
     settings.line_break = YAML_C_CRLF;
     settings.limit = 5;
     settings.skip = 2; /* not read */
     begin();
-    give(YAML_C_SCALAR, "one", YAML_DONE, 0);
-    give(YAML_C_DOCUMENT_END, "", YAML_DONE, 0);
+    give(YAML_C_SCALAR, "one", YAML_C_DONE, 0);
+    give(YAML_C_DOCUMENT_END, "", YAML_C_DONE, 0);
     take("CR and LF", 5, "one\r\n");
-    give(YAML_C_STREAM_END, "", YAML_DONE, 0);
+    give(YAML_C_STREAM_END, "", YAML_C_DONE, 0);
     yaml_c_emitter_delete(emitter);
     settings.limit = 4;
     begin();
-    give(YAML_C_SCALAR, "one", YAML_DONE, 0);
-    give(YAML_C_DOCUMENT_END, "", YAML_REFUSED, YAML_PAST_LIMIT);
+    give(YAML_C_SCALAR, "one", YAML_C_DONE, 0);
+    give(YAML_C_DOCUMENT_END, "", YAML_C_REFUSED, YAML_C_PAST_LIMIT);
     take("up to the limit", 128, "one\r");
     yaml_c_emitter_delete(emitter);
     memset(&settings, 0, sizeof settings);
@@ -158,7 +158,7 @@ static void typed(void) {
     static const char *const values[] = {"yes", "a", "3", "0x1F", "08", "true", "null", "no", "no"};
     size_t i;
     begin();
-    give(YAML_C_SEQUENCE_START, "", YAML_DONE, 0);
+    give(YAML_C_SEQUENCE_START, "", YAML_C_DONE, 0);
     for (i = 0; i < sizeof values / sizeof values[0]; i++) {
         struct yaml_c_event event;
         char texts[64];
@@ -169,10 +169,10 @@ static void typed(void) {
         event.has_tag = tags[i] != NULL;
         event.tag.length = event.value.start = strlen(texts) - strlen(values[i]);
         event.value.length = strlen(values[i]);
-        check(values[i], yaml_c_emitter_emit(emitter, &event, directives, 0, (const uint8_t *)texts, strlen(texts), &result), YAML_DONE, 0, 0);
+        check(values[i], yaml_c_emitter_emit(emitter, &event, directives, 0, (const uint8_t *)texts, strlen(texts), &result), YAML_C_DONE, 0, 0);
     }
-    give(YAML_C_SEQUENCE_END, "", YAML_DONE, 0);
-    give(YAML_C_DOCUMENT_END, "", YAML_DONE, 0);
+    give(YAML_C_SEQUENCE_END, "", YAML_C_DONE, 0);
+    give(YAML_C_DOCUMENT_END, "", YAML_C_DONE, 0);
     take("types", 128, "- 'yes'\n- a\n- 3\n- 0x1F\n- !!int 08\n- true\n- null\n- !t no\n- no\n");
     yaml_c_emitter_delete(emitter);
 }
@@ -180,15 +180,15 @@ static void typed(void) {
 /* Two emitters, by turns. */
 static void two(void) {
     begin();
-    give(YAML_C_SCALAR, "first", YAML_DONE, 0);
+    give(YAML_C_SCALAR, "first", YAML_C_DONE, 0);
     emitter = &kept[1];
     begin();
-    give(YAML_C_SCALAR, "second", YAML_DONE, 0);
-    give(YAML_C_DOCUMENT_END, "", YAML_DONE, 0);
+    give(YAML_C_SCALAR, "second", YAML_C_DONE, 0);
+    give(YAML_C_DOCUMENT_END, "", YAML_C_DONE, 0);
     take("the second", 128, "second\n");
     yaml_c_emitter_delete(emitter);
     emitter = &kept[0];
-    give(YAML_C_DOCUMENT_END, "", YAML_DONE, 0);
+    give(YAML_C_DOCUMENT_END, "", YAML_C_DONE, 0);
     take("the first", 128, "first\n");
     yaml_c_emitter_delete(emitter);
 }
@@ -201,15 +201,15 @@ static void nulls(void) {
     memset(&result, 0, sizeof result);
     start.kind = YAML_C_STREAM_START;
     item.kind = YAML_C_ALIAS;
-    check("no settings", yaml_c_emitter_new(NULL, emitter), YAML_DONE, 0, 0);
-    check("no arrays", yaml_c_emitter_emit(emitter, &start, NULL, 0, NULL, 0, &result), YAML_DONE, 0, 0);
-    check("no room, and none needed", yaml_c_emitter_take_output(emitter, NULL, 0, &result), YAML_DONE, 0, 0);
-    give(YAML_C_DOCUMENT_START, "", YAML_DONE, 0);
-    give(YAML_C_SCALAR, "one", YAML_DONE, 0);
-    give(YAML_C_DOCUMENT_END, "", YAML_DONE, 0);
-    check("no room", yaml_c_emitter_take_output(emitter, NULL, 0, &result), YAML_TOO_SMALL, 4, 0);
+    check("no settings", yaml_c_emitter_new(NULL, emitter), YAML_C_DONE, 0, 0);
+    check("no arrays", yaml_c_emitter_emit(emitter, &start, NULL, 0, NULL, 0, &result), YAML_C_DONE, 0, 0);
+    check("no room, and none needed", yaml_c_emitter_take_output(emitter, NULL, 0, &result), YAML_C_DONE, 0, 0);
+    give(YAML_C_DOCUMENT_START, "", YAML_C_DONE, 0);
+    give(YAML_C_SCALAR, "one", YAML_C_DONE, 0);
+    give(YAML_C_DOCUMENT_END, "", YAML_C_DONE, 0);
+    check("no room", yaml_c_emitter_take_output(emitter, NULL, 0, &result), YAML_C_TOO_SMALL, 4, 0);
     item.anchor.length = 1;
-    check("a text of none", yaml_c_emitter_emit(emitter, &item, NULL, 0, NULL, 0, &result), YAML_BAD_EVENT, 0, 0);
+    check("a text of none", yaml_c_emitter_emit(emitter, &item, NULL, 0, NULL, 0, &result), YAML_C_BAD_EVENT, 0, 0);
     take("what didn't fit", 4, "one\n");
     yaml_c_emitter_delete(emitter);
 }
@@ -231,30 +231,30 @@ static void give_json(const char *text, int32_t status, uint32_t line, uint32_t 
 static void json(void) {
     settings = yaml_c_settings_for_values();
     begin();
-    give(YAML_C_MAPPING_START, "", YAML_DONE, 0);
-    give(YAML_C_SCALAR, "a", YAML_DONE, 0);
-    give_json("[\"no\", 1e5]", YAML_DONE, 0, 0);
-    give(YAML_C_SCALAR, "b", YAML_DONE, 0);
-    give_json("\xff", YAML_NOT_JSON, 1, 1);
-    give_json("{\"c\": true}", YAML_DONE, 0, 0);
-    give(YAML_C_MAPPING_END, "", YAML_DONE, 0);
-    give(YAML_C_DOCUMENT_END, "", YAML_DONE, 0);
+    give(YAML_C_MAPPING_START, "", YAML_C_DONE, 0);
+    give(YAML_C_SCALAR, "a", YAML_C_DONE, 0);
+    give_json("[\"no\", 1e5]", YAML_C_DONE, 0, 0);
+    give(YAML_C_SCALAR, "b", YAML_C_DONE, 0);
+    give_json("\xff", YAML_C_NOT_JSON, 1, 1);
+    give_json("{\"c\": true}", YAML_C_DONE, 0, 0);
+    give(YAML_C_MAPPING_END, "", YAML_C_DONE, 0);
+    give(YAML_C_DOCUMENT_END, "", YAML_C_DONE, 0);
     take("JSON among events", 128, "---\na:\n  - 'no'\n  - 1.0e+5\nb:\n  c: true\n");
-    give(YAML_C_DOCUMENT_START, "", YAML_DONE, 0);
-    give_json("[1, [2], [[", YAML_TOO_DEEP, 1, 11);
+    give(YAML_C_DOCUMENT_START, "", YAML_C_DONE, 0);
+    give_json("[1, [2], [[", YAML_C_TOO_DEEP, 1, 11);
     take("nothing of it is flushed", 0, "");
     yaml_c_emitter_delete(emitter);
     begin();
-    give_json("{\"a\": 1,\n \"a\": 2}", YAML_DUPLICATE_NAME, 2, 2);
+    give_json("{\"a\": 1,\n \"a\": 2}", YAML_C_DUPLICATE_NAME, 2, 2);
     yaml_c_emitter_delete(emitter);
     begin();
-    give_json("", YAML_NOT_JSON, 1, 1);
+    give_json("", YAML_C_NOT_JSON, 1, 1);
     yaml_c_emitter_delete(emitter);
     memset(&settings, 0, sizeof settings);
     settings.canonical = 1;
     begin();
-    give_json("[1, null]", YAML_DONE, 0, 0);
-    give(YAML_C_DOCUMENT_END, "", YAML_DONE, 0);
+    give_json("[1, null]", YAML_C_DONE, 0, 0);
+    give(YAML_C_DOCUMENT_END, "", YAML_C_DONE, 0);
     take("with all tags", 128, "---\n[\n  !!int \"1\",\n  !!null \"null\",\n]\n");
     yaml_c_emitter_delete(emitter);
     memset(&settings, 0, sizeof settings);

@@ -68,25 +68,25 @@ static void fill(void) {
 static int32_t emit(size_t capacity) {
     static struct yaml_c_settings settings;
     settings.width = -1;
-    return yaml_emit(events, count, directives, 1, (const uint8_t *)texts, sizeof texts - 1, &settings, out, capacity, &result);
+    return yaml_c_emit(events, count, directives, 1, (const uint8_t *)texts, sizeof texts - 1, &settings, out, capacity, &result);
 }
 
 static int32_t run(size_t capacity) {
     static const char script[] =
         "+STR any\n+DOC 1 -\n+SEQ any 1 - -\n=VAL any 1 1 - - \"first\"\n=VAL any 1 1 - - \"" LETTERS LETTERS "\"\n-SEQ\n-DOC 1\n-STR\n";
-    return yaml_run((const uint8_t *)script, sizeof script - 1, out, capacity, &result);
+    return yaml_c_run((const uint8_t *)script, sizeof script - 1, out, capacity, &result);
 }
 
 static int32_t from_json(size_t capacity) {
     static const struct yaml_c_json_settings settings = {{0, 0, 0, 0, 0, 0, 0, 0, 0, 0, 0}, 0};
     static const char text[] = "{\"first\": [1, {\"a\\tb\": \"" LETTERS "\"}], \"second\": \"" LETTERS LETTERS "\"}";
-    return yaml_from_json((const uint8_t *)text, sizeof text - 1, &settings, out, capacity, &result);
+    return yaml_c_from_json((const uint8_t *)text, sizeof text - 1, &settings, out, capacity, &result);
 }
 
 static int32_t from_toml(size_t capacity) {
     static const struct yaml_c_value_settings settings = {0, 0, 0, 0, 0, 0, 0, 0, 0, 0, 0};
     static const char text[] = "first = [1, {\"a\\tb\" = \"" LETTERS "\"}]\n[second]\nthird.fourth = \"" LETTERS LETTERS "\"\n";
-    return yaml_from_toml((const uint8_t *)text, sizeof text - 1, &settings, out, capacity, &result);
+    return yaml_c_from_toml((const uint8_t *)text, sizeof text - 1, &settings, out, capacity, &result);
 }
 
 /* A map with a list and a map as keys. */
@@ -96,13 +96,13 @@ static int32_t is_canonical(size_t capacity) {
         "---\n!!map {\n  ? !!seq [\n    !!int \"1\",\n  ]\n  : !!null \"null\",\n  ? !!map {\n    ? !!str \"" LETTERS "\"\n    : !!int \"1\",\n  }\n"
         "  : !!str \"a\\tb\",\n}\n";
     (void)capacity;
-    return yaml_is_canonical((const uint8_t *)bytes, sizeof bytes - 1, &settings, &result);
+    return yaml_c_is_canonical((const uint8_t *)bytes, sizeof bytes - 1, &settings, &result);
 }
 
 static int32_t canonical_from_json(size_t capacity) {
     static const struct yaml_c_canonical_settings settings = {0};
     static const char text[] = "{\"first\": [1, {\"a\\tb\": \"" LETTERS "\"}], \"second\": \"" LETTERS LETTERS "\"}";
-    return yaml_canonical_from_json((const uint8_t *)text, sizeof text - 1, &settings, out, capacity, &result);
+    return yaml_c_canonical_from_json((const uint8_t *)text, sizeof text - 1, &settings, out, capacity, &result);
 }
 
 static int32_t give_kind(struct yaml_c_emitter *kept, uint32_t kind) {
@@ -120,24 +120,24 @@ static int32_t json_in_stream(size_t capacity) {
     struct yaml_c_settings settings = yaml_c_settings_for_values();
     int32_t status = yaml_c_emitter_new(&settings, &kept);
     memset(&result, 0, sizeof result);
-    if (status != YAML_DONE) return status;
+    if (status != YAML_C_DONE) return status;
     status = give_kind(&kept, YAML_C_STREAM_START);
-    if (status == YAML_DONE) status = give_kind(&kept, YAML_C_DOCUMENT_START);
-    if (status == YAML_DONE) status = yaml_c_emitter_emit_json(&kept, (const uint8_t *)text, sizeof text - 1, NULL, &result);
-    if (status == YAML_DONE) status = give_kind(&kept, YAML_C_DOCUMENT_END);
-    if (status == YAML_DONE) status = give_kind(&kept, YAML_C_STREAM_END);
-    if (status == YAML_DONE) status = yaml_c_emitter_take_output(&kept, out, capacity, &result);
+    if (status == YAML_C_DONE) status = give_kind(&kept, YAML_C_DOCUMENT_START);
+    if (status == YAML_C_DONE) status = yaml_c_emitter_emit_json(&kept, (const uint8_t *)text, sizeof text - 1, NULL, &result);
+    if (status == YAML_C_DONE) status = give_kind(&kept, YAML_C_DOCUMENT_END);
+    if (status == YAML_C_DONE) status = give_kind(&kept, YAML_C_STREAM_END);
+    if (status == YAML_C_DONE) status = yaml_c_emitter_take_output(&kept, out, capacity, &result);
     yaml_c_emitter_delete(&kept);
     return status;
 }
 
-/* Whether nothing is reported of a call that memory ran out for, but of yaml_emit the event, none before `event`; and the buffer is as
+/* Whether nothing is reported of a call that memory ran out for, but of yaml_c_emit the event, none before `event`; and the buffer is as
  * it was. */
 static int says_nothing_else(uint64_t event) {
     size_t i;
     for (i = 0; i < sizeof out && out[i] == 0xa5; i++) {}
     return i == sizeof out && result.length == 0 && result.line == 0 && result.column == 0
-        && (result.error == 0 ? result.event == 0 && event == 0 : result.error == YAML_EMITTER_NO_MEMORY && result.event >= event && result.event < count);
+        && (result.error == 0 ? result.event == 0 && event == 0 : result.error == YAML_C_EMITTER_NO_MEMORY && result.event >= event && result.event < count);
 }
 
 /* Refuses the first growth of a call, then the second, and so on, until none is left to refuse. Returns the last event that is reported. */
@@ -147,7 +147,7 @@ static uint64_t refuse_each(const char *name, int32_t (*call)(size_t capacity)) 
     size_t length;
     int32_t status;
     refused_at = 0;
-    if (call(sizeof out) != YAML_DONE) fail(name, "not done");
+    if (call(sizeof out) != YAML_C_DONE) fail(name, "not done");
     memcpy(whole, out, sizeof out);
     length = result.length;
     for (refused_at = 1;; refused_at++) {
@@ -157,13 +157,13 @@ static uint64_t refuse_each(const char *name, int32_t (*call)(size_t capacity)) 
         status = call(sizeof out);
         if (blocks != 0) fail(name, "a block is left");
         if (growths < refused_at) break;
-        if (status != YAML_NO_MEMORY) fail(name, "another status");
+        if (status != YAML_C_NO_MEMORY) fail(name, "another status");
         if (!says_nothing_else(event)) fail(name, "something else is reported or written");
         if (call != emit && call != json_in_stream && result.error != 0) fail(name, "an error is reported");
         event = result.event;
     }
     if (refused_at < 3) fail(name, "too few allocations");
-    if (status != YAML_DONE || result.length != length || memcmp(out, whole, length) != 0) fail(name, "other YAML although none is refused");
+    if (status != YAML_C_DONE || result.length != length || memcmp(out, whole, length) != 0) fail(name, "other YAML although none is refused");
     return event;
 }
 
@@ -177,14 +177,14 @@ static size_t taken_length;
 static int refused_new, refused_texts, refused_events, refused_flushes;
 
 static void take(void) {
-    if (yaml_c_emitter_take_output(&emitter, taken + taken_length, sizeof taken - taken_length, &result) != YAML_DONE)
+    if (yaml_c_emitter_take_output(&emitter, taken + taken_length, sizeof taken - taken_length, &result) != YAML_C_DONE)
         fail("a kept emitter", "its output isn't taken");
     taken_length += result.length;
 }
 
-/* The status of a call, which reports nothing but an error with YAML_NO_MEMORY. */
+/* The status of a call, which reports nothing but an error with YAML_C_NO_MEMORY. */
 static int32_t reported(int32_t status) {
-    int has_error = result.error == YAML_EMITTER_NO_MEMORY && status == YAML_NO_MEMORY;
+    int has_error = result.error == YAML_C_EMITTER_NO_MEMORY && status == YAML_C_NO_MEMORY;
     if (result.length || result.event || result.line || result.column || (result.error && !has_error)) fail("a kept emitter", "something else is reported");
     return status;
 }
@@ -205,8 +205,8 @@ static void expect_ended(void) {
     take();
     length = taken_length;
     for (i = 0; i < count; i++)
-        if (give(i) != YAML_NO_MEMORY) fail("a kept emitter", "it goes on after an error");
-    if (flush() != YAML_NO_MEMORY || result.error != YAML_EMITTER_NO_MEMORY) fail("a kept emitter", "it flushes after an error");
+        if (give(i) != YAML_C_NO_MEMORY) fail("a kept emitter", "it goes on after an error");
+    if (flush() != YAML_C_NO_MEMORY || result.error != YAML_C_EMITTER_NO_MEMORY) fail("a kept emitter", "it flushes after an error");
     take();
     if (taken_length != length) fail("a kept emitter", "it writes after an error");
 }
@@ -216,16 +216,16 @@ static int give_all(int flushes) {
     size_t i;
     for (i = 0; i < count; i++) {
         int32_t status = give(i);
-        if (status == YAML_NO_MEMORY && result.error == 0) {
+        if (status == YAML_C_NO_MEMORY && result.error == 0) {
             refused_texts++;
             status = give(i);
         }
-        if (status != YAML_DONE) {
-            if (status != YAML_NO_MEMORY) fail("a kept emitter", "another status");
+        if (status != YAML_C_DONE) {
+            if (status != YAML_C_NO_MEMORY) fail("a kept emitter", "another status");
             refused_events++;
             return 0;
         }
-        if (flushes && flush() != YAML_DONE) {
+        if (flushes && flush() != YAML_C_DONE) {
             size_t length = taken_length;
             refused_flushes++;
             take();
@@ -245,7 +245,7 @@ static void refuse_each_of_kept(int flushes, const uint8_t *whole, size_t length
     for (refused_at = 1;; refused_at++) {
         growths = taken_length = 0;
         made = yaml_c_emitter_new(&settings, &emitter);
-        if (made == YAML_DONE) {
+        if (made == YAML_C_DONE) {
             int is_whole = give_all(flushes);
             if (!is_whole) expect_ended();
             take();
@@ -254,7 +254,7 @@ static void refuse_each_of_kept(int flushes, const uint8_t *whole, size_t length
             yaml_c_emitter_delete(&emitter);
         } else {
             refused_new++;
-            if (made != YAML_NO_MEMORY) fail("a new emitter", "another status");
+            if (made != YAML_C_NO_MEMORY) fail("a new emitter", "another status");
         }
         if (blocks != 0) fail("a kept emitter", "a block is left");
         if (growths < refused_at) break;
@@ -264,11 +264,11 @@ static void refuse_each_of_kept(int flushes, const uint8_t *whole, size_t length
 /* Expects that an emitter has failed for good: each call tells it. */
 static void expect_failed(struct yaml_c_emitter *kept) {
     const char *name = "yaml_c_emitter_emit_json, after a refusal within the text";
-    if (yaml_c_emitter_emit_json(kept, (const uint8_t *)"1", 1, NULL, &result) != YAML_NO_MEMORY || result.error != YAML_EMITTER_NO_MEMORY)
+    if (yaml_c_emitter_emit_json(kept, (const uint8_t *)"1", 1, NULL, &result) != YAML_C_NO_MEMORY || result.error != YAML_C_EMITTER_NO_MEMORY)
         fail(name, "another text is taken");
-    if (give_kind(kept, YAML_C_DOCUMENT_END) != YAML_NO_MEMORY || result.error != YAML_EMITTER_NO_MEMORY) fail(name, "an event is taken");
-    if (yaml_c_emitter_flush(kept, &result) != YAML_NO_MEMORY || result.error != YAML_EMITTER_NO_MEMORY) fail(name, "it is flushed");
-    if (yaml_c_emitter_take_output(kept, out, sizeof out, &result) != YAML_DONE || result.length != 0) fail(name, "there is output");
+    if (give_kind(kept, YAML_C_DOCUMENT_END) != YAML_C_NO_MEMORY || result.error != YAML_C_EMITTER_NO_MEMORY) fail(name, "an event is taken");
+    if (yaml_c_emitter_flush(kept, &result) != YAML_C_NO_MEMORY || result.error != YAML_C_EMITTER_NO_MEMORY) fail(name, "it is flushed");
+    if (yaml_c_emitter_take_output(kept, out, sizeof out, &result) != YAML_C_DONE || result.length != 0) fail(name, "there is output");
 }
 
 /* Gives the emitter a text, which may follow the start of a list. */
@@ -279,17 +279,17 @@ static int32_t give_json(struct yaml_c_emitter *kept, const char *text) {
 
 /* Begins a document, and in it a list if that is asked for. */
 static int begin_document(struct yaml_c_emitter *kept, int in_list) {
-    return give_kind(kept, YAML_C_STREAM_START) == YAML_DONE && give_kind(kept, YAML_C_DOCUMENT_START) == YAML_DONE
-        && (!in_list || give_kind(kept, YAML_C_SEQUENCE_START) == YAML_DONE);
+    return give_kind(kept, YAML_C_STREAM_START) == YAML_C_DONE && give_kind(kept, YAML_C_DOCUMENT_START) == YAML_C_DONE
+        && (!in_list || give_kind(kept, YAML_C_SEQUENCE_START) == YAML_C_DONE);
 }
 
 /* Ends the document, unless that is refused its memory, and takes its YAML. Returns whether it is ended. */
 static int end_document(struct yaml_c_emitter *kept, const char *text, int in_list) {
-    if ((in_list && give_kind(kept, YAML_C_SEQUENCE_END) != YAML_DONE) || give_kind(kept, YAML_C_DOCUMENT_END) != YAML_DONE) {
-        if (growths < refused_at || result.error != YAML_EMITTER_NO_MEMORY) fail(text, "its document isn't ended");
+    if ((in_list && give_kind(kept, YAML_C_SEQUENCE_END) != YAML_C_DONE) || give_kind(kept, YAML_C_DOCUMENT_END) != YAML_C_DONE) {
+        if (growths < refused_at || result.error != YAML_C_EMITTER_NO_MEMORY) fail(text, "its document isn't ended");
         return 0;
     }
-    if (yaml_c_emitter_take_output(kept, out, sizeof out, &result) != YAML_DONE) fail(text, "its YAML isn't taken");
+    if (yaml_c_emitter_take_output(kept, out, sizeof out, &result) != YAML_C_DONE) fail(text, "its YAML isn't taken");
     return 1;
 }
 
@@ -303,18 +303,18 @@ static void refuse_each_of_text(const char *text, int in_list, int *again, int *
     *again = *failed = 0;
     for (refused_at = 0;; refused_at++) {
         growths = 0;
-        if (yaml_c_emitter_new(&settings, &kept) != YAML_DONE) continue;
+        if (yaml_c_emitter_new(&settings, &kept) != YAML_C_DONE) continue;
         if (begin_document(&kept, in_list)) {
             int32_t status = give_json(&kept, text);
-            if (status == YAML_NO_MEMORY && result.error == 0) {
+            if (status == YAML_C_NO_MEMORY && result.error == 0) {
                 ++*again;
                 status = give_json(&kept, text);
-                if (status != YAML_DONE) fail(text, "it isn't written although memory ran out before");
+                if (status != YAML_C_DONE) fail(text, "it isn't written although memory ran out before");
             }
-            if (status == YAML_NO_MEMORY) {
+            if (status == YAML_C_NO_MEMORY) {
                 ++*failed;
                 expect_failed(&kept);
-            } else if (status != YAML_DONE) {
+            } else if (status != YAML_C_DONE) {
                 fail(text, "another status");
             } else if (end_document(&kept, text, in_list)) {
                 if (refused_at == 0) memcpy(whole, out, length = result.length);
@@ -345,22 +345,73 @@ static void refuse_each_of_texts(void) {
     }
 }
 
+/* ---- values */
+
+/* Makes the call of this number, of those that write a mapping. */
+static int32_t give_value(struct yaml_c_emitter *kept, int number) {
+    memset(&result, 0xff, sizeof result);
+    switch (number) {
+    case 0: return yaml_c_emitter_begin_mapping(kept, YAML_C_BLOCK, &result);
+    case 1: return yaml_c_emitter_string(kept, "a", &result);
+    case 2: return yaml_c_emitter_begin_sequence(kept, YAML_C_BLOCK, &result);
+    case 3: return yaml_c_emitter_double(kept, 1e21, &result);
+    case 4: return yaml_c_emitter_string(kept, LETTERS, &result);
+    case 5: case 6: return yaml_c_emitter_end(kept, &result);
+    default: return yaml_c_emitter_finish(kept, &result);
+    }
+}
+
+/* Refuses each growth of these calls in turn. Without an error a call is made again, and the YAML is whole; with one the emitter has failed. */
+static void refuse_each_of_values(void) {
+    static const char yaml[] = "---\na:\n  - 1.0e+21\n  - " LETTERS "\n";
+    struct yaml_c_settings settings = yaml_c_settings_for_values();
+    struct yaml_c_emitter kept;
+    int again = 0, failed = 0;
+    for (refused_at = 1;; refused_at++) {
+        growths = 0;
+        if (yaml_c_emitter_new(&settings, &kept) == YAML_C_DONE) {
+            int32_t status = YAML_C_DONE;
+            int number;
+            for (number = 0; number < 8 && status == YAML_C_DONE; number++) {
+                status = give_value(&kept, number);
+                if (status != YAML_C_NO_MEMORY || result.error != 0) continue;
+                again++;
+                status = give_value(&kept, number);
+            }
+            if (status == YAML_C_NO_MEMORY && result.error == YAML_C_EMITTER_NO_MEMORY) {
+                failed++;
+                if (give_value(&kept, 1) != YAML_C_NO_MEMORY || result.error != YAML_C_EMITTER_NO_MEMORY) fail("values", "another is taken");
+            } else if (status != YAML_C_DONE) {
+                fail("values", "another status");
+            } else if (yaml_c_emitter_take_output(&kept, out, sizeof out, &result) != YAML_C_DONE || result.length != sizeof yaml - 1
+                       || memcmp(out, yaml, sizeof yaml - 1) != 0) {
+                fail("values", "other YAML");
+            }
+            yaml_c_emitter_delete(&kept);
+        }
+        if (blocks != 0) fail("values", "a block is left");
+        if (growths < refused_at) break;
+    }
+    if (again == 0 || failed == 0) fail("values", "no growth of a call or of the emitter is refused");
+}
+
 int main(void) {
     static uint8_t whole[sizeof out];
     size_t length;
     fill();
-    if (refuse_each("yaml_emit", emit) == 0) fail("yaml_emit", "no event is reported");
+    if (refuse_each("yaml_c_emit", emit) == 0) fail("yaml_c_emit", "no event is reported");
     memcpy(whole, out, sizeof out);
     length = result.length;
     refuse_each_of_kept(0, whole, length);
     refuse_each_of_kept(1, whole, length);
-    refuse_each("yaml_run", run);
-    refuse_each("yaml_from_json", from_json);
-    refuse_each("yaml_from_toml", from_toml);
-    refuse_each("yaml_is_canonical", is_canonical);
-    refuse_each("yaml_canonical_from_json", canonical_from_json);
+    refuse_each("yaml_c_run", run);
+    refuse_each("yaml_c_from_json", from_json);
+    refuse_each("yaml_c_from_toml", from_toml);
+    refuse_each("yaml_c_is_canonical", is_canonical);
+    refuse_each("yaml_c_canonical_from_json", canonical_from_json);
     refuse_each("yaml_c_emitter_emit_json", json_in_stream);
     refuse_each_of_texts();
+    refuse_each_of_values();
     if (!refused_new || !refused_texts || !refused_events || !refused_flushes)
         printf("refused: %d new, %d texts, %d events, %d flushes\n", refused_new, refused_texts, refused_events, refused_flushes);
     printf("each allocation refused in turn: %d times not as written\n", failures);

@@ -1,4 +1,4 @@
-/* The scripts of tests/scripts/rows, run by yaml_run, and again with each allocation refused in turn; a line for each run that ends
+/* The scripts of tests/scripts/rows, run by yaml_c_run, and again with each allocation refused in turn; a line for each run that ends
  * otherwise than was worked out by hand. Linked with --wrap for malloc, realloc and free.
  *
  * Standard input has a record for each script, from `tests/scripts/rows/run --records`: a line with its length, the status, the line that is
@@ -26,7 +26,7 @@ static int32_t run(size_t length) {
     growths = 0;
     memset(out, 0xa5, sizeof out);
     memset(&result, 0xff, sizeof result);
-    status = yaml_run((const uint8_t *)script, length, out, sizeof out, &result);
+    status = yaml_c_run((const uint8_t *)script, length, out, sizeof out, &result);
     if (blocks != 0) fail("a block is left");
     return status;
 }
@@ -39,7 +39,7 @@ static int is_left(size_t from) {
 
 /* Expects the run of a script to end so. */
 static void expect(int32_t status, int32_t wanted_status, uint64_t line, size_t length) {
-    size_t written = wanted_status == YAML_DONE ? length : 0;
+    size_t written = wanted_status == YAML_C_DONE ? length : 0;
     if (status != wanted_status || result.line != line || result.length != written) fail("another status, line or length");
     if (memcmp(out, wanted, written) != 0 || !is_left(written)) fail("another output");
 }
@@ -52,7 +52,7 @@ static void check(size_t script_length, int32_t wanted_status, uint64_t line, si
     for (refused_at = 1;; refused_at++) {
         status = run(script_length);
         if (growths < refused_at) break;
-        expect(status, YAML_NO_MEMORY, 0, 0);
+        expect(status, YAML_C_NO_MEMORY, 0, 0);
     }
     expect(status, wanted_status, line, length);
 }

@@ -1,4 +1,4 @@
-/* The answers of yaml_is_canonical to texts on standard input, each after its length in bytes and a line break: two lines for each, with the line,
+/* The answers of yaml_c_is_canonical to texts on standard input, each after its length in bytes and a line break: two lines for each, with the line,
  * the column and the words of the status. For the first line keys must differ, for the second they may repeat. */
 #include <stdio.h>
 #include <stdlib.h>
@@ -12,9 +12,9 @@ static void check(const uint8_t *bytes, size_t length, uint32_t allow_duplicates
     int32_t status;
     settings.allow_duplicates = allow_duplicates;
     memset(&result, 0xff, sizeof result);
-    status = yaml_is_canonical(bytes, length, &settings, &result);
+    status = yaml_c_is_canonical(bytes, length, &settings, &result);
     printf("%lu %lu %s\n", (unsigned long)result.line, (unsigned long)result.column,
-           result.length || result.event || result.error ? "not a place alone" : yaml_status_text(status));
+           result.length || result.event || result.error ? "not a place alone" : yaml_c_status_text(status));
 }
 
 int main(void) {

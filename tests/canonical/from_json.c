@@ -1,4 +1,4 @@
-/* The results of yaml_canonical_from_json for texts on standard input, each after its length in bytes and a line break: two for each, a line with the
+/* The results of yaml_c_canonical_from_json for texts on standard input, each after its length in bytes and a line break: two for each, a line with the
  * line, the column, the number of bytes and the words of the status, and then the bytes. For the first names must differ, for the second they may
  * repeat. */
 #include <stdio.h>
@@ -25,19 +25,19 @@ static int convert(const uint8_t *text, size_t length, uint32_t allow_duplicates
     int32_t status;
     settings.allow_duplicates = allow_duplicates;
     memset(&first, 0xff, sizeof first);
-    status = yaml_canonical_from_json(text, length, &settings, NULL, 0, &first);
+    status = yaml_c_canonical_from_json(text, length, &settings, NULL, 0, &first);
     result = first;
-    if (status == YAML_TOO_SMALL) {
+    if (status == YAML_C_TOO_SMALL) {
         out = malloc(first.length + MARGIN);
         if (!out) return 1;
         memset(out, 0xa5, first.length + MARGIN);
         memset(&result, 0xff, sizeof result);
-        status = yaml_canonical_from_json(text, length, &settings, out, first.length, &result);
-        if (status == YAML_DONE) written = result.length;
+        status = yaml_c_canonical_from_json(text, length, &settings, out, first.length, &result);
+        if (status == YAML_C_DONE) written = result.length;
         if (written != first.length || !all(out + written, MARGIN, 0xa5)) return 1;
     }
     printf("%lu %lu %lu %s\n", (unsigned long)result.line, (unsigned long)result.column, (unsigned long)written,
-           result.event || result.error || result.length != written ? "not what the status has" : yaml_status_text(status));
+           result.event || result.error || result.length != written ? "not what the status has" : yaml_c_status_text(status));
     if (written > 0) fwrite(out, 1, written, stdout);
     free(out);
     return 0;

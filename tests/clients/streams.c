@@ -1,4 +1,4 @@
-/* Random streams through the drop-in for libyaml, flushed now and then, and the same events in one call of yaml_emit: the same bytes. */
+/* Random streams through the drop-in for libyaml, flushed now and then, and the same events in one call of yaml_c_emit: the same bytes. */
 #include <stdio.h>
 #include <stdlib.h>
 #include <string.h>
@@ -100,7 +100,7 @@ static int is_same(void) {
     record(YAML_STREAM_END_EVENT);
     give(&emitter, &event, yaml_stream_end_event_initialize(&event));
     yaml_emitter_delete(&emitter);
-    return yaml_emit(records, count, directives, 1, arena, arena_length, &settings, one_call, sizeof one_call, &result) == YAML_DONE
+    return yaml_c_emit(records, count, directives, 1, arena, arena_length, &settings, one_call, sizeof one_call, &result) == YAML_C_DONE
         && result.length == length && memcmp(one_call, by_drop_in, length) == 0;
 }
 

@@ -2,7 +2,7 @@
 use Rattle.yaml_c.proofs.Common.{ℕ, ◌≡◌, List, Some, subst}
 use Rattle.std.specs.Prelude.{◌≢◌, ◌⊎◌, IsUtf8}
 use Rattle.std.proofs.Common.{Err, Ok, Result, Vec, IfOk, IfErr}
-use Rattle.yaml_base.specs.{Encoding.encode, Settings.utf8, values.TypedValues.TypedValue, values.ValueText.document_text}
+use Rattle.yaml_base.specs.{Encoding.encode, Settings.utf8, values.TypedValues.TypedValue, graphs.DumpedText.document_text}
 use Rattle.yaml_value.specs.declared.keys.Keys.{Keys}
 use Rattle.yaml_read.specs.{AllowedKeys.KeysAllow, Readable.CanBeRead, RepeatedKeys.IsPlacedBy, declared.errors.ReadError.ReadError}
 use Rattle.yaml_read.specs.declared.errors.ReadError.TheVariants as errors

@@ -1,17 +1,20 @@
 -- JSON texts whose events were given to an emitter, through a writer over it.
-use Rattle.std.specs.Prelude.{◌≡◌, ◌≢◌, ◌⊎◌, Bool, Option, None, Some, List, [], ℕ, Result, Ok, Err, IsUtf8, true, false, is_none, length, ◌&&◌, if◌then◌else◌}
+use Rattle.std.specs.Prelude.{◌≡◌, ◌≢◌, ◌⊎◌, Bool, Option, None, Some, List, [], ◌∷◌, ◌++◌, ℕ, Result, Ok, Err, IsUtf8, true, false, is_none, length, ◌&&◌, if◌then◌else◌}
 use Rattle.std.proofs.Common.{ap, arith, inl, inr, refl, subst, sym, ◌∙◌}
 use Rattle.std.proofs.lemmas.Bool.{true≢false}
-use Rattle.json.specs.Token.{Token}
-use Rattle.yaml_base.specs.declared.kinds.CollectionKind.{CollectionKind}
+use Rattle.json.specs.Json.{Json, null, boolean, number, string, array, object}
+use Rattle.json.specs.Token.{Token, bad}
+use Rattle.json.specs.Tree.{json_tokens}
+use Rattle.yaml_base.specs.Event.{Event}
+use Rattle.yaml_base.specs.Prefix.{IsPrefix}
 use Rattle.yaml_base.specs.declared.errors.yaml_error_t.{yaml_error_t}
 use Rattle.yaml_base.specs.declared.errors.yaml_error_t.TheVariants.{Memory}
 use Rattle.yaml_emitter.specs.State.{State}
 use Rattle.yaml_writer.specs.Writing.{WriterState, writer_over}
 use Rattle.yaml_json.specs.Failing.{IsSound, writers_error}
 use Rattle.yaml_writer.specs.Failing.{HasErrorSaid}
-use Rattle.yaml_writer.specs.WasGiven.{levels_after}
-use Rattle.yaml_json.specs.TokenEvents.{tokens_events}
+use Rattle.yaml_json.specs.Stopped.{StopsInText}
+use Rattle.yaml_json.specs.TokenEvents.{token_events, tokens_events}
 use Rattle.yaml_json.specs.WritingCalls.{WritesText}
 use Rattle.yaml_json.specs.declared.error.JsonError.{JsonError}
 use Rattle.yaml_json.specs.declared.error.JsonError.TheVariants as errors
@@ -84,21 +87,37 @@ settles_closed result levels before after writers none some closes = (
   λ also absent. some,
 )
 
--- An emitter that was closed after a text had an error of memory alone.
-closed_by : (result : Result (Unit {0}) JsonError) (state : State) → state.closed ≡ false → (closed_after result state).closed ≡ true
-    → (is_writers_error result ≡ true) × (state.error ≡ None)
-closed_by result state unclosed closed = by_cases (is_writers_error result) state.error closed where
-  by_cases : (writers : Bool) (found : Option yaml_error_t)
-      → (if writers && is_none found then record state { closed = true } else state).closed ≡ true → (writers ≡ true) × (found ≡ None)
-  by_cases true None closed = (refl, refl)
-  by_cases true (Some error) closed = absurd (true≢false (sym closed ∙ unclosed))
-  by_cases false found closed = absurd (true≢false (sym closed ∙ unclosed))
+-- A bad token begins no value, and any other has an event.
+bad_begins_none : (json : Json) (rest : List Token) → bad ∷ rest ≡ json_tokens json → ⊥
+bad_begins_none null rest is = cc
+bad_begins_none (boolean _) rest is = cc
+bad_begins_none (number _) rest is = cc
+bad_begins_none (string _) rest is = cc
+bad_begins_none (array _) rest is = cc
+bad_begins_none (object _) rest is = cc
 
--- Without a token nothing is open.
-none_open : (canonical in_flow : Bool) (taken : List Token) (now : List CollectionKind) → now ≡ levels_after (tokens_events canonical in_flow taken) []
-    → length now ≢ 0 → taken ≢ []
-none_open canonical in_flow taken now levels some none =
-    some (ap length (levels ∙ ap (λ (ts : List Token). levels_after (tokens_events canonical in_flow ts) []) none))
+token_given : (canonical in_flow : Bool) (token : Token) (more : List Event) → (token ≡ bad → ⊥) → token_events canonical in_flow token ++ more ≢ []
+token_given canonical in_flow bad more good = absurd (good refl)
+token_given canonical in_flow token more good = λ none. absurd (cc none)
+
+-- If some tokens begin a value, and there are some, so are there events of them.
+tokens_given : (canonical in_flow : Bool) (taken : List Token) (json : Json) → IsPrefix taken (json_tokens json) → taken ≢ []
+    → tokens_events canonical in_flow taken ≢ []
+tokens_given canonical in_flow [] json begins some = absurd (some refl)
+tokens_given canonical in_flow (token ∷ taken) json begins some =
+    token_given canonical in_flow token (tokens_events canonical in_flow taken)
+    (λ is. bad_begins_none json (taken ++ begins.rest) (ap (λ (t : Token). t ∷ taken ++ begins.rest) (sym is) ∙ begins.parts))
+
+-- If nothing was taken, the emitter has no error, and nothing is open.
+begun : (settings : JsonSettings) (text : List ℕ) (before : State) (now : WriterState) (error : JsonError) → before.error ≡ None
+    → (stops : StopsInText settings.values.depth settings.unique_names settings.values.flow text (writer_over before) error now)
+    → (is_writers_error (Err error) ≡ true → now.emitter.error ≡ None → length now.levels ≢ 0) → is_writers_error (Err error) ≡ true
+    → tokens_events before.given.canonical settings.values.flow stops.taken ≢ []
+begun settings text before now (errors.Emitter code) none stops some writers =
+    tokens_given before.given.canonical settings.values.flow stops.taken stops.why.json stops.why.begins
+    (λ taken. some writers (ap (λ (w : WriterState). w.emitter.error) (stops.unchanged taken) ∙ none)
+    (ap (λ (w : WriterState). length w.levels) (stops.unchanged taken)))
+begun settings text before now _ none stops some writers = absurd (true≢false (sym writers))
 
 over_emitter : (settings : JsonSettings) (text : List ℕ) (before : State) (now : WriterState) (result : Result (Unit {0}) JsonError) → IsUtf8 text
     → before.error ≡ None → before.closed ≡ false → WritesText settings text (writer_over before) result now
@@ -131,11 +150,11 @@ over_emitter settings text before now (Err error) utf8 none unclosed writes some
         emits = stops.emits;
         sound = said_of_emitter (writer_over before) (writers_error error) now writes.sound;
         place = writes.place;
+        unchanged = λ taken. ap (λ (w : WriterState). w.emitter) (stops.unchanged taken);
       };
       closes = refl;
+      begun = begun settings text before now error none stops some;
       lasts = lasts (writer_over before) now error none still writes.sound;
-      begun = λ closed. let by = closed_by (Err error) now.emitter still closed in
-          none_open before.given.canonical settings.values.flow stops.taken now.levels stops.usable.levels (some by.0 by.1);
     })
 
 -- Nothing changed, since memory ran out before an event was given.

@@ -10,4 +10,5 @@ pub mod KeptLemmas
 pub mod MovingLemmas
 pub mod Pointers
 pub mod TomlLemmas
+pub mod ValueLemmas
 pub mod rows

@@ -3,7 +3,7 @@ use Rattle.std.specs.Prelude.{◌≡◌, ◌≢◌, ◌⊎◌, ℕ, ℤ, pos, Li
 use Rattle.yaml_base.specs.Encoding.{encode}
 use Rattle.yaml_base.specs.Settings.{utf8}
 use Rattle.yaml_base.specs.values.TypedValues.{TypedValue, WritesValue}
-use Rattle.yaml_base.specs.values.ValueText.{document_text}
+use Rattle.yaml_base.specs.graphs.DumpedText.{document_text}
 use Rattle.yaml_value.specs.declared.keys.Keys.{Keys}
 use Rattle.yaml_value.specs.declared.keys.Keys.TheVariants as keys
 use Rattle.yaml_read.specs.AllowedKeys.{KeysAllow}

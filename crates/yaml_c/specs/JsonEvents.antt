@@ -35,7 +35,7 @@ pub record GaveText (depth : ℕ) (unique in_flow : Bool) (text : List ℕ) (bef
   pub emits : Emits before (json_events before.given.canonical in_flow json) (result_of_error after.error) after
   pub no_error : after.error ≡ None
 
--- True if the events of the text's first tokens were given, and no more, for this reason.
+-- True if the events of the text's first tokens were given, and no more, for this reason. If there are no first tokens, nothing changed.
 pub record StoppedInText (depth : ℕ) (unique in_flow : Bool) (text : List ℕ) (before : State) (error : JsonError) (after : State) : Type 0 where
   pub utf8 : IsUtf8 text
   pub taken : List Token
@@ -45,6 +45,7 @@ pub record StoppedInText (depth : ℕ) (unique in_flow : Bool) (text : List ℕ)
   pub emits : Emits before (tokens_events before.given.canonical in_flow taken) (result_of_error after.error) after
   pub sound : IsSound (writer_over before) (Err error) (writer_over after)
   pub place : HasPlace depth text error
+  pub unchanged : taken ≡ [] → after ≡ before
 
 -- True if the text isn't UTF-8, and the error has the place of the first byte that isn't.
 pub record IsNoUtf8 (text : List ℕ) (error : JsonError) : Type 0 where
@@ -81,14 +82,14 @@ SettlesAs result levels NoMemory before after =
     (is_writers_error result ≡ true) × (before.error ≡ None) × (levels ≡ 0) × (after ≡ before)
 
 -- True if the events of the text's first tokens were given, and no more, for this reason. If it is the emitter's error, or memory that ran
--- out, each later call tells it. The emitter is closed only if there were events.
+-- out, an event was given, and each later call tells it.
 pub record FailedInText (depth : ℕ) (unique in_flow : Bool) (text : List ℕ) (before : State) (error : JsonError) (after : State) : Type 0 where
   pub sound : before.error ≡ None
   pub stopped : State
   pub stops : StoppedInText depth unique in_flow text before error stopped
   pub closes : after ≡ closed_after (Err error) stopped
+  pub begun : is_writers_error (Err error) ≡ true → tokens_events before.given.canonical in_flow stops.taken ≢ []
   pub lasts : (code : yaml_error_t) → error ≡ errors.Emitter code → lasting_error after ≡ Some code
-  pub begun : after.closed ≡ true → stops.taken ≢ []
 
 -- True if the text was given with this outcome. An emitter that had failed before tells its error. If memory ran out before an event was
 -- given, nothing changed.

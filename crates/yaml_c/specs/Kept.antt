@@ -10,17 +10,28 @@ use Rattle.yaml_pen.specs.Page.{output_left, result_of_error}
 use Rattle.yaml_c.specs.Answers.{CopiesToCaller, nothing_reported, results_done}
 use Rattle.yaml_c.specs.Emission.{error_number}
 use Rattle.yaml_c.specs.Giving.{MayCopy}
+use Rattle.yaml_c.specs.Places.{at_start}
+use Rattle.yaml_c.specs.declared.kept.Kept.{Kept}
+use Rattle.yaml_c.specs.declared.place.Spot.TheVariants.{Nowhere}
 use Rattle.yaml_c.specs.declared.results.CallResult.{CallResult}
 
 -- True if a call was made over an open emitter, which stays open and keeps its promises.
-abbrev pub Changes : (State → State → Type 0) → Option State → Option State → Type 0
-Changes relation (Some before) (Some after) = (after.has_output ≡ true) × IsPromised after × relation before after
+abbrev pub Changes : (Kept → Kept → Type 0) → Option Kept → Option Kept → Type 0
+Changes relation (Some before) (Some after) = (after.emitter.has_output ≡ true) × IsPromised after.emitter × relation before after
 Changes relation before after = ⊥
 
 -- True if an emitter is open and its output is set.
-abbrev pub IsOpenEmitter : Option State → Type 0
+abbrev pub IsOpenEmitter : Option Kept → Type 0
 IsOpenEmitter None = ⊥
-IsOpenEmitter (Some state) = state.has_output ≡ true
+IsOpenEmitter (Some kept) = kept.emitter.has_output ≡ true
+
+-- True if a call had this effect on the emitter, and the next value has the same place.
+abbrev pub OnEmitter : (State → State → Type 0) → Kept → Kept → Type 0
+OnEmitter relation before after = relation before.emitter after.emitter × (after.place ≡ before.place)
+
+-- True if a call had this effect on the emitter, and values have no place from then on.
+abbrev pub OnEvents : (State → State → Type 0) → Kept → Kept → Type 0
+OnEvents relation before after = relation before.emitter after.emitter × (after.place ≡ record before.place { spot = Nowhere })
 
 -- ---- the results
 
@@ -49,9 +60,10 @@ UnlessClosed status report relation before after =
 -- ---- the calls
 
 -- True if a new emitter with these settings is made, or memory ran out, or no emitter has such settings.
-abbrev pub MakesEmitter : Option Settings → (status : ℤ) → Option State → Type 0
+abbrev pub MakesEmitter : Option Settings → (status : ℤ) → Option Kept → Type 0
 MakesEmitter None status made = (status ≡ pos 9) × (made ≡ None)
-MakesEmitter (Some given) status (Some state) = (status ≡ pos 0) × (state ≡ new_state_with given) × IsPromised state
+MakesEmitter (Some given) status (Some kept) =
+    (status ≡ pos 0) × (kept.emitter ≡ new_state_with given) × (kept.place ≡ at_start) × IsPromised kept.emitter
 MakesEmitter (Some given) status None = status ≡ pos 3
 
 -- True if an emitter was given the event of a record, or nothing changed, since the record has no reading or memory for its texts ran out.

@@ -6,6 +6,8 @@ pub mod EventRecords
 pub mod GivenSettings
 pub mod Giving
 pub mod Handle
+pub mod Places
+pub mod Values
 pub mod TomlAnswers
 pub mod JsonAnswers
 pub mod CanonicalJson

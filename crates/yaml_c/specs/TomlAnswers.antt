@@ -33,8 +33,8 @@ toml_answer_of (Err error) = fails error
 -- The results of an answer: 0 for YAML, or 4 if it doesn't fit; 11 if the text isn't TOML, 7 if it defines a key that takes no more, 6 if it
 -- nests too deep, 3 if memory ran out.
 abbrev pub toml_error_results : TomlError → (out : List ℕ) → CallResults
-toml_error_results (errors.NotToml position) out = results_failed 11 (at_place position) out
-toml_error_results (errors.DefinedAgain key first position) out = results_failed 7 (at_place position) out
+toml_error_results (errors.NotToml position why) out = results_failed 11 (at_place position) out
+toml_error_results (errors.DefinedAgain key name first position) out = results_failed 7 (at_place position) out
 toml_error_results (errors.TooDeepToRead position) out = results_failed 6 (at_place position) out
 toml_error_results errors.TooDeep out = results_failed 6 nothing_reported out
 toml_error_results (errors.Emitter emitter_errors.TooDeep) out = results_failed 6 nothing_reported out

@@ -27,7 +27,7 @@ fn bytes_at<'a>(arena: &'a [u8], span: &Span) -> Option<&'a [u8]>
 
 /// Returns bytes as a text, or `None` if they aren't UTF-8.
 #[tactic(auto, using(crate::proofs::Utf8::text_of_utf8, crate::proofs::Utf8::no_text))]
-fn text_of(bytes: &[u8]) -> Option<&str>
+pub(crate) fn text_of(bytes: &[u8]) -> Option<&str>
     ensures { option_map (λ text. chars text.now) result ≡ utf8_text bytes.now }
 {
     match std::str::from_utf8(bytes) {

@@ -1,5 +1,5 @@
 //! Emitters that a C program keeps from call to call.
-ghost use Rattle.std.specs.Prelude.{◌≡◌, IfNone, IfSome, List, Option, None, Some, true, false, length, nat_le, if◌then◌else◌};
+ghost use Rattle.std.specs.Prelude.{◌≡◌, IfNone, IfSome, Option, None, Some, true, false, length, nat_le, if◌then◌else◌};
 ghost use Rattle.yaml_base.specs.Event.{Event};
 ghost use Rattle.yaml_base.specs.declared.errors.yaml_error_t.{yaml_error_t};
 ghost use Rattle.yaml_emitter.specs.State.{State, with_all_taken};
@@ -9,14 +9,19 @@ ghost use Rattle.yaml_c.specs.EventRecords as meaning;
 ghost use Rattle.yaml_c.specs.GivenSettings.{settings_given};
 ghost use Rattle.yaml_c.specs.Giving.{GaveRecord};
 ghost use Rattle.yaml_base.specs.declared.errors.yaml_error_t.TheVariants.{Memory};
-ghost use Rattle.yaml_c.specs.Kept.{Changes, Flushes, GivesRecord, IsOpenEmitter, MakesEmitter, TakesOutput, TellsError, UnlessClosed, error_status};
+ghost use Rattle.yaml_c.specs.Kept.{Changes, Flushes, GivesRecord, IsOpenEmitter, MakesEmitter, OnEmitter, OnEvents, TakesOutput};
+ghost use Rattle.yaml_c.specs.Kept.{TellsError, UnlessClosed, error_status};
+ghost use Rattle.yaml_c.specs.declared.place.Spot.TheVariants.{Nowhere};
 
 use crate::events::number_of;
 use crate::giving::{Giving, give_record};
 use crate::handle::EmitterHandle;
+use crate::kept::Kept;
+use crate::place::{Place, Spot};
 use crate::records::{DirectiveRecord, EventRecord};
 use crate::results::{CallResult, move_to_caller};
 use crate::settings::{EmitterSettings, settings_from};
+use crate::spare::Spare;
 use crate::statuses::{BAD_EVENT, BAD_SETTINGS, DONE, NO_MEMORY, REFUSED, TOO_SMALL};
 use std::alloc::{Allocator, Global};
 use yaml_base::yaml_error_t;
@@ -38,7 +43,12 @@ pub extern "C" fn yaml_c_emitter_new(
     let Ok(made) = yaml_emitter_t::with_settings(alloc, given) else {
         return NO_MEMORY;
     };
-    let Ok(boxed) = Box::new(alloc, made) else {
+    let kept = Kept {
+        emitter: made,
+        place: Place::start(alloc),
+        spare: Spare::none(),
+    };
+    let Ok(boxed) = Box::new(alloc, kept) else {
         return NO_MEMORY;
     };
     boxed.promised();
@@ -57,11 +67,11 @@ pub extern "C" fn yaml_c_emitter_emit(
     report: &mut CallResult,
 ) -> i32
     requires is_open { IsOpenEmitter emitter.old.state }
-    ensures { Changes (UnlessClosed result report.new (GivesRecord (meaning.event_recorded texts.now directives.now event.now) result report.new))
-        emitter.old.state emitter.new.state }
+    ensures { Changes (OnEvents (UnlessClosed result report.new
+        (GivesRecord (meaning.event_recorded texts.now directives.now event.now) result report.new))) emitter.old.state emitter.new.state }
 {
     let mut boxed = emitter.take(alloc);
-    let giving = give_unless_closed(alloc, &mut *boxed, texts, directives, event);
+    let giving = give_to(alloc, &mut *boxed, texts, directives, event);
     boxed.promised();
     emitter.put(boxed);
     match giving {
@@ -78,10 +88,10 @@ pub extern "C" fn yaml_c_emitter_flush(
     report: &mut CallResult,
 ) -> i32
     requires is_open { IsOpenEmitter emitter.old.state }
-    ensures { Changes (UnlessClosed result report.new (Flushes result report.new)) emitter.old.state emitter.new.state }
+    ensures { Changes (OnEmitter (UnlessClosed result report.new (Flushes result report.new))) emitter.old.state emitter.new.state }
 {
     let mut boxed = emitter.take(alloc);
-    let status = flush(&mut *boxed, report);
+    let status = flush_kept(&mut *boxed, report);
     boxed.promised();
     emitter.put(boxed);
     status
@@ -96,10 +106,10 @@ pub extern "C" fn yaml_c_emitter_take_output(
     report: &mut CallResult,
 ) -> i32
     requires is_open { IsOpenEmitter emitter.old.state }
-    ensures { Changes (TakesOutput out.old result out.new report.new) emitter.old.state emitter.new.state }
+    ensures { Changes (OnEmitter (TakesOutput out.old result out.new report.new)) emitter.old.state emitter.new.state }
 {
     let mut boxed = emitter.take(alloc);
-    let status = take_output(&mut *boxed, out, report);
+    let status = take_from(&mut *boxed, out, report);
     boxed.promised();
     emitter.put(boxed);
     status
@@ -112,6 +122,25 @@ pub extern "C" fn yaml_c_emitter_delete(alloc: Global, emitter: &mut EmitterHand
     ensures { emitter.new.state ≡ None }
 {
     emitter.take(alloc).drop();
+}
+
+/// Gives a kept emitter the event of a record, or returns `None` if the emitter is closed. Values have no place from then on.
+fn give_to(
+    alloc: Global,
+    kept: &mut Kept,
+    arena: &[u8],
+    directives: &[DirectiveRecord],
+    event: &EventRecord,
+) -> Option<Giving>
+    requires output { kept.old.emitter.has_output ≡ true }
+    ensures closed { IfNone result ((kept.old.emitter.closed ≡ true) × (kept.new.emitter ≡ kept.old.emitter)) }
+    ensures gave { IfSome result (λ giving. (kept.old.emitter.closed ≡ false)
+        × GaveRecord (meaning.event_recorded arena.now directives.now event.now) giving kept.old.emitter kept.new.emitter) }
+    ensures place { kept.new.place ≡ record kept.old.place { spot = Nowhere } }
+    ensures output { kept.new.emitter.has_output ≡ true }
+{
+    kept.place.go_to(Spot::Nowhere);
+    give_unless_closed(alloc, &mut kept.emitter, arena, directives, event)
 }
 
 /// Gives an emitter the event of a record, or returns `None` if the emitter is closed.
@@ -134,6 +163,15 @@ fn give_unless_closed<A: Allocator + Copy>(
     Some(give_record(alloc, emitter, arena, directives, event))
 }
 
+/// Flushes a kept emitter.
+fn flush_kept(kept: &mut Kept, report: &mut CallResult) -> i32
+    requires output { kept.old.emitter.has_output ≡ true }
+    ensures flushed { OnEmitter (UnlessClosed result report.new (Flushes result report.new)) kept.old kept.new }
+    ensures output { kept.new.emitter.has_output ≡ true }
+{
+    flush(&mut kept.emitter, report)
+}
+
 /// Flushes an emitter that isn't closed, and reports its error, if any.
 fn flush<A: Allocator + Copy>(emitter: &mut yaml_emitter_t<A>, report: &mut CallResult) -> i32
     requires output { emitter.old.has_output ≡ true }
@@ -151,6 +189,15 @@ pub(crate) fn tell_closed(report: &mut CallResult) -> i32
     ensures { TellsError (Some Memory) result report.new }
 {
     tell(Err(yaml_error_t::Memory), report)
+}
+
+/// Moves the flushed bytes of a kept emitter that weren't taken to the caller's buffer, if they fit.
+fn take_from(kept: &mut Kept, out: &mut [u8], report: &mut CallResult) -> i32
+    requires output { kept.old.emitter.has_output ≡ true }
+    ensures taken { OnEmitter (TakesOutput out.old result out.new report.new) kept.old kept.new }
+    ensures output { kept.new.emitter.has_output ≡ true }
+{
+    take_output(&mut kept.emitter, out, report)
 }
 
 /// Moves the flushed bytes not yet taken to the caller's buffer, if they fit.

@@ -1,23 +1,21 @@
 //! The pointer by which a C program holds an emitter.
 ghost use Rattle.std.specs.Prelude.{◌≡◌, Option, None, Some, is_some, true};
-ghost use Rattle.yaml_emitter.specs.State.{State};
 ghost use Rattle.yaml_c.specs.Handle.{handle_owns};
+ghost use Rattle.yaml_c.specs.declared.kept.Kept.{Kept as KeptState};
 
+use crate::kept::Kept;
 use crate::raw_box::RawBox;
 use std::alloc::Global;
 use std::marker::Model;
 use std::mem::replace;
 use std::ptr::null_mut;
-use yaml_emitter::yaml_emitter_t;
-
-pub(crate) type Emitter = yaml_emitter_t<Global>;
 
 /// An emitter that is kept between calls, or none. See the header.
 #[repr(C)]
 #[derive(Drop)]
 pub struct EmitterHandle {
     address: *mut u8,
-    pub(crate) ghost state: { Option State },
+    pub(crate) ghost state: { Option KeptState },
 }
 
 impl Model for EmitterHandle {
@@ -33,7 +31,7 @@ impl EmitterHandle {
         }
     }
 
-    pub(crate) fn of(emitter: RawBox<Emitter>) -> EmitterHandle
+    pub(crate) fn of(emitter: RawBox<Kept>) -> EmitterHandle
         ensures { result.state ≡ Some emitter.value }
     {
         let RawBox { address } = emitter;
@@ -42,18 +40,18 @@ impl EmitterHandle {
         }
     }
 
-    pub(crate) fn into_raw_box(self) -> RawBox<Emitter>
+    pub(crate) fn into_raw_box(self) -> RawBox<Kept>
         requires { is_some self.state ≡ true }
         ensures { Some result.value ≡ self.state }
     {
         let EmitterHandle { address } = self;
         RawBox {
-            address: address as *mut Emitter,
+            address: address as *mut Kept,
         }
     }
 
     /// Takes the emitter out of the handle.
-    pub(crate) fn take(&mut self, alloc: Global) -> Box<Emitter>
+    pub(crate) fn take(&mut self, alloc: Global) -> Box<Kept>
         requires { is_some self.old.state ≡ true }
         ensures emitter { Some result.value ≡ self.old.state }
         ensures none { self.new.state ≡ None }
@@ -64,7 +62,7 @@ impl EmitterHandle {
     }
 
     /// Puts an emitter into the handle. An emitter that is there is forgotten.
-    pub(crate) fn put(&mut self, emitter: Box<Emitter>)
+    pub(crate) fn put(&mut self, emitter: Box<Kept>)
         ensures { self.new.state ≡ Some emitter.value }
     {
         *self = EmitterHandle::of(RawBox::of(emitter));

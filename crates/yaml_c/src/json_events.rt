@@ -2,7 +2,7 @@
 ghost use Rattle.std.specs.Prelude.{◌≡◌, false, true};
 ghost use Rattle.yaml_c.specs.GivenSettings.{depth_given};
 ghost use Rattle.yaml_c.specs.Arena.{is_off, is_on};
-ghost use Rattle.yaml_c.specs.Kept.{Changes, IsOpenEmitter, UnlessClosed};
+ghost use Rattle.yaml_c.specs.Kept.{Changes, IsOpenEmitter, OnEvents, UnlessClosed};
 ghost use Rattle.yaml_c.specs.JsonEvents.{GaveJson, GivesJson, SettlesAs, TellsJson};
 ghost use Rattle.yaml_c.specs.JsonEvents as meaning;
 
@@ -10,6 +10,8 @@ use crate::emitters::{status_of, tell_closed};
 use crate::events::number_of;
 use crate::handle::EmitterHandle;
 use crate::json_texts::{JsonOptions, json_settings_from};
+use crate::kept::Kept;
+use crate::place::Spot;
 use crate::results::CallResult;
 use crate::statuses::{DONE, DUPLICATE_NAME, NO_MEMORY, NOT_JSON, TOO_DEEP};
 use std::alloc::{Allocator, Global};
@@ -37,14 +39,31 @@ pub extern "C" fn yaml_c_emitter_emit_json(
     report: &mut CallResult,
 ) -> i32
     requires is_open { IsOpenEmitter emitter.old.state }
-    ensures { Changes (UnlessClosed result report.new (GivesJson (depth_given options.now.values.depth) (is_off options.now.allow_duplicates)
-        (is_on options.now.values.flow) text.now result report.new)) emitter.old.state emitter.new.state }
+    ensures { Changes (OnEvents (UnlessClosed result report.new (GivesJson (depth_given options.now.values.depth)
+        (is_off options.now.allow_duplicates) (is_on options.now.values.flow) text.now result report.new))) emitter.old.state emitter.new.state }
 {
     let mut boxed = emitter.take(alloc);
-    let status = give_and_tell(alloc, &mut *boxed, text, options, report);
+    let status = give_to(alloc, &mut *boxed, text, options, report);
     boxed.promised();
     emitter.put(boxed);
     status
+}
+
+/// Gives a kept emitter the events of a JSON text, reports the outcome, and returns the status. Values have no place from then on.
+fn give_to(
+    alloc: Global,
+    kept: &mut Kept,
+    text: &[u8],
+    options: &JsonOptions,
+    report: &mut CallResult,
+) -> i32
+    requires output { kept.old.emitter.has_output ≡ true }
+    ensures gave { OnEvents (UnlessClosed result report.new (GivesJson (depth_given options.now.values.depth) (is_off options.now.allow_duplicates)
+        (is_on options.now.values.flow) text.now result report.new)) kept.old kept.new }
+    ensures output { kept.new.emitter.has_output ≡ true }
+{
+    kept.place.go_to(Spot::Nowhere);
+    give_and_tell(alloc, &mut kept.emitter, text, options, report)
 }
 
 /// Gives an emitter that isn't closed the events of a JSON text, reports the outcome, and returns the status.

@@ -1,4 +1,4 @@
-//! The statuses of `enum yaml_status` in the header.
+//! The statuses of `enum yaml_c_status` in the header.
 
 pub(crate) const DONE: i32 = 0;
 
@@ -25,3 +25,5 @@ pub(crate) const BAD_SETTINGS: i32 = 9;
 pub(crate) const NOT_CANONICAL: i32 = 10;
 
 pub(crate) const NOT_INTEGER: i32 = 12;
+
+pub(crate) const MISPLACED: i32 = 13;

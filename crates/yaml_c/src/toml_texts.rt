@@ -43,7 +43,7 @@ fn move_toml(answer: Result<Vec<u8>, TomlError>, out: &mut [u8], report: &mut Ca
     *report = CallResult::nothing();
     match answer {
         Ok(yaml) => move_to_caller(yaml, 0, out, report),
-        Err(TomlError::NotToml { position }) => {
+        Err(TomlError::NotToml { position, .. }) => {
             *report = CallResult::at_place(position);
             NOT_TOML
         }

@@ -32,10 +32,10 @@ static int fail(yaml_emitter_t *emitter, yaml_error_type_t error, const char *pr
 
 /* Whether a call succeeded. */
 static int is_done(yaml_emitter_t *emitter, int32_t status) {
-    if (status == YAML_DONE) return 1;
-    if (status == YAML_NO_MEMORY) return fail(emitter, YAML_MEMORY_ERROR, NULL);
+    if (status == YAML_C_DONE) return 1;
+    if (status == YAML_C_NO_MEMORY) return fail(emitter, YAML_MEMORY_ERROR, NULL);
     uint32_t error = kept_by(emitter)->result.error;
-    return fail(emitter, YAML_EMITTER_ERROR, status == YAML_REFUSED ? yaml_error_text(error) : yaml_status_text(status));
+    return fail(emitter, YAML_EMITTER_ERROR, status == YAML_C_REFUSED ? yaml_c_error_text(error) : yaml_c_status_text(status));
 }
 
 /* Makes a block at least so large. */
@@ -113,7 +113,7 @@ static int give(yaml_emitter_t *emitter, const yaml_event_t *event) {
 static int hand_on(yaml_emitter_t *emitter) {
     struct kept *kept = kept_by(emitter);
     kept->held = 0;
-    while (yaml_c_emitter_take_output(&kept->emitter, kept->out.bytes, kept->out.size, &kept->result) == YAML_TOO_SMALL)
+    while (yaml_c_emitter_take_output(&kept->emitter, kept->out.bytes, kept->out.size, &kept->result) == YAML_C_TOO_SMALL)
         if (!reserve(&kept->out, kept->result.length)) return fail(emitter, YAML_MEMORY_ERROR, NULL);
     size_t length = kept->result.length;
     return !length || emitter->write_handler(emitter->write_handler_data, kept->out.bytes, length) || fail(emitter, YAML_WRITER_ERROR, "write error");

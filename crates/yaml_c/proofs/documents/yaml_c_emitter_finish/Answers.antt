@@ -1,0 +1,13 @@
+use Rattle.yaml_c.proofs.Common.{ℤ, rules, w32, of_z, to_z}
+use Rattle.yaml_c.proofs.KeptLemmas.{changed_by}
+use Rattle.yaml_writer.specs.Writing.{closing}
+use Rattle.yaml_c.specs.Values.{GaveDocumentEnd, Tells}
+use Rattle.yaml_c.specs.declared.place.Spot.TheVariants as spots
+use Rattle.yaml_c.proofs.documents.yaml_c_emitter_finish.Goals as goal
+
+pub returns : goal.returns
+returns c =
+    let call = c.finish-status in
+    changed_by (λ (status : ℤ). Tells (GaveDocumentEnd closing spots.Nowhere) status call.new.report) c.args.emitter.now.state c.put.new.self.state
+    c.deref_mut.result.now call.new.kept (to_z w32 (of_z w32 call.result)) call.result (search rules) (search rules) (search rules)
+    call.ensures.output (search rules) call.ensures.gave
