@@ -35,7 +35,7 @@ def wrong_versions():
 
 def wrong_header_numbers():
     """Returns a line for each kind, style, encoding and line break whose number isn't that by which the definitions read it."""
-    constants = "".join(re.findall(r"^enum yaml_c_\w+ \{\n(.*?)^\};", text_of("crates/yaml_c/include/yaml_c.h"), re.S | re.M))
+    constants = "".join(re.findall(r"^enum yaml_c_(?!status|error)\w+ \{\n(.*?)^\};", text_of("crates/yaml_c/include/yaml_c.h"), re.S | re.M))
     named = {name: int(number) for name, number in re.findall(r"YAML_C_(\w+) = (\d+)", constants)}
     defined = {}
     records = text_of("crates/yaml_c/specs/EventRecords.antt")
