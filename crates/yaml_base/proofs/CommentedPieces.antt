@@ -9,10 +9,10 @@ use Rattle.yaml_base.specs.{NodeLayout.body_text, Pieces.last_begins_collection,
 use Rattle.yaml_base.proofs.{Completions.completion_pushed, Completions.prefix_is_partial, PieceLaws.completion_not_closed, PieceLaws.list_layout_steps}
 use Rattle.yaml_base.proofs.{PieceLaws.step_same, Trees.stream_pushed}
 use Rattle.yaml_base.specs.Comments.{Commented, CommentedPiece, HeadLine, at_line_end, commented_text_of, events_of, has_header, piece_alone}
-use Rattle.yaml_base.specs.Comments.{standing_with_line, without_comments}
+use Rattle.yaml_base.specs.Comments.{without_comments}
 use Rattle.yaml_base.specs.CommentedSteps.{CommentedStanding, CommentedStep, CommentedSteps, HeadPlace, commented_completion, commented_layout}
-use Rattle.yaml_base.specs.CommentedSteps.{commented_step, commented_steps, first_commented, head_place, joined_commented, line_taken}
-use Rattle.yaml_base.specs.CommentedSteps.{line_waiting, line_written, render_before, still_waiting, takes_line, then_commented}
+use Rattle.yaml_base.specs.CommentedSteps.{commented_step, commented_steps, first_commented, head_place, joined_commented}
+use Rattle.yaml_base.specs.CommentedSteps.{render_before, still_waiting, takes_line, then_commented, with_comments}
 use Rattle.yaml_base.specs.CommentLaws.{CommentedPiecesStand, NoCommentsNoChange, NoCommentsSameText, OnePieceEachCommented}
 use Rattle.yaml_base.specs.CommentLaws.{PieceAloneSameText, ReadyByEvents}
 
@@ -128,17 +128,8 @@ takes_same event stage s f g other = grind (arith, nat_tests)
 -- the step of an event from its place, its own step and whether it takes a line comment
 abbrev step_of : Commented → List HeadLine → HeadPlace → Text → Stepped → (takes : Bool) → CommentedStep
 step_of commented lines place head stepped takes =
-    let taken = line_taken commented.comments.line takes in
-    let alone = begins_collection commented.event && stepped.rendered.standing.cursor.column == 0 in
-    record {
-      piece = record { head = head; piece = stepped.rendered.piece; line = line_written taken alone };
-      standing =
-          record {
-            standing = standing_with_line (line_written taken alone) stepped.rendered;
-            waiting = still_waiting lines place ++ line_waiting taken alone;
-          };
-      stage = stepped.stage;
-    }
+    let made = with_comments commented (still_waiting lines place) takes head stepped.rendered in
+    record { piece = made.piece; standing = made.standing; stage = stepped.stage }
 
 abbrev step_from : Effective → Stage → Commented → List HeadLine → Standing → HeadPlace → (empty takes : Bool) → CommentedStep
 step_from s stage commented lines before place empty takes =

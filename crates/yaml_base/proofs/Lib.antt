@@ -12,6 +12,7 @@ pub mod CommentTexts
 pub mod CommentedPieces
 pub mod CommentedHeads
 pub mod CommentedStages
+pub mod CommentedTrees
 pub mod CommentedProgress
 pub mod LineComments
 pub mod Completions

@@ -39,3 +39,4 @@ mod RowsSurelyText
 mod RowsJsonNumbers
 mod RowsLinesAndColumns
 mod RowsComments
+mod RowsCommentedNodes

@@ -5,19 +5,21 @@ use Rattle.std.specs.List.{list_all}
 use Rattle.yaml_base.specs.Characters.{Text, line_feed, space}
 use Rattle.yaml_base.specs.Settings.{Effective}
 use Rattle.yaml_base.specs.Cursor.{Cursor, first_cursor}
-use Rattle.yaml_base.specs.Event.{Event}
-use Rattle.yaml_base.specs.Grammar.{Partial, Stream, partial_of, stream_events}
+use Rattle.yaml_base.specs.Event.{Event, TagDirective}
+use Rattle.yaml_base.specs.Grammar.{Partial, Stream, node_events, partial_of, stream_events}
 use Rattle.yaml_base.specs.Refusal.{IsAccepted, refusal}
 use Rattle.yaml_base.specs.Ready.{written}
 use Rattle.yaml_base.specs.Prefix.{IsPrefix}
 use Rattle.yaml_base.specs.scalars.Analysis.{begins_with, is_empty}
 use Rattle.yaml_base.specs.NodeLayout.{Piece, Standing, piece_text, text_of}
-use Rattle.yaml_base.specs.Steps.{Stage, at_stream, stage_refusal, step}
+use Rattle.yaml_base.specs.Places.{is_simple_at}
+use Rattle.yaml_base.specs.Steps.{Frame, Stage, at_node, at_stream, next_place, stage_after, stage_refusal, step}
 use Rattle.yaml_base.specs.Pieces.{last_closes_at_once, list_layout}
 use Rattle.yaml_base.specs.Comments.{Commented, HeadLine, comment_written, commented_text, commented_text_of, events_of, fits_comment, hash, piece_alone}
 use Rattle.yaml_base.specs.Comments.{render_head, text_lines, text_with_line, without_comments}
-use Rattle.yaml_base.specs.CommentedSteps.{CommentedStanding, CommentedStep, commented_layout, commented_pieces, commented_step, commented_steps}
-use Rattle.yaml_base.specs.CommentedSteps.{commented_progress, first_commented, ready_commented}
+use Rattle.yaml_base.specs.CommentedNodes.{CommentedNode, commented_node_events, node_of, render_commented}
+use Rattle.yaml_base.specs.CommentedSteps.{CommentedStanding, CommentedStep, CommentedSteps, commented_layout, commented_pieces, commented_step}
+use Rattle.yaml_base.specs.CommentedSteps.{commented_steps, commented_progress, first_commented, ready_commented}
 
 -- Without comments
 
@@ -130,3 +132,26 @@ ReadyPiecesAreFirst =
 abbrev pub ReadyPiecesStay : Type 0
 ReadyPiecesStay =
     (s : Effective) (all more : List Commented) → IsPrefix (commented_progress s all).pieces (commented_progress s (all ++ more)).pieces
+
+-- Nodes
+
+-- a node with comments has the events of the node
+abbrev pub CommentedNodeHasEvents : Type 0
+CommentedNodeHasEvents = (node : CommentedNode) → events_of (commented_node_events node) ≡ node_events (node_of node)
+
+-- steps that write the pieces of a node with comments at the place of the next node, and go on after it
+abbrev pub steps_of_node : Effective → List TagDirective → List Frame → CommentedNode → CommentedStanding → CommentedSteps
+steps_of_node s directives frames node before =
+    let place = next_place frames in
+    let rendered = render_commented node s directives place before in
+    record {
+      pieces = rendered.pieces;
+      standing = rendered.standing;
+      stage = stage_after directives frames (is_simple_at place s.canonical directives (node_of node));
+    }
+
+-- the steps of its events are these
+abbrev pub CommentedNodeHasPieces : Type 0
+CommentedNodeHasPieces =
+    (s : Effective) (follows : Bool) (directives : List TagDirective) (frames : List Frame) (node : CommentedNode) (before : CommentedStanding)
+    → commented_steps s follows (commented_node_events node) (at_node directives frames) before ≡ steps_of_node s directives frames node before

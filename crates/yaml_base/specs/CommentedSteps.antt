@@ -7,8 +7,8 @@ use Rattle.yaml_base.specs.Event.{Event, Collection, alias, document_start, mapp
 use Rattle.yaml_base.specs.Grammar.{partial_of, tree_of}
 use Rattle.yaml_base.specs.Refusal.{begins_collection}
 use Rattle.yaml_base.specs.Ready.{written}
-use Rattle.yaml_base.specs.Layout.{Place, Role, Standing, as_item, as_key, first_standing, has_directives, is_key, is_written_in_flow, line_column}
-use Rattle.yaml_base.specs.Layout.{render_closing_marker}
+use Rattle.yaml_base.specs.Layout.{Place, RenderedPiece, Role, Standing, as_item, as_key, first_standing, has_directives, is_key, is_written_in_flow}
+use Rattle.yaml_base.specs.Layout.{line_column, render_closing_marker}
 use Rattle.yaml_base.specs.Steps.{Frame, Stage, at_document, at_document_end, at_node, at_nothing, at_stream, ends_next, next_place, step}
 use Rattle.yaml_base.specs.Pieces.{missing_after}
 use Rattle.yaml_base.specs.Comments.{Commented, CommentedPiece, HeadLine, comment_line, events_of, line_comment_text, one_line, render_head}
@@ -45,13 +45,16 @@ is_level entries None = true
 is_level None (Some after) = false
 is_level (Some entries) (Some after) = entries == after
 
--- the place before the end of the innermost collection: at the column of its entries; if that is the column of what follows, too, the
--- lines are its lines
+-- the place before the end of a collection: at the column of its entries; if that is the column of what follows, too, the lines are its
+-- lines
+abbrev pub collection_end_place : (in_flow : Bool) → (entries after : Option ℕ) → HeadPlace
+collection_end_place true entries after = left_out
+collection_end_place false entries after = if is_level entries after then waits else at_column (line_column entries)
+
+-- the place before the end of the innermost collection
 abbrev pub end_place : List Frame → HeadPlace
 end_place [] = left_out
-end_place (frame ∷ outer) =
-    if frame.place.in_flow then left_out
-    else (if is_level frame.place.column (next_place outer).column then waits else at_column (line_column frame.place.column))
+end_place (frame ∷ outer) = collection_end_place frame.place.in_flow frame.place.column (next_place outer).column
 
 -- the place before an event within a document
 abbrev pub place_within : Effective → List Frame → Event → (empty : Bool) → HeadPlace
@@ -174,6 +177,25 @@ pub record CommentedStanding : Type 0 where
 abbrev pub first_commented : CommentedStanding
 first_commented = record { standing = first_standing; waiting = [] }
 
+-- an event's piece with its comments, and the state after them
+pub record RenderedCommentedPiece : Type 0 where
+  pub piece : CommentedPiece
+  pub standing : CommentedStanding
+
+-- an event's piece after the text of its head lines, with its line comment if it takes one; waiting: head lines for the next event
+abbrev pub with_comments : Commented → (waiting : List HeadLine) → (takes : Bool) → (head : Text) → RenderedPiece → RenderedCommentedPiece
+with_comments commented waiting takes head rendered =
+    let taken = line_taken commented.comments.line takes in
+    let alone = begins_collection commented.event && rendered.standing.cursor.column == 0 in
+    record {
+      piece = record { head = head; piece = rendered.piece; line = line_written taken alone };
+      standing =
+          record {
+            standing = standing_with_line (line_written taken alone) rendered;
+            waiting = waiting ++ line_waiting taken alone;
+          };
+    }
+
 -- an event's piece with its comments, the state after them, and the next stage
 pub record CommentedStep : Type 0 where
   pub piece : CommentedPiece
@@ -187,17 +209,9 @@ commented_step s stage commented empty before =
     let place = head_place s stage commented.event empty in
     let head = render_before lines place commented.event before.standing in
     let stepped = step s stage commented.event empty head.standing in
-    let taken = line_taken commented.comments.line (takes_line s stage commented.event empty) in
-    let alone = begins_collection commented.event && stepped.rendered.standing.cursor.column == 0 in
-    record {
-      piece = record { head = head.text; piece = stepped.rendered.piece; line = line_written taken alone };
-      standing =
-          record {
-            standing = standing_with_line (line_written taken alone) stepped.rendered;
-            waiting = still_waiting lines place ++ line_waiting taken alone;
-          };
-      stage = stepped.stage;
-    }
+    let takes = takes_line s stage commented.event empty in
+    let made = with_comments commented (still_waiting lines place) takes head.text stepped.rendered in
+    record { piece = made.piece; standing = made.standing; stage = stepped.stage }
 
 -- several events' pieces, the state after them, and the next stage
 pub record CommentedSteps : Type 0 where

@@ -28,6 +28,7 @@ pub mod Steps
 pub mod Pieces
 pub mod Comments
 pub mod CommentedSteps
+pub mod CommentedNodes
 pub mod CommentLaws
 pub mod Output
 pub mod Meaning
