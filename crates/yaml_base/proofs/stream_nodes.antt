@@ -29,3 +29,4 @@ pub mod StreamHeads
 pub mod StreamHeadedEntries
 pub mod StreamHeadedBlocks
 pub mod StreamTrailingHeads
+pub mod StreamTrailingBlocks

@@ -16,7 +16,7 @@ use Rattle.yaml_base.proofs.stream_nodes.StreamBlocks.{BegunKind, EntriesBelow, 
 use Rattle.yaml_base.proofs.stream_nodes.StreamCentral.{laid_block}
 use Rattle.yaml_base.proofs.stream_nodes.StreamFits.{Fits, WithinColumn}
 use Rattle.yaml_base.proofs.stream_nodes.StreamHeads.{entry_follows, head_closed, head_inside, head_within, opened_not_blank}
-use Rattle.yaml_base.proofs.stream_nodes.StreamLaid.{Content, Laid, margin, tree_of}
+use Rattle.yaml_base.proofs.stream_nodes.StreamLaid.{Content, Laid, Lays, margin, tree_of}
 use Rattle.yaml_base.specs.Comments.{HeadLine, line_end, render_lines}
 use Rattle.yaml_base.specs.CommentReading.{head_text}
 
@@ -25,12 +25,11 @@ abbrev pub after_head : ℕ → HeadLine → List HeadLine → Cursor → (own :
 after_head e line rest cursor own = record { text = (render_lines e (line ∷ rest) cursor).text ++ own.text; cursor = own.cursor }
 
 -- their text
-after_head_lays : (q : Bool) (rules : Rules) (e : ℕ) (line : HeadLine) (rest : List HeadLine) (cursor : Cursor) (own : Rendered) (size : ℕ)
-    (content : Content q) (laid : Laid q rules e first_cursor false own size content) → line_end cursor ≡ line_feed ∷ []
-    → closed (after_head e line rest cursor own) ≡ line_feed ∷ (head_text e (line ∷ rest) ++ laid.text)
-after_head_lays q rules e line rest cursor own size content laid below =
+pub after_head_lays : (e : ℕ) (line : HeadLine) (rest : List HeadLine) (cursor : Cursor) (own : Rendered) (text : Text)
+    → Lays e (render_nothing first_cursor) own text → line_end cursor ≡ line_feed ∷ []
+    → closed (after_head e line rest cursor own) ≡ line_feed ∷ (head_text e (line ∷ rest) ++ text)
+after_head_lays e line rest cursor own text lays below =
     let head = head_text e (line ∷ rest) in
-    let lays = laid.lays refl in
     append_assoc (line_end cursor ++ head) own.text (closing own.cursor)
     ∙ ap (λ t. (t ++ head) ++ closed own) below
     ∙ ap (λ t. line_feed ∷ (head ++ t))
@@ -49,7 +48,7 @@ below_head q rules e place line rest cursor own size content laid below inside =
     record {
       settled = laid.settled refl;
       ends = closed_both rules.breaks12 (head_text e head) laid.text (head_closed rules.breaks12 e head) laid.reads.ends;
-      lays = after_head_lays q rules e line rest cursor own size content laid below;
+      lays = after_head_lays e line rest cursor own laid.text (laid.lays refl) below;
       inside = λ r d within.
           subst (Passes r d) (sym is) (head_inside q r d e head lines (inside r d within) (entry_follows q rules e lines opened)
           (laid.reads.inside r d (inside r d within)));

@@ -16,7 +16,7 @@ abbrev pub headed_by : ℕ → (count : ℕ) → List HeadLine → Rendered → 
 headed_by e count head first = record { text = closed first ++ (blank_text count ++ head_text e head); cursor = first_cursor }
 
 -- blank lines and a head are head lines
-blanks_first : (e count : ℕ) (head : List HeadLine) → head_text e (replicate count blank_line ++ head) ≡ blank_text count ++ head_text e head
+pub blanks_first : (e count : ℕ) (head : List HeadLine) → head_text e (replicate count blank_line ++ head) ≡ blank_text count ++ head_text e head
 blanks_first e zero head = refl
 blanks_first e (suc count) head = ap (λ t. line_feed ∷ t) (blanks_first e count head)
 
@@ -77,11 +77,11 @@ laid_headed q rules e count cursor comment rest first own m n a b all next =
 -- Any head
 
 -- head lines are blank lines alone, or blank lines and a head that begins with a comment
-data HeadForm (lines : List HeadLine) : Type 0 where
+pub data HeadForm (lines : List HeadLine) : Type 0 where
   blank_alone : (count : ℕ) → lines ≡ replicate count blank_line → HeadForm lines
   has_comment : (count : ℕ) (comment : Text) (rest : List HeadLine) → lines ≡ replicate count blank_line ++ comment_line comment ∷ rest → HeadForm lines
 
-head_form : (lines : List HeadLine) → HeadForm lines
+pub head_form : (lines : List HeadLine) → HeadForm lines
 head_form [] = blank_alone 0 refl
 head_form (comment_line comment ∷ rest) = has_comment 0 comment rest refl
 head_form (blank_line ∷ rest) = by (head_form rest)
@@ -108,14 +108,14 @@ barred_first (blank_line ∷ rest) = by (single_blanks rest) (barred_first rest)
     by (comment_line text ∷ more) h = refl
 
 -- so no blank line comes first
-none_barred : (bars : Bool) (lines : List HeadLine) (count : ℕ) (rest : List HeadLine)
+pub none_barred : (bars : Bool) (lines : List HeadLine) (count : ℕ) (rest : List HeadLine)
     → allowed_lines bars (single_blanks lines) ≡ replicate count blank_line ++ rest → bars ≡ true → count ≡ 0
 none_barred bars lines zero rest is h = refl
 none_barred bars lines (suc count) rest is h =
     absurd (true≢false (sym (ap blank_first is) ∙ ap (λ b. blank_first (allowed_lines b (single_blanks lines))) h ∙ barred_first lines))
 
 -- entries may be followed by blank lines that aren't barred
-laid_blanks : (q : Bool) (rules : Rules) (e : ℕ) (cursor : Cursor) (first : Rendered) (m : ℕ) (a : Content q) (bars barred : Bool) (count : ℕ)
+pub laid_blanks : (q : Bool) (rules : Rules) (e : ℕ) (cursor : Cursor) (first : Rendered) (m : ℕ) (a : Content q) (bars barred : Bool) (count : ℕ)
     → LaidOr q rules e cursor false first m a bars → (barred ≡ false → bars ≡ false) → (barred ≡ true → count ≡ 0)
     → Laid q rules e cursor false (with_blanks count first) m a
 laid_blanks q rules e cursor first m a bars barred zero all less none = laid_closed q rules e cursor first m a all.laid
@@ -126,7 +126,7 @@ laid_blanks q rules e cursor first m a bars true (suc count) all less none = abs
     no_count h = cc
 
 -- blank lines alone are rendered so
-blanks_rendered : (e count : ℕ) (first : Rendered) → Settled first.cursor
+pub blanks_rendered : (e count : ℕ) (first : Rendered) → Settled first.cursor
     → render_then first (render_lines e (replicate (suc count) blank_line)) ≡ with_blanks (suc count) first
 blanks_rendered e count first settled =
     let lines = replicate (suc count) blank_line in

@@ -35,6 +35,12 @@ head_alone q e head =
 head_ends : (e : ℕ) (head : List HeadLine) → item_follows e (map (head_line e) head) ≡ false
 head_ends e head = ap (item_follows e) (sym (append-nil (map (head_line e) head))) ∙ item_after e head []
 
+-- entries of a collection that lie deeper than a column are inside it
+pub farther : (q r : Bool) (d e : ℕ) → d < e → d + margin q r ≤ e
+farther false r d e less = omega arith
+farther true true d e less = omega arith
+farther true false d e less = omega arith
+
 -- so it is for entries and a head that begins with a comment after them, at a column deeper than that of the root
 pub trailing_head : (q : Bool) (rules : Rules) (e : ℕ) (cursor : Cursor) (comment : Text) (rest : List HeadLine) (own : Rendered) (size : ℕ)
     (content : Content q) → 1 ≤ e → (all : Laid q rules e cursor false own size content)
@@ -50,7 +56,7 @@ trailing_head q rules e cursor comment rest own size content deep all = record {
   };
   ends = closed_both rules.breaks12 all.text (head_text e head) all.reads.ends (head_closed rules.breaks12 e head);
   inside = λ r d less.
-      subst (Passes r d) (sym is) (passes_both r d lines (map (head_line e) head) (all.reads.inside r d (farther q r d less))
+      subst (Passes r d) (sym is) (passes_both r d lines (map (head_line e) head) (all.reads.inside r d (farther q r d e less))
       (inside_passes r d (map (head_line e) head) (lines_inside r d e head less)));
   within = subst AreContent (sym is) (content_both lines (map (head_line e) head) all.reads.within
       (all_markerless false (map (head_line e) head) (lines_inside false 0 e head deep)));
@@ -85,8 +91,3 @@ trailing_head q rules e cursor comment rest own size content deep all = record {
         all.reads.reads depth deep added
         ∙ ap (λ (a : Entries). fold (entry_step q rules (node_read depth rules) e) (Some (held q content)) a.entries) (head_alone q e head)
         ∙ entries_over q rules (node_read depth rules) e head content
-
-    farther : (q r : Bool) (d : ℕ) → d < e → d + margin q r ≤ e
-    farther false r d less = omega arith
-    farther true true d less = omega arith
-    farther true false d less = omega arith
