@@ -30,3 +30,4 @@ pub mod StreamHeadedEntries
 pub mod StreamHeadedBlocks
 pub mod StreamTrailingHeads
 pub mod StreamTrailingBlocks
+pub mod StreamCommentedEntries

@@ -79,6 +79,16 @@ item_added rules s x e n first own trees tree fit =
           };
     }
 
+-- blank lines after it
+pub item_spared : (rules : Rules) (s : Effective) (x : Bool) (e n count : ℕ) (first : Rendered) (own : Cursor → Rendered) (trees : Trees) (tree : Tree)
+    → Fits rules n (with_blanks count (own (indicator_cursor e))) tree (dash_place x e) (indicator_cursor e)
+    → Added true rules e first (with_blanks count (placed_own s (dash_place x e) false first own)) n trees (trees_and trees tree)
+item_spared rules s x e n count first own trees tree fit =
+    subst (λ t. Added true rules e first (record { text = t; cursor = first_cursor }) n trees (trees_and trees tree))
+    (ended first.text ((new_line e first.cursor).text ++ (0x2D ∷ [])) (own (indicator_cursor e)).text (closing (own (indicator_cursor e)).cursor)
+    (blank_text count))
+    (item_added rules s x e n first (λ at. with_blanks count (own at)) trees tree fit)
+
 -- the items of a sequence, and one more, also with blank lines after it
 pub item_laid : (rules : Rules) (s : Effective) (x : Bool) (e m n : ℕ) (cursor : Cursor) (empty : Bool) (first : Rendered) (own : Cursor → Rendered)
     (trees : Trees) (tree : Tree) (bars : Bool)
@@ -87,8 +97,4 @@ pub item_laid : (rules : Rules) (s : Effective) (x : Bool) (e m n : ℕ) (cursor
 item_laid rules s x e m n cursor empty first own trees tree bars all fit =
     laid_added true rules e cursor empty first (placed_own s (dash_place x e) false first own) m n trees (trees_and trees tree) bars all
     (item_added rules s x e n first own trees tree fit.fits)
-    (λ allowed count.
-    subst (λ t. Added true rules e first (record { text = t; cursor = first_cursor }) n trees (trees_and trees tree))
-    (ended first.text ((new_line e first.cursor).text ++ (0x2D ∷ [])) (own (indicator_cursor e)).text (closing (own (indicator_cursor e)).cursor)
-    (blank_text count))
-    (item_added rules s x e n first (λ at. with_blanks count (own at)) trees tree (fit.spares allowed count)))
+    (λ allowed count. item_spared rules s x e n count first own trees tree (fit.spares allowed count))

@@ -228,6 +228,18 @@ blanks_after_pair x s e count first before key value =
     ap (λ t. record { text = t; cursor = first_cursor })
     (ended keyed.text (render_place s (value_place x e) false keyed.cursor).text own.text (closing own.cursor) (blank_text count))
 
+-- so they may follow it
+pub pair_spared : (x : Bool) (rules : Rules) (s : Effective) (e m n count : ℕ) (first : Bool) (before : Rendered) (key value : Cursor → Rendered)
+    (trees : TreePairs) (key_tree value_tree : Tree)
+    → (let k = key (key_cursor x e) in
+    KeyFitsAt x rules e first m k key_tree
+    → Fits rules n (with_blanks count (value (value_cursor x e k))) value_tree (value_place x e) (value_cursor x e k)
+    → Added false rules e before (with_blanks count (pair_own x s e first before key value)) (m + n) trees (tree_pairs_and trees key_tree value_tree))
+pair_spared x rules s e m n count first before key value trees key_tree value_tree key_fits fit =
+    subst (λ own. Added false rules e before own (m + n) trees (tree_pairs_and trees key_tree value_tree))
+    (blanks_after_pair x s e count first before key value)
+    (pair_added x rules s e m n first before key (λ at. with_blanks count (value at)) trees key_tree value_tree key_fits fit)
+
 -- the pairs of a mapping, and one more, also with blank lines after it
 pub pair_laid : (x : Bool) (rules : Rules) (s : Effective) (e l m n : ℕ) (cursor : Cursor) (first empty : Bool) (before : Rendered)
     (key value : Cursor → Rendered) (trees : TreePairs) (key_tree value_tree : Tree) (bars : Bool)
@@ -238,7 +250,4 @@ pub pair_laid : (x : Bool) (rules : Rules) (s : Effective) (e l m n : ℕ) (curs
 pair_laid x rules s e l m n cursor first empty before key value trees key_tree value_tree bars all key_fits fit =
     laid_added false rules e cursor empty before (pair_own x s e first before key value) l (m + n) trees (tree_pairs_and trees key_tree value_tree) bars all
     (pair_added x rules s e m n first before key value trees key_tree value_tree key_fits fit.fits)
-    (λ allowed count.
-    subst (λ own. Added false rules e before own (m + n) trees (tree_pairs_and trees key_tree value_tree))
-    (blanks_after_pair x s e count first before key value)
-    (pair_added x rules s e m n first before key (λ at. with_blanks count (value at)) trees key_tree value_tree key_fits (fit.spares allowed count)))
+    (λ allowed count. pair_spared x rules s e m n count first before key value trees key_tree value_tree key_fits (fit.spares allowed count))
