@@ -77,7 +77,7 @@ text_bare piece =
     let own = body_text piece.body in
     ap (λ t. piece.lead ++ t) (both_same (has_header piece.body) (at_line_end [] own) (own ++ []) own (nothing_added own) (append-nil own))
 
-texts_bare : (pieces : List Piece) → commented_text_of (map piece_alone pieces) ≡ text_of pieces
+pub texts_bare : (pieces : List Piece) → commented_text_of (map piece_alone pieces) ≡ text_of pieces
 texts_bare [] = refl
 texts_bare (piece ∷ rest) =
     ap (λ t. t ++ commented_text_of (map piece_alone rest)) (text_bare piece) ∙ ap (λ t. piece_text piece ++ t) (texts_bare rest)

@@ -13,6 +13,7 @@ pub mod CommentedPieces
 pub mod CommentedHeads
 pub mod CommentedStages
 pub mod CommentedTrees
+pub mod CommentedLeaves
 pub mod CommentedProgress
 pub mod LineComments
 pub mod Completions
