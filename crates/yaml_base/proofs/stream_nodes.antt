@@ -31,3 +31,4 @@ pub mod StreamHeadedBlocks
 pub mod StreamTrailingHeads
 pub mod StreamTrailingBlocks
 pub mod StreamCommentedEntries
+pub mod StreamCommentedLeaves
