@@ -32,3 +32,4 @@ pub mod StreamTrailingHeads
 pub mod StreamTrailingBlocks
 pub mod StreamCommentedEntries
 pub mod StreamCommentedLeaves
+pub mod StreamCommentedItems
