@@ -85,7 +85,7 @@ alone_then first next plain same =
 -- Events
 
 -- an event's piece after its head lines
-abbrev event_headed : List HeadLine → HeadPlace → Event → (Standing → RenderedPiece) → Standing → RenderedCommentedPieces
+abbrev pub event_headed : List HeadLine → HeadPlace → Event → (Standing → RenderedPiece) → Standing → RenderedCommentedPieces
 event_headed lines place event piece before =
     let head = render_before lines place event before in
     let rendered = piece head.standing in
@@ -107,7 +107,7 @@ with_line waiting takes alone head rendered line =
           };
     }
 
-without_line : (commented : Commented) (form : EventForm) (before : CommentedStanding) → commented.comments.line ≡ None
+pub without_line : (commented : Commented) (form : EventForm) (before : CommentedStanding) → commented.comments.line ≡ None
     → render_event commented form before
     ≡ event_headed (before.waiting ++ commented.comments.head) form.place commented.event form.piece before.standing
 without_line commented form before none =

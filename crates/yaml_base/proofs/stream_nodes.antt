@@ -33,3 +33,4 @@ pub mod StreamTrailingBlocks
 pub mod StreamCommentedEntries
 pub mod StreamCommentedLeaves
 pub mod StreamCommentedItems
+pub mod StreamCommentedBlocks

@@ -26,17 +26,21 @@ abbrev pub symbols_of : Effective → List TagDirective → Place → CommentedN
 symbols_of s directives place n before =
     render_place s place (is_simple_at place s.canonical directives (node_of n)) (head_lines_of s place n before).standing.cursor
 
--- a node with comments in a block, from a state on: after its head lines and the indicators of its place its text fits, also with any number of blank
--- lines after it, unless the writer bars these
-pub record CommentedFits (rules : Rules) (s : Effective) (directives : List TagDirective) (n : CommentedNode) (place : Place) (before : CommentedStanding)
+-- pieces with comments are a head, indicators and a text that fits, also with any number of blank lines after it, unless the writer bars these
+pub record HeadedFits (rules : Rules) (made : RenderedCommentedPieces) (head : Headed) (symbols : Rendered) (size : ℕ) (tree : Tree) (place : Place)
     : Type 0 where
   pub own : Rendered
   pub bars : Bool
-  pub text : commented_text_of (render_commented n s directives place before).pieces
-      ≡ (head_lines_of s place n before).text ++ ((symbols_of s directives place n before).text ++ own.text)
-  pub ends : (render_commented n s directives place before).standing.standing.cursor ≡ own.cursor
-  pub fit : FitsOr rules (size (node_of n)) own (node_tree (node_of n) s directives place) place (symbols_of s directives place n before).cursor bars
-  pub less : bars_blank ((render_commented n s directives place before).standing.standing.open_ended == 2) own.cursor ≡ false → bars ≡ false
+  pub text : commented_text_of made.pieces ≡ head.text ++ (symbols.text ++ own.text)
+  pub ends : made.standing.standing.cursor ≡ own.cursor
+  pub fit : FitsOr rules size own tree place symbols.cursor bars
+  pub less : bars_blank (made.standing.standing.open_ended == 2) own.cursor ≡ false → bars ≡ false
+
+-- so are those of a node with comments in a block, from a state on
+abbrev pub CommentedFits : Rules → Effective → List TagDirective → CommentedNode → Place → CommentedStanding → Type 0
+CommentedFits rules s directives n place before =
+    HeadedFits rules (render_commented n s directives place before) (head_lines_of s place n before) (symbols_of s directives place n before)
+    (size (node_of n)) (node_tree (node_of n) s directives place) place
 
 -- Blank lines
 
