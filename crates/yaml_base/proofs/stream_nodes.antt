@@ -34,3 +34,4 @@ pub mod StreamCommentedEntries
 pub mod StreamCommentedLeaves
 pub mod StreamCommentedItems
 pub mod StreamCommentedBlocks
+pub mod StreamCommentedPairs

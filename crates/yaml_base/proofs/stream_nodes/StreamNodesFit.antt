@@ -143,13 +143,15 @@ compact_at (Some c) undented zero cursor deep stands h = absurd (omega arith)
 compact_at (Some c) undented (suc k) cursor deep stands h = grind (arith, compact_behind)
 
 -- after properties or without them
-pub compact_begun : (rules : Rules) (anchor tag : Option Text) (column : Option ℕ) (undented : Bool) (indent : ℕ) (cursor : Cursor) (begun : Rendered) → 2 ≤ indent
+pub compact_begun : (rules : Rules) (anchor tag : Option Text) (column : Option ℕ) (undented : Bool) (indent : ℕ) (cursor : Cursor) (begun : Rendered)
+    → 2 ≤ indent
     → Stands column cursor
     → BegunKind rules anchor tag cursor begun → begun.cursor.indention ≡ true → Compact (entries_column false undented indent column begun.cursor) begun.cursor
 compact_begun rules anchor tag column undented indent cursor begun deep stands h10 h = grind (false≢true, arith, compact_at)
 
 -- the entries of a collection in a block are within the columns around
-pub entries_within : (q : Bool) (s : Effective) (r : Bool) (d : ℕ) (role : Role) (column : Option ℕ) (cursor : Cursor) → 2 ≤ s.indent → WithinColumn r d role column
+pub entries_within : (q : Bool) (s : Effective) (r : Bool) (d : ℕ) (role : Role) (column : Option ℕ) (cursor : Cursor) → 2 ≤ s.indent
+    → WithinColumn r d role column
     → d + margin q r ≤ entries_column false (q && is_undented s role) s.indent column cursor
 entries_within q s r d role column cursor deep within = grind (arith)
 
