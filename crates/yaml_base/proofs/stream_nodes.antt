@@ -35,3 +35,4 @@ pub mod StreamCommentedLeaves
 pub mod StreamCommentedItems
 pub mod StreamCommentedBlocks
 pub mod StreamCommentedPairs
+pub mod StreamCommentedFit

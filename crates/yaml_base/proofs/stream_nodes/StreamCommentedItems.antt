@@ -27,7 +27,7 @@ written_then first next =
 -- Heads
 
 -- no head lines are no text
-no_lines : (bars : Bool) → allowed_lines bars [] ≡ []
+pub no_lines : (bars : Bool) → allowed_lines bars [] ≡ []
 no_lines true = refl
 no_lines false = refl
 

@@ -40,7 +40,7 @@ key_head s first e n before plain =
     ap (λ b. render_before lines (if b then left_out else at_column e) event.event before.standing) plain ∙ lines_at n e lines before.standing
 
 -- a value has none
-value_head : (s : Effective) (x : Bool) (e : ℕ) (n : CommentedNode) (before : CommentedStanding) → s.canonical ≡ false
+pub value_head : (s : Effective) (x : Bool) (e : ℕ) (n : CommentedNode) (before : CommentedStanding) → s.canonical ≡ false
     → head_lines_of s (value_place x e) n before ≡ no_head before.standing
 value_head s x e n before plain =
     let event = first_event n in
@@ -59,7 +59,7 @@ value_head s x e n before plain =
 -- Pairs
 
 -- the cursor after the indicator of a value
-value_symbols : (x : Bool) (s : Effective) (e : ℕ) (cursor : Cursor) (key : Rendered) → cursor ≡ key.cursor
+pub value_symbols : (x : Bool) (s : Effective) (e : ℕ) (cursor : Cursor) (key : Rendered) → cursor ≡ key.cursor
     → (render_place s (value_place x e) false cursor).cursor ≡ value_cursor x e key
 value_symbols true s e cursor key same = ap colon_cursor same
 value_symbols false s e cursor key same = refl
@@ -85,7 +85,8 @@ pair_written s d x first e key value rules made plain k v =
     ∙ ap (λ (h : Headed). h.text ++ ((render_place s (key_at first e) x h.standing.cursor).text ++ k.own.text)) (key_head s first e key made.standing plain) in
     let value_text : commented_text_of valued.pieces ≡ (render_place s (value_place x e) false k.own.cursor).text ++ v.own.text =
     v.text
-    ∙ ap (λ (h : Headed). h.text ++ ((render_place s (value_place x e) false h.standing.cursor).text ++ v.own.text)) (value_head s x e value keyed.standing plain)
+    ∙ ap (λ (h : Headed). h.text ++ ((render_place s (value_place x e) false h.standing.cursor).text ++ v.own.text))
+    (value_head s x e value keyed.standing plain)
     ∙ ap (λ c. (render_place s (value_place x e) false c).text ++ v.own.text) k.ends in
     written_then both (render_commented value s d (value_place x e))
     ∙ ap (λ (r : Rendered). record { text = r.text ++ commented_text_of valued.pieces; cursor = valued.standing.standing.cursor })
@@ -150,7 +151,8 @@ headed_pair pairs key value rules s d x e before plain all k v = by pairs all k 
         let trees = pairs_tree (pairs_of others) s d false in
         let laid = all refl in
         next_headed false rules e before.standing.cursor (made.standing.standing.open_ended == 2)
-        (made.standing.waiting ++ (first_event key).comments.head) (written_of made) _ (pairs_size (pairs_of others)) _ trees _ laid.bars v.bars laid.laid laid.less
+        (made.standing.waiting ++ (first_event key).comments.head) (written_of made) _ (pairs_size
+        (pairs_of others)) _ trees _ laid.bars v.bars laid.laid laid.less
         (next false made trees k v)
 
 -- so are pairs if those before the last are, and the last key and value fit

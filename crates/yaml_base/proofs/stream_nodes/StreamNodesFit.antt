@@ -158,7 +158,7 @@ entries_within q s r d role column cursor deep within = grind (arith)
 -- The law
 
 -- a collection that isn't written in flow isn't empty
-not_empty : (s : Effective) (place : Place) (start : Collection) (empty : Bool) → is_written_in_flow s place start empty ≡ false → empty ≡ false
+pub not_empty : (s : Effective) (place : Place) (start : Collection) (empty : Bool) → is_written_in_flow s place start empty ≡ false → empty ≡ false
 not_empty s place start empty h = (or_parts (place.in_flow || s.canonical || asks_flow start.style) empty h).1
 
 -- what is read at a depth is at each that is deeper
