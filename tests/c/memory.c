@@ -105,6 +105,11 @@ static int32_t canonical_from_json(size_t capacity) {
     return yaml_c_canonical_from_json((const uint8_t *)text, sizeof text - 1, &settings, out, capacity, &result);
 }
 
+static int32_t comment_lines(size_t capacity) {
+    static const char text[] = LETTERS "\n\n" LETTERS LETTERS LETTERS;
+    return yaml_c_comment_lines(text, sizeof text - 1, out, capacity, &result);
+}
+
 static int32_t give_kind(struct yaml_c_emitter *kept, uint32_t kind) {
     struct yaml_c_event event;
     memset(&event, 0, sizeof event);
@@ -395,6 +400,59 @@ static void refuse_each_of_values(void) {
     if (again == 0 || failed == 0) fail("values", "no growth of a call or of the emitter is refused");
 }
 
+/* ---- nodes */
+
+/* Gives a mapping of a shared text to a sequence, with a tag, of that text and another one, twice. */
+static int32_t give_nodes(struct yaml_c_emitter *kept) {
+    static const char node_texts[] = "first" "!mine" LETTERS LETTERS;
+    static const int32_t numbers[] = {2, 3, 2, 4, 4};
+    static struct yaml_c_node nodes[4];
+    nodes[0].kind = YAML_C_MAPPING_NODE;
+    nodes[0].content = span(0, 2);
+    nodes[1].kind = nodes[3].kind = YAML_C_SCALAR_NODE;
+    nodes[1].content = span(0, 5);
+    nodes[2].kind = YAML_C_SEQUENCE_NODE;
+    nodes[2].has_tag = 1;
+    nodes[2].tag = span(5, 5);
+    nodes[2].content = span(2, 3);
+    nodes[3].content = span(10, sizeof node_texts - 11);
+    memset(&result, 0xff, sizeof result);
+    return yaml_c_emitter_dump(kept, nodes, 4, numbers, 5, (const uint8_t *)node_texts, sizeof node_texts - 1, &result);
+}
+
+/* Refuses each growth of the call and of the stream's end in turn. Without an error nothing changed, and the call is made again. */
+static void refuse_each_of_nodes(void) {
+    static const char yaml[] = "---\n&id001 first: !mine\n  - *id001\n  - &id002 " LETTERS LETTERS "\n  - *id002\n";
+    struct yaml_c_settings settings = yaml_c_settings_for_values();
+    struct yaml_c_emitter kept;
+    int again = 0, failed = 0;
+    for (refused_at = 1;; refused_at++) {
+        growths = 0;
+        if (yaml_c_emitter_new(&settings, &kept) == YAML_C_DONE) {
+            int32_t status = give_nodes(&kept);
+            if (status == YAML_C_NO_MEMORY && result.error == 0) {
+                again++;
+                if (yaml_c_emitter_finish(&kept, &result) != YAML_C_MISPLACED) fail("nodes", "a document is opened");
+                status = give_nodes(&kept);
+            }
+            if (status == YAML_C_DONE) status = yaml_c_emitter_finish(&kept, &result);
+            if (status == YAML_C_NO_MEMORY && result.error == YAML_C_EMITTER_NO_MEMORY) {
+                failed++;
+                if (give_nodes(&kept) != YAML_C_NO_MEMORY || result.error != YAML_C_EMITTER_NO_MEMORY) fail("nodes", "others are taken");
+            } else if (status != YAML_C_DONE) {
+                fail("nodes", "another status");
+            } else if (yaml_c_emitter_take_output(&kept, out, sizeof out, &result) != YAML_C_DONE || result.length != sizeof yaml - 1
+                       || memcmp(out, yaml, sizeof yaml - 1) != 0) {
+                fail("nodes", "other YAML");
+            }
+            yaml_c_emitter_delete(&kept);
+        }
+        if (blocks != 0) fail("nodes", "a block is left");
+        if (growths < refused_at) break;
+    }
+    if (again == 0 || failed == 0) fail("nodes", "no growth of the call or of the emitter is refused");
+}
+
 int main(void) {
     static uint8_t whole[sizeof out];
     size_t length;
@@ -412,6 +470,8 @@ int main(void) {
     refuse_each("yaml_c_emitter_emit_json", json_in_stream);
     refuse_each_of_texts();
     refuse_each_of_values();
+    refuse_each("yaml_c_comment_lines", comment_lines);
+    refuse_each_of_nodes();
     if (!refused_new || !refused_texts || !refused_events || !refused_flushes)
         printf("refused: %d new, %d texts, %d events, %d flushes\n", refused_new, refused_texts, refused_events, refused_flushes);
     printf("each allocation refused in turn: %d times not as written\n", failures);

@@ -1,13 +1,14 @@
 pub mod Common
 pub mod CanonicalLemmas
 pub mod Utf8
-pub mod DirectiveLemmas
+pub mod ReadingLemmas
 pub mod EmissionLemmas
 pub mod GivingLemmas
 pub mod JsonEventLemmas
 pub mod JsonLemmas
 pub mod KeptLemmas
 pub mod MovingLemmas
+pub mod NodeLemmas
 pub mod Pointers
 pub mod TomlLemmas
 pub mod ValueLemmas

@@ -1,5 +1,5 @@
 -- Values that a writer over an emitter wrote, and the outcomes of calls that give them.
-use Rattle.std.specs.Prelude.{◌≡◌, pos, Bool, true, false, Option, None, Some, List, [], ◌∷◌, Result, Ok, Err, is_some, if◌then◌else◌}
+use Rattle.std.specs.Prelude.{◌≡◌, pos, true, false, Option, None, Some, List, [], ◌∷◌, Result, Ok, Err, is_some, if◌then◌else◌}
 use Rattle.std.specs.Float.Ieee.{nan, inf, fin}
 use Rattle.std.specs.Str.{chars}
 use Rattle.std.proofs.Common.{ap, inl, inr, refl, subst, sym, ◌∙◌}

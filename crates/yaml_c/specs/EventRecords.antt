@@ -55,11 +55,13 @@ directive_from handle prefix = None
 abbrev pub directive_recorded : List ℕ → DirectiveRecord → Option TagDirective
 directive_recorded arena directive = directive_from (text_in_arena arena directive.handle) (text_in_arena arena directive.prefix)
 
--- Directives in order, if each has a reading.
+-- The readings of an array's elements in order, if each has one.
+abbrev pub all_read : {R E : Type 0} → (R → Option E) → List R → Option (List E)
+all_read read [] = Some []
+all_read read (first ∷ rest) = option_and_then (λ one. option_map (λ others. one ∷ others) (all_read read rest)) (read first)
+
 abbrev pub directives_recorded : List ℕ → List DirectiveRecord → Option (List TagDirective)
-directives_recorded arena [] = Some []
-directives_recorded arena (first ∷ rest) =
-    option_and_then (λ directive. option_map (λ others. directive ∷ others) (directives_recorded arena rest)) (directive_recorded arena first)
+directives_recorded arena directives = all_read (directive_recorded arena) directives
 
 -- those of a span of the array
 abbrev pub directives_at : List ℕ → List DirectiveRecord → Span → Option (List TagDirective)

@@ -1,11 +1,14 @@
 pub mod Answers
 pub mod Arena
 pub mod CanonicalAnswers
+pub mod Dumps
 pub mod Emission
 pub mod EventRecords
 pub mod GivenSettings
 pub mod Giving
 pub mod Handle
+pub mod HeadingAnswers
+pub mod NodeRecords
 pub mod Places
 pub mod Values
 pub mod TomlAnswers

@@ -27,6 +27,12 @@ after_node spots.Value = Some spots.Key
 after_node spots.Done = None
 after_node spots.Nowhere = None
 
+-- True if a document's root may be there.
+abbrev pub is_root : Spot → Bool
+is_root spots.Start = true
+is_root spots.Root = true
+is_root spot = false
+
 abbrev pub is_start : Spot → Bool
 is_start spots.Start = true
 is_start spot = false

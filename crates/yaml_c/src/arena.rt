@@ -3,7 +3,8 @@ ghost use Rattle.std.specs.Prelude.{◌≡◌, IfOk, option_map};
 ghost use Rattle.std.specs.Str.{chars};
 ghost use Rattle.yaml_base.specs.Seen.{seen_text};
 ghost use Rattle.yaml_emitter.specs.BorrowedTexts.{seen_name};
-ghost use Rattle.yaml_c.specs.Arena.{part_of, utf8_text, text_in_arena, optional_text_at};
+ghost use Rattle.yaml_c.specs.Arena as texts;
+ghost use Rattle.yaml_c.specs.Arena.{utf8_text, text_in_arena, optional_text_at};
 
 use std::alloc::{AllocError, Allocator};
 
@@ -15,14 +16,14 @@ pub struct Span {
     pub length: usize,
 }
 
-/// Returns the bytes of a span, or `None` if it passes the end of the arena.
-fn bytes_at<'a>(arena: &'a [u8], span: &Span) -> Option<&'a [u8]>
-    ensures { option_map (λ bytes. bytes.now) result ≡ part_of arena.now span.now }
+/// Returns the elements of a span, or `None` if it passes the end of the array.
+pub(crate) fn part_of<'a, T>(all: &'a [T], span: &Span) -> Option<&'a [T]>
+    ensures { option_map (λ part. part.now) result ≡ texts.part_of all.now span.now }
 {
-    if span.start > arena.len() || span.length > arena.len() - span.start {
+    if span.start > all.len() || span.length > all.len() - span.start {
         return None;
     }
-    Some(&arena[span.start..span.start + span.length])
+    Some(&all[span.start..span.start + span.length])
 }
 
 /// Returns bytes as a text, or `None` if they aren't UTF-8.
@@ -40,7 +41,7 @@ pub(crate) fn text_of(bytes: &[u8]) -> Option<&str>
 pub(crate) fn borrowed_text<'a>(arena: &'a [u8], span: &Span) -> Option<&'a str>
     ensures { option_map (λ text. chars text.now) result ≡ text_in_arena arena.now span.now }
 {
-    text_of(bytes_at(arena, span)?)
+    text_of(part_of(arena, span)?)
 }
 
 /// Returns the text of a span, or `Some(None)` if `has` is 0. Returns `None` if `has` isn't 0 and the span has no text.

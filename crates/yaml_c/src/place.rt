@@ -63,6 +63,13 @@ pub(crate) fn is_start(spot: Spot) -> bool
     matches!(spot, Spot::Start)
 }
 
+/// Returns whether a document's root may be there.
+pub(crate) fn is_root(spot: Spot) -> bool
+    ensures { result ≡ places.is_root spot }
+{
+    matches!(spot, Spot::Start | Spot::Root)
+}
+
 /// Returns whether a document's root is there.
 pub(crate) fn is_done(spot: Spot) -> bool
     ensures { result ≡ places.is_done spot }

@@ -7,7 +7,9 @@ ghost use Rattle.yaml_c.specs.Arena as texts;
 ghost use Rattle.yaml_c.specs.EventRecords as meaning;
 ghost use Rattle.yaml_c.specs.Giving.{given_event, is_read_scalar};
 
-use crate::arena::{Span, borrowed_text, optional_borrowed_text, optional_text, owned_text};
+use crate::arena::{
+    Span, borrowed_text, optional_borrowed_text, optional_text, owned_text, part_of,
+};
 use crate::styles::{encoding, mapping_style, scalar_style, sequence_style};
 use std::alloc::{AllocError, Allocator};
 use yaml_base::{yaml_event_t, yaml_tag_directive_t, yaml_version_directive_t};
@@ -86,16 +88,6 @@ fn directives_of<A: Allocator + Copy>(
         }
     }
     Ok(Some(all))
-}
-
-/// Returns the directives of a span, or `None` if it passes the end of the array.
-fn part_of<'a>(directives: &'a [DirectiveRecord], span: &Span) -> Option<&'a [DirectiveRecord]>
-    ensures { option_map (λ part. part.now) result ≡ texts.part_of directives.now span.now }
-{
-    if span.start > directives.len() || span.length > directives.len() - span.start {
-        return None;
-    }
-    Some(&directives[span.start..span.start + span.length])
 }
 
 fn directives_at<A: Allocator + Copy>(
