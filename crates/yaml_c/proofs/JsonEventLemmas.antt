@@ -1,5 +1,6 @@
 -- JSON texts whose events were given to an emitter, through a writer over it.
-use Rattle.std.specs.Prelude.{◌≡◌, ◌≢◌, ◌⊎◌, Bool, Option, None, Some, List, [], ◌∷◌, ◌++◌, ℕ, Result, Ok, Err, IsUtf8, true, false, is_none, length, ◌&&◌, if◌then◌else◌}
+use Rattle.std.specs.Prelude.{◌≡◌, ◌≢◌, ◌⊎◌, ◌∷◌, ◌++◌, ◌&&◌, Bool, true, false, Option, None, Some, List, [], ℕ, Result, Ok, Err, IsUtf8, is_none, length}
+use Rattle.std.specs.Prelude.{if◌then◌else◌}
 use Rattle.std.proofs.Common.{ap, arith, inl, inr, refl, subst, sym, ◌∙◌}
 use Rattle.std.proofs.lemmas.Bool.{true≢false}
 use Rattle.json.specs.Json.{Json, null, boolean, number, string, array, object}

@@ -48,11 +48,11 @@ abbrev pub values_given : ValueOptions → Settings
 values_given given =
     record given_for_values {
       canonical = is_on given.canonical;
-      unicode = is_off given.no_unicode;
+      unicode = is_off given.ascii_only;
       breaks12 = is_on given.line_breaks_1_2;
-      portable = is_off given.no_portable;
-      indented_sequences = is_off given.no_indented_sequences;
-      literal_blanks = is_off given.no_literal_blanks;
+      portable = is_off given.allow_unportable;
+      indented_sequences = is_off given.compact_sequences;
+      literal_blanks = is_off given.quoted_blanks;
       double_quotes = is_on given.double_quotes;
       indent = Some given.indent;
       width = Some (width_given given.width);

@@ -34,11 +34,11 @@ pub struct EmitterSettings {
 pub struct ValueOptions {
     pub flow: u32,
     pub canonical: u32,
-    pub no_unicode: u32,
+    pub ascii_only: u32,
     pub line_breaks_1_2: u32,
-    pub no_portable: u32,
-    pub no_indented_sequences: u32,
-    pub no_literal_blanks: u32,
+    pub allow_unportable: u32,
+    pub compact_sequences: u32,
+    pub quoted_blanks: u32,
     pub double_quotes: u32,
     pub indent: i32,
     pub width: i32,
@@ -100,11 +100,11 @@ fn emitter_settings_from(given: &ValueOptions) -> Settings
 {
     let mut settings = value_settings();
     settings.canonical = given.canonical != 0;
-    settings.unicode = given.no_unicode == 0;
+    settings.unicode = given.ascii_only == 0;
     settings.line_breaks_1_2 = given.line_breaks_1_2 != 0;
-    settings.portable = given.no_portable == 0;
-    settings.indented_sequences = given.no_indented_sequences == 0;
-    settings.literal_blanks = given.no_literal_blanks == 0;
+    settings.portable = given.allow_unportable == 0;
+    settings.indented_sequences = given.compact_sequences == 0;
+    settings.literal_blanks = given.quoted_blanks == 0;
     settings.quotes = quotes_from(given.double_quotes);
     settings.indent = Some(given.indent);
     settings.width = Some(width_from(given.width));

@@ -22,7 +22,8 @@ pub loop-directive-init : goal.loop-directive-init
 loop-directive-init g c = (
   omega arith,
   refl,
-  read_none (directive_recorded c.args.arena.now) c.args.directives.now (map seen_directive c.new-all.result.items) (ap (map seen_directive) c.new-all.ensures.items),
+  read_none (directive_recorded c.args.arena.now) c.args.directives.now (map seen_directive c.new-all.result.items)
+      (ap (map seen_directive) c.new-all.ensures.items),
 )
 
 pub loop-directive-smaller : goal.loop-directive-smaller
@@ -37,4 +38,5 @@ returns-in-Ok-None g c =
 pub returns : goal.returns
 returns g c =
     let now = c.loop-directive in
-    read_all (directive_recorded c.args.arena.now) c.args.directives.now now.directive-index (map seen_directive now.all.items) c.loop-directive-test.false now.invariant.2
+    read_all (directive_recorded c.args.arena.now) c.args.directives.now now.directive-index (map seen_directive now.all.items)
+    c.loop-directive-test.false now.invariant.2
