@@ -42,9 +42,11 @@ def wrong_header_numbers():
     for kind, body in re.findall(r"^(\w+)_(?:numbered number|recorded arena directives event) =\n(.*?)^$", records, re.S | re.M):
         for number, word in re.findall(r"== (\d+) then (?:option_map |Some )?\(?(?:Some )?(\w+)", body):
             defined[OTHER_NAMES.get(f"{kind} {word}", re.sub("_recorded$", "", word).upper())] = int(number)
-    if len(defined) < 20:
-        return [f"EventRecords.antt: only {len(defined)} numbers are found"]
-    return [f"yaml_c.h has YAML_C_{name} = {named.get(name)}, but EventRecords.antt reads {defined.get(name)}"
+    nodes = re.findall(r"== (\d+) then (\w+)_recorded ", text_of("crates/yaml_c/specs/NodeRecords.antt"))
+    if len(defined) < 20 or len(nodes) < 3:
+        return [f"EventRecords.antt and NodeRecords.antt: only {len(defined)} and {len(nodes)} numbers are found"]
+    defined.update({f"{word.upper()}_NODE": int(number) for number, word in nodes})
+    return [f"yaml_c.h has YAML_C_{name} = {named.get(name)}, but the definitions read {defined.get(name)}"
             for name in sorted(named.keys() | defined.keys()) if named.get(name) != defined.get(name)]
 
 
