@@ -1,1 +1,2 @@
 pub mod RowsEvents
+pub mod RowsNodes
