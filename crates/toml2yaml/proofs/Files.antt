@@ -1,18 +1,14 @@
 -- The documents of several files, sent one after another.
+use Rattle.std.{proofs.KnownBytes.Appends-nil, proofs.KnownBytes.Appends-trans, specs.Io.KnownBytes.Appends}
 use Rattle.std.proofs.Common.{ℕ, Option, List, [], ◌∷◌, ◌++◌, map, Bool, ◌≡◌, refl, ap, ap₂, subst, sym, ◌∙◌, append-nil, append_assoc}
-use Rattle.std.specs.Io.KnownBytes.{Appends}
 use Rattle.toml_ordered.specs.Data.{TomlNodes}
-use Rattle.yaml_base.proofs.Common.{map-append, Event}
+use Rattle.yaml_base.{proofs.Common.map-append, proofs.Common.Event, specs.Settings.Settings}
 use Rattle.yaml_pen.specs.Page.{output_left}
-use Rattle.yaml_base.specs.Settings.{Settings}
+use Rattle.yaml_writer.specs.{WasGiven.between, WasGiven.WroteTaking, declared.settings.ValueSettings.ValueSettings}
 use Rattle.yaml_writer.specs.Writing.{IsStream, WriterState, closing}
-use Rattle.yaml_writer.specs.WasGiven.{between, WroteTaking}
-use Rattle.std.proofs.KnownBytes.{Appends-nil, Appends-trans}
 use Rattle.yaml_writer.proofs.GivenAndTaken.{begun_taken, stream_finished, taking_then, taking_same, took_none}
-use Rattle.yaml_program.specs.Conversions.{WroteStream}
-use Rattle.yaml_program.specs.Streams.{BeganDocument, SentFiles, SentStream}
+use Rattle.yaml_program.specs.{Conversions.WroteStream, Streams.BeganDocument, Streams.SentFiles, Streams.SentStream}
 use Rattle.yaml_program.proofs.FilesInTurn.{each_sent}
-use Rattle.yaml_writer.specs.declared.settings.ValueSettings.{ValueSettings}
 use Rattle.toml2yaml.specs.Conversions.{AreToml, IsYamlOfTomlFiles, SentTomlFile, toml_parts_events, root_events}
 
 -- ---- documents after others
@@ -25,8 +21,7 @@ both_toml depth (part ∷ parts) more each others = (each.0, both_toml depth par
 both_events : (canonical in_flow : Bool) (first : List ℕ × TomlNodes) (rest : List (List ℕ × TomlNodes)) (next : List ℕ × TomlNodes)
     → (toml_parts_events canonical in_flow (first ∷ rest) ++ between) ++ root_events canonical in_flow next.1
     ≡ toml_parts_events canonical in_flow (first ∷ (rest ++ next ∷ []))
-both_events canonical in_flow first [] next =
-    append_assoc (root_events canonical in_flow first.1) between (root_events canonical in_flow next.1)
+both_events canonical in_flow first [] next = append_assoc (root_events canonical in_flow first.1) between (root_events canonical in_flow next.1)
 both_events canonical in_flow first (second ∷ rest) next =
     let later = toml_parts_events canonical in_flow (second ∷ rest) in
     let last = root_events canonical in_flow next.1 in
@@ -74,7 +69,6 @@ module _ (settings : ValueSettings) where
       began.kept began.sends in
       let next : List ℕ × TomlNodes = (file, one.root) in
       let parts = sent.first ∷ sent.rest in
-      let before = toml_parts_events was.canonical settings.flow parts in
       let handed = sent.handed ++ begins.bytes in
       let same : begun.canonical ≡ was.canonical = begins.wrote.canonical ∙ sent.wrote.canonical in
       record {
@@ -85,22 +79,17 @@ module _ (settings : ValueSettings) where
         handed = handed;
         sends = subst (λ (all : Option (List ℕ)). Appends start all handed) (sym stays)
             (Appends-trans start held holds sent.handed begins.bytes sent.sends begins.sends);
-        wrote = taking_same was now ((before ++ between) ++ root_events was.canonical settings.flow one.root)
-            (toml_parts_events was.canonical settings.flow (sent.first ∷ (sent.rest ++ next ∷ []))) (handed ++ []) handed
-            (both_events was.canonical settings.flow sent.first sent.rest next) (append-nil handed)
-            (taking_then was begun now (before ++ between) (root_events was.canonical settings.flow one.root) handed []
-            (taking_then was middle begun before between sent.handed begins.bytes sent.wrote begins.wrote)
-            (subst (λ (canonical : Bool). WroteTaking begun (root_events canonical settings.flow one.root) [] now) same
-            (took_none begun now (root_events begun.canonical settings.flow one.root) one.wrote)));
+        wrote = taking_same _ _ _ _ _ _ (both_events was.canonical settings.flow sent.first sent.rest next) (append-nil handed) (taking_then _ _ _ _ _ _ []
+            (taking_then _ _ _ _ _ _ _ sent.wrote begins.wrote)
+            (subst (λ (canonical : Bool). WroteTaking begun (root_events canonical settings.flow one.root) [] now) same (took_none _ _ _ one.wrote)));
       }
 
   -- and all
   pub all_sent : (files : List (List ℕ)) (was now : WriterState) (before after : Option (List ℕ)) → SentFiles (SentTomlFile settings) files was before now after
       → SentTomlFiles settings files was before now after
   all_sent files was now before after =
-      each_sent (SentTomlFile settings) (λ all now holds. SentTomlFiles settings all was before now holds)
-      (λ some file middle begun now held holds later. next_sent some file was middle begun now before held holds later) files was now before after
-      (λ file now holds. file_sent file was now before holds)
+      each_sent (SentTomlFile settings) (λ all now holds. SentTomlFiles settings all was before now holds) (λ some file middle begun now held holds later.
+      next_sent some file was middle begun now before held holds later) files was now before after (λ file now holds. file_sent file was now before holds)
 
   pub all_wrote : (files : List (List ℕ)) (before after : Option (List ℕ)) → SentStream (SentTomlFile settings) settings.emitter files before after
       → WroteStream (IsYamlOfTomlFiles settings) files before after

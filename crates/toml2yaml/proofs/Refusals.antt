@@ -1,33 +1,22 @@
 -- Files of which one is refused have no stream.
 use Rattle.std.proofs.Common.{ℕ, ◌≤◌, Option, None, Some, List, [], ◌∷◌, ◌++◌, map, Bool, ◌≡◌, ◌⊎◌, inl, inr, refl, ap, subst, sym, ◌∙◌, append-nil}
 use Rattle.std.proofs.Common.{append_assoc, arith, unwrap_or}
-use Rattle.yaml_base.proofs.Common.{Event}
 use Rattle.std.specs.Str.{IsUtf8}
-use Rattle.toml_ordered.specs.Data.{TomlNodes}
-use Rattle.toml_ordered.specs.Grammar.{ordered_document}
-use Rattle.yaml_base.specs.declared.errors.yaml_error_t.{yaml_error_t}
-use Rattle.yaml_pen.specs.Page.{output_left}
-use Rattle.yaml_pen.proofs.Writing.{some_from_result}
-use Rattle.yaml_emitter.specs.Given.{seen_settings}
-use Rattle.yaml_emitter.specs.Emits.{IsPromised}
-use Rattle.yaml_emitter.specs.State.{bytes_taken}
-use Rattle.yaml_writer.specs.Failing.{HasErrorSaid}
+use Rattle.yaml_base.{proofs.Common.Event, specs.declared.errors.yaml_error_t.yaml_error_t}
+use Rattle.toml_ordered.specs.{Data.TomlNodes, Grammar.ordered_document}
+use Rattle.yaml_pen.{specs.Page.output_left, proofs.Writing.some_from_result}
+use Rattle.yaml_emitter.specs.{Given.seen_settings, Emits.IsPromised, State.bytes_taken}
+use Rattle.yaml_writer.specs.{Failing.HasErrorSaid, WasGiven.EmitsTaking, WasGiven.between, declared.settings.ValueSettings.ValueSettings}
 use Rattle.yaml_writer.specs.Writing.{IsNewWriter, WriterState, closing, opening}
-use Rattle.yaml_writer.specs.WasGiven.{EmitsTaking, between}
 use Rattle.yaml_writer.proofs.GivenAndTaken.{emits_taking_then, begun_taken}
+use Rattle.yaml_toml.specs.{Failing.GaveFirst, WritingCalls.DocumentUnwritten, declared.error.TomlError.TomlError}
 use Rattle.yaml_toml.specs.Depth.{NestsDeeper, NestsWithin, document_nesting}
-use Rattle.yaml_toml.specs.Failing.{GaveFirst}
-use Rattle.yaml_toml.specs.WritingCalls.{DocumentUnwritten}
-use Rattle.yaml_toml.specs.declared.error.TomlError.{TomlError}
-use Rattle.yaml_toml.specs.declared.error.TomlError.TheVariants as errors
-use Rattle.yaml_writer.specs.declared.settings.ValueSettings.{ValueSettings}
-use Rattle.yaml_program.specs.Conversions.{HaveNoYaml}
-use Rattle.yaml_program.specs.Faults.{emitter_status}
+use Rattle.yaml_program.specs.{Conversions.HaveNoYaml, Faults.emitter_status}
 use Rattle.yaml_program.specs.Streams.{BeganDocument, RefusesDocument, RefusesEnd, RefusesNext, RefusesSome, RefusesStream, SentFiles}
 use Rattle.yaml_program.proofs.Refusals.{events_given, never_fails, never_unended}
+use Rattle.toml2yaml.{specs.Statuses.toml_status, proofs.Files.SentTomlFiles, proofs.Files.all_sent}
 use Rattle.toml2yaml.specs.Conversions.{AreToml, IsYamlOfTomlFiles, RefusedTomlFile, RefusesFile, SentTomlFile, root_events, toml_parts_events}
-use Rattle.toml2yaml.specs.Statuses.{toml_status}
-use Rattle.toml2yaml.proofs.Files.{SentTomlFiles, all_sent}
+use Rattle.yaml_toml.specs.declared.error.TomlError.TheVariants as errors
 
 -- ---- documents and their tables
 
@@ -189,13 +178,10 @@ module _ (settings : ValueSettings) (files : List (List ℕ)) (bytes : List ℕ)
           let begins : gave.given ++ gave.begins.rest ≡ root_events settings.emitter.canonical settings.flow one.1 =
           gave.begins.parts ∙ ap (λ (c : Bool). root_events c settings.flow one.1) (reached.canonical ∙ new.canonical) in
           never_fails (seen_settings settings.emitter) all bytes whole.stream ((opening ++ events_before reached.parts) ++ gave.given)
-          (gave.begins.rest ++ (more ++ closing)) now.emitter code
-          (gave.gave.emits.set.given ∙ reached.emits.given ∙ new.settings)
-          (gave.gave.emits.set.events ∙ ap (λ (first : List Event). first ++ gave.given) events_are) promised
-          (ap (λ (events : List Event). opening ++ events)
+          (gave.begins.rest ++ (more ++ closing)) now.emitter code (gave.gave.emits.set.given ∙ reached.emits.given ∙ new.settings)
+          (gave.gave.emits.set.events ∙ ap (λ (first : List Event). first ++ gave.given) events_are) promised (ap (λ (events : List Event). opening ++ events)
           (regroup (events_before reached.parts) gave.given gave.begins.rest more closing
-          ∙ ap (λ (events : List Event). events ++ closing)
-          (ap (λ (events : List Event). events_before reached.parts ++ (events ++ more)) begins
+          ∙ ap (λ (events : List Event). events ++ closing) (ap (λ (events : List Event). events_before reached.parts ++ (events ++ more)) begins
           ∙ ap (λ (events : List Event). events_before reached.parts ++ events) next
           ∙ parts_begin settings.emitter.canonical settings.flow reached.parts one rest ∙ ap events_of same)))
           has status
@@ -209,8 +195,7 @@ module _ (settings : ValueSettings) (files : List (List ℕ)) (bytes : List ℕ)
     by_rest : (rest : List (List ℕ × TomlNodes)) → reached.parts ++ rest ≡ whole.parts → map (λ part. part.0) rest ≡ file ∷ later
         → AreToml settings.depth rest → RefusesFile settings file begun now → ⊥
     by_rest [] same texts good refused = absurd (cc)
-    by_rest (one ∷ rest) same texts good refused =
-        not_refused one rest same (first_same one.0 file (map (λ part. part.0) rest) later texts) good refused
+    by_rest (one ∷ rest) same texts good refused = not_refused one rest same (first_same one.0 file (map (λ part. part.0) rest) later texts) good refused
 
     text_refused : RefusesFile settings file begun now → ⊥
     text_refused refused =
@@ -230,15 +215,13 @@ module _ (settings : ValueSettings) (files : List (List ℕ)) (bytes : List ℕ)
         let emits = refuses.passed.emits in
         let events = events_given (λ c. toml_parts_events c settings.flow some) sent.wrote.emits.appended new.events new.canonical in
         let begins : ((opening ++ events_of some) ++ between) ++ (events_of (one ∷ rest) ++ closing) ≡ all =
-        ap (λ (events : List Event). opening ++ events)
-        (sym (append_assoc (events_of some ++ between) (events_of (one ∷ rest)) closing)
+        ap (λ (events : List Event). opening ++ events) (sym (append_assoc (events_of some ++ between) (events_of (one ∷ rest)) closing)
         ∙ ap (λ (events : List Event). events ++ closing)
         (ap (λ (events : List Event). events ++ events_of (one ∷ rest)) (with_between settings.emitter.canonical settings.flow sent.first sent.rest)
         ∙ parts_begin settings.emitter.canonical settings.flow some one rest ∙ ap events_of same)) in
-        never_fails (seen_settings settings.emitter) all bytes whole.stream ((opening ++ events_of some) ++ between) (events_of (one ∷ rest) ++ closing)
-        now.emitter refuses.error (emits.set.given ∙ sent.wrote.emits.given ∙ new.settings)
-        (emits.set.events ∙ ap (λ (first : List Event). first ++ between) events) promised begins
-        (some_from_result now.emitter.error refuses.error emits.answered) refuses.status
+        never_fails _ _ _ whole.stream ((opening ++ events_of some) ++ between) (events_of (one ∷ rest) ++ closing) now.emitter refuses.error
+        (emits.set.given ∙ sent.wrote.emits.given ∙ new.settings) (emits.set.events ∙ ap (λ (first : List Event). first ++ between) events) promised begins
+        (some_from_result _ refuses.error emits.answered) refuses.status
 
     document_refused : ⊥
     document_refused =
@@ -293,9 +276,7 @@ module _ (settings : ValueSettings) (files : List (List ℕ)) (before after : Op
   by_why : RefusesSome (SentTomlFile settings) (RefusedTomlFile settings) files refuses.first before refuses.last after
       ⊎ (SentFiles (SentTomlFile settings) files refuses.first before refuses.last after × RefusesEnd refuses.last.emitter) → ⊥
   by_why (inl some) = at_some files refl some
-  by_why (inr (sent, end)) =
-      end_refused settings files bytes whole refuses.first refuses.is_new refuses.last before after
-      (all_sent settings files refuses.first refuses.last before after sent) end
+  by_why (inr (sent, end)) = end_refused settings files bytes whole refuses.first refuses.is_new refuses.last before after (all_sent _ _ _ _ _ _ sent) end
 
 pub refused_none : (settings : ValueSettings) (files : List (List ℕ)) (before after : Option (List ℕ))
     → RefusesStream (SentTomlFile settings) (RefusedTomlFile settings) settings.emitter files before after → HaveNoYaml (IsYamlOfTomlFiles settings) files

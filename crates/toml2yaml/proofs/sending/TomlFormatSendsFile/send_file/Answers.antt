@@ -1,8 +1,6 @@
-use Rattle.std.proofs.Common.{ℕ, List, Some, ◌≡◌, refl, subst, ◌∙◌}
-use Rattle.std.proofs.lemmas.Result.{IfErr-weaker}
+use Rattle.std.proofs.{Common.ℕ, Common.List, Common.Some, Common.◌≡◌, Common.refl, Common.subst, Common.◌∙◌, lemmas.Result.IfErr-weaker}
 use Rattle.toml2yaml.specs.Conversions.{RefusedTomlFile, RefusesFile}
-use Rattle.yaml_program.specs.Faults.{failure_status}
-use Rattle.yaml_program.specs.declared.faults.Failure.{Failure}
+use Rattle.yaml_program.specs.{Faults.failure_status, declared.faults.Failure.Failure}
 use Rattle.toml2yaml.proofs.sending.TomlFormatSendsFile.send_file.Goals as goal
 
 pub returns-in-Ok-clause-refused : goal.returns-in-Ok-clause-refused
