@@ -2,15 +2,14 @@
 use Rattle.yaml_json.proofs.Common.{suc, ℕ, ◌+◌, ◌≤◌, Bool, true, List, [], ◌++◌, ◌∷◌, ◌≡◌, refl, append_assoc, ap, subst, sym, ◌∙◌, arith, le-max_left}
 use Rattle.yaml_json.proofs.Common.{le-max_right, chars, Json, null, boolean, number, string, Items, array, Members, object, no_items, most_open, IsAccepted}
 use Rattle.yaml_json.proofs.Common.{Stream, is_json_integer, yaml_number, bool_text, null_content, bool_content, number_content, text_content, collection_in}
-use Rattle.yaml_json.proofs.Common.{json_events, items_events, members_events, number_in, opening, closing}
+use Rattle.yaml_json.proofs.Common.{json_events, items_events, members_events, number_in, opening, closing, item, no_members, member, Event, scalar}
+use Rattle.yaml_json.proofs.Common.{sequence_start, sequence_end, mapping_start, mapping_end}
 use Rattle.yaml_base.proofs.Common.{stream_events}
 use Rattle.yaml_emitter.proofs.AcceptedLists.{sound, both_sound, Stays, few_open}
+use Rattle.yaml_writer.proofs.{WhyFailed.NeverPasses, DocumentsOf.stream_flat, DocumentsOf.stream_of as one_stream}
 use Rattle.yaml_writer.proofs.Accepting.{bool_sound, closing_stays, first_sound, mapping_sound, null_sound, number_sound, opening_stays, sequence_sound}
 use Rattle.yaml_writer.proofs.Accepting.{stream_of_sound, text_sound}
-use Rattle.yaml_writer.proofs.WhyFailed.{NeverPasses}
-use Rattle.yaml_json.proofs.Trees.{json_node, node_flat}
-use Rattle.yaml_writer.proofs.DocumentsOf.{stream_flat, stream_of as one_stream}
-use Rattle.yaml_json.proofs.Common.{item, no_members, member, depth as nesting, Event, scalar, sequence_start, sequence_end, mapping_start, mapping_end}
+use Rattle.yaml_json.proofs.{Trees.json_node, Trees.node_flat, Common.depth as nesting}
 use Rattle.json.specs.Tree.{items_depth as items_nesting, members_depth as members_nesting}
 
 -- the events of the stream of a value
@@ -46,9 +45,8 @@ mutual
   members_sound no_members canonical in_flow = refl
   members_sound (member key json more) canonical in_flow =
       first_sound canonical (scalar (text_content (chars key))) (json_events canonical in_flow json ++ members_events canonical in_flow more)
-      (text_sound canonical (chars key))
-      (both_sound canonical (json_events canonical in_flow json) (members_events canonical in_flow more) (value_sound json canonical in_flow)
-      (members_sound more canonical in_flow))
+      (text_sound canonical (chars key)) (both_sound canonical (json_events canonical in_flow json) (members_events canonical in_flow more)
+      (value_sound json canonical in_flow) (members_sound more canonical in_flow))
 
 pub stream_sound : (canonical in_flow : Bool) (json : Json) → sound canonical (stream_of canonical in_flow json) ≡ true
 stream_sound canonical in_flow json = stream_of_sound canonical (json_events canonical in_flow json) (value_sound json canonical in_flow)

@@ -1,20 +1,15 @@
 -- A string has a fault exactly if it has no content; a number with a fault is none.
-use Rattle.std.proofs.Common.{◌≡◌, ℕ, zero, suc, Bool, true, false, ◌&&◌, ◌||◌, ◌==◌, cond, if◌then◌else◌, nat_lt, List, [], ◌∷◌, drop}
-use Rattle.std.proofs.Common.{length, take, ◌-◌}
-use Rattle.std.proofs.Common.{Ok, Err, Option, Some, None, is_none, is_some, option_and_then, refl, sym, ap, ◌∙◌, arith}
-use Rattle.std.specs.Char.{encode_utf8, is_ascii_digit}
-use Rattle.std.proofs.lemmas.Bool.{true≢false, and_parts, Decides.nat_tests}
+use Rattle.yaml_json.proofs.Common.{◌≡◌, ℕ, zero, suc, Bool, true, false, ◌&&◌, ◌||◌, ◌==◌, cond, if◌then◌else◌, List, [], ◌∷◌, drop, length, take, ◌-◌, Ok}
+use Rattle.yaml_json.proofs.Common.{Err, Option, Some, None, is_none, is_some, option_and_then, refl, sym, ap, ◌∙◌, arith, encode_utf8, is_ascii_digit}
+use Rattle.yaml_json.proofs.Common.{true≢false, and_parts, nat_tests, after_backslash, after_high, after_u, prepend, bad, after_digits, after_exponent}
+use Rattle.yaml_json.proofs.Common.{after_fraction, after_minus, after_sign, after_whole, ends_word, head, number_before, Fault, content_fault, first_unit}
+use Rattle.std.proofs.Common.{nat_lt}
+use Rattle.json.specs.{Token.number, Word.after_number}
+use Rattle.json.specs.Text.{code_unit, content, is_high_surrogate, is_low_surrogate, plain, short_escape, surrogate_pair}
+use Rattle.yaml_json.proofs.{WordSteps.digit_inner, StringFaults.skipped_over}
+use Rattle.yaml_json.specs.Faults.{begins_low, digit_or, escape_size, exponent_fault, fault_or, fraction_fault, is_low_unit, leads_zero, letter_size}
+use Rattle.yaml_json.specs.Faults.{number_fault, unit_size, FaultsAreBad}
 use Rattle.json.specs.Ascii as ascii
-use Rattle.json.specs.Text.{after_backslash, after_high, after_u, code_unit, content, is_high_surrogate, is_low_surrogate, plain, prepend}
-use Rattle.json.specs.Text.{short_escape, surrogate_pair}
-use Rattle.json.specs.Token.{bad, number}
-use Rattle.yaml_json.proofs.WordSteps.{digit_inner}
-use Rattle.json.specs.Word.{after_digits, after_exponent, after_fraction, after_minus, after_number, after_sign, after_whole, ends_word, head, number_before}
-use Rattle.yaml_json.specs.Faults.{Fault, begins_low, content_fault, digit_or, escape_size, exponent_fault, fault_or, fraction_fault, is_low_unit, leads_zero}
-use Rattle.yaml_json.specs.Faults.{letter_size, number_fault, unit_size}
-use Rattle.yaml_json.proofs.StringFaults.{skipped_over}
-use Rattle.yaml_json.specs.Faults.{FaultsAreBad}
-use Rattle.yaml_json.specs.Lexemes.{first_unit}
 use Rattle.yaml_json.specs.declared.expecting.Expected.TheVariants as expected
 
 -- ---- strings
@@ -37,8 +32,7 @@ module _ (here : List ℕ) (go : ℕ → Option Fault) (high : ℕ) where
   abbrev FaultyAs : List ℕ → Type 0
   FaultyAs later = is_some (go 11) ≡ is_none (content plain later)
 
-  low_unit : (later : List ℕ) (is : Bool) (bytes : List ℕ) → FaultyAs later
-      → half_fault is ≡ is_none (cond is (prepend bytes (content plain later)) None)
+  low_unit : (later : List ℕ) (is : Bool) (bytes : List ℕ) → FaultyAs later → half_fault is ≡ is_none (cond is (prepend bytes (content plain later)) None)
   low_unit later true bytes more = more ∙ same_none bytes (content plain later)
   low_unit later false bytes more = refl
 
@@ -87,14 +81,11 @@ module _ (here : List ℕ) (go : ℕ → Option Fault) (later : List ℕ) (pair 
 units : (here : List ℕ) (letter : ℕ) (rest : List ℕ) → ((n : ℕ) → IsBadIfFaulty (drop n rest))
     → is_some (fault_or (unit_size (first_unit rest) (drop 4 rest)) here (λ size. content_fault size (letter ∷ rest))) ≡ is_none (content after_u rest)
 unfolding content
-units here letter [] more = refl
-units here letter (a ∷ []) more = refl
-units here letter (a ∷ b ∷ []) more = refl
-units here letter (a ∷ b ∷ c ∷ []) more = refl
 units here letter (a ∷ b ∷ c ∷ d ∷ later) more =
     by_unit here (λ size. content_fault size (letter ∷ a ∷ b ∷ c ∷ d ∷ later)) later (skipped 6 later ∙ more 10) (more 4) (code_unit a b c d) where
       skipped : (n : ℕ) (text : List ℕ) → is_some (content_fault n text) ≡ is_some (content_fault 0 (drop n text))
       skipped n text = ap is_some (skipped_over n text)
+units here letter _ more = refl
 
 letters : (here : List ℕ) (letter : ℕ) (rest : List ℕ) (meaning : Option ℕ) → IsBadIfFaulty rest
     → is_some (fault_or (letter_size meaning) here (λ size. content_fault size (letter ∷ rest)))

@@ -1,8 +1,7 @@
 -- A text may be cut at a byte of ASCII.
-use Rattle.std.proofs.Common.{◌≡◌, ℕ, ◌<◌, List, [], ◌∷◌, drop, get_or, length, inl, inr, sym, ap, ◌∙◌, arith}
-use Rattle.std.specs.Str.{IsCharBoundary, IsUtf8}
-use Rattle.json.specs.Word.{head}
-use Rattle.std.proofs.lemmas.{Bool.cases_lt, Str.IsCharBoundary-after_ascii, List.drop_all, List.drop_more}
+use Rattle.yaml_json.proofs.Common.{◌≡◌, ℕ, ◌<◌, List, [], ◌∷◌, drop, get_or, length, inl, inr, sym, ap, ◌∙◌, arith, IsCharBoundary, head, cases_lt}
+use Rattle.yaml_json.proofs.Common.{IsCharBoundary-after_ascii, drop_all, drop_more}
+use Rattle.std.specs.Str.{IsUtf8}
 
 pub after_first : (d : List ℕ) (v : ℕ) → IsUtf8 d → head d ≡ v → v < 128 → (32 ≡ v → ⊥) → IsCharBoundary d 1
 after_first [] v u e small apart = absurd (apart e)

@@ -1,9 +1,7 @@
 -- Which tokens close a collection, which are names or strings, and with which no value begins.
-use Rattle.yaml_json.proofs.Common.{ℕ, Bool, false, true, List, ◌∷◌, refl, ◌≡◌, Bor, ap, sym, ◌∙◌, closer, opener, token_of, RefusesToken, Token}
-use Rattle.std.proofs.lemmas.Bool.{true≢false}
-use Rattle.yaml_json.specs.Walk.{IsOpener, NoStringNext, closes}
-use Rattle.yaml_json.specs.declared.values.Spot.TheVariants.{At, PastString}
-use Rattle.yaml_base.specs.declared.kinds.CollectionKind.{CollectionKind, TheVariants.Mapping, TheVariants.Sequence}
+use Rattle.yaml_json.proofs.Common.{ℕ, Bool, false, true, List, ◌∷◌, refl, ◌≡◌, Bor, ap, sym, ◌∙◌, closer, opener, token_of, RefusesToken, Token, true≢false}
+use Rattle.yaml_json.proofs.Common.{NoStringNext, closes, At, PastString, CollectionKind, Mapping, Sequence}
+use Rattle.yaml_json.specs.Walk.{IsOpener}
 use Rattle.yaml_json.specs.declared.values.Stop.TheVariants as stops
 use Rattle.json.specs.declared.token.Token as read
 use Rattle.json.specs.declared.token.Token.TheVariants as variants
@@ -27,13 +25,6 @@ pub name_refused : (depth : ℕ) (levels : List CollectionKind) (text : List ℕ
 name_refused depth levels text = (((λ scalar. scalar), opens_none (Token.key text) (λ is. cc) (λ is. cc)), refl)
 
 -- ---- tokens as they are read
-
--- neither end
-pub no_closer : (token : read.Token) (kind : CollectionKind) → (token ≡ variants.EndArray → ⊥) → (token ≡ variants.EndObject → ⊥)
-    → closes (token_of token) kind ≡ false
-no_closer variants.EndObject kind isn't none = absurd (none refl)
-no_closer variants.EndArray kind isn't none = absurd (isn't refl)
-no_closer _ kind isn't none = refl
 
 -- no name
 pub no_name : (token : read.Token) → ((text : Bor (List ℕ)) → token ≡ variants.Key text → ⊥) → (text : List ℕ) → token_of token ≡ Token.key text → ⊥
@@ -63,5 +54,4 @@ token_refused depth levels (variants.String text) null bool number string array 
 token_refused depth levels (variants.Number text) null bool number string array object name = absurd (number text refl)
 token_refused depth levels (variants.Bool flag) null bool number string array object name = absurd (bool flag refl)
 token_refused depth levels variants.Null null bool number string array object name = absurd (null refl)
-token_refused depth levels variants.Bad null bool number string array object name =
-    (((λ scalar. scalar), opens_none Token.bad (λ is. cc) (λ is. cc)), refl)
+token_refused depth levels variants.Bad null bool number string array object name = (((λ scalar. scalar), opens_none Token.bad (λ is. cc) (λ is. cc)), refl)

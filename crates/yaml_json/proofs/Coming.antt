@@ -1,20 +1,14 @@
 -- The parts of JSON texts as they come, and the last of the texts.
-use Rattle.yaml_json.proofs.Sending.{sending_begins, sending_same, all_given}
-use Rattle.yaml_json.proofs.SendingSteps.{stops_here, stops_next_text}
-use Rattle.yaml_json.proofs.YamlOf.{HaveScalarTexts}
-use Rattle.yaml_json.proofs.Common.{ℕ, IfSome, Option, None, Some, length, Bool, true, List, [], ◌++◌, refl, ◌≡◌, append-nil, append_assoc, ap, subst, sym}
-use Rattle.yaml_json.proofs.Common.{◌∙◌, Appends, Token, tokens, HasScanned, NamesOnce, Advances, StopsWithin, IsBare, WroteText, WriterState, Ok, Err, Result}
-use Rattle.yaml_base.specs.declared.places.Position.{Position}
-use Rattle.yaml_json.proofs.Growing.{grew_then}
-use Rattle.yaml_json.proofs.Cutting.{whole_text}
-use Rattle.yaml_json.proofs.Stopping.{if_some}
+use Rattle.yaml_json.proofs.Common.{ℕ, IfSome, Option, None, Some, length, Bool, true, List, [], ◌++◌, refl, ◌≡◌, append-nil, append_assoc, ap, subst, sym, ◌∙◌}
+use Rattle.yaml_json.proofs.Common.{Appends, Token, tokens, HasScanned, NamesOnce, Advances, StopsWithin, IsBare, WroteText, WriterState, Ok, Err, Result}
+use Rattle.yaml_json.proofs.Common.{Position, Grew, Cut, StreamError, SentSoFar, StopsInPart, StopsPartAt, StopsSending, emitter_error, HasPlaceWithin}
+use Rattle.yaml_json.proofs.Common.{IsPositionAfter, MovesPosition}
+use Rattle.yaml_json.proofs.{Sending.sending_begins, Sending.sending_same, Sending.all_given, SendingSteps.stops_here, SendingSteps.stops_next_text}
+use Rattle.yaml_json.proofs.{YamlOf.HaveScalarTexts, Growing.grew_then, Cutting.whole_text, Stopping.if_some}
+use Rattle.yaml_json.specs.{declared.stream.Incoming.Incoming, declared.settings.JsonSettings.JsonSettings, Sent.SentTexts, Sent.HasCome}
+use Rattle.yaml_json.specs.SendingCalls.{LastStep, SendsTexts}
 use Rattle.yaml_pen.proofs.Composing.{grows_then}
-use Rattle.std.specs.Io.KnownBytes.{Keeps, Consumes, IsAtEnd}
-use Rattle.std.specs.Prelude.{IsUtf8}
-use Rattle.yaml_json.specs.{Failing.Grew, declared.cuts.Cut.Cut, declared.error.StreamError.StreamError, declared.stream.Incoming.Incoming}
-use Rattle.yaml_json.specs.{declared.settings.JsonSettings.JsonSettings, SendingCalls.LastStep, SendingCalls.SendsTexts, Sent.SentTexts, Sent.SentSoFar}
-use Rattle.yaml_json.specs.{Sent.StopsInPart, Sent.StopsPartAt, Sent.StopsSending, Sent.HasCome, Sent.emitter_error, Places.HasPlaceWithin}
-use Rattle.yaml_json.specs.{Places.IsPositionAfter, Places.MovesPosition}
+use Rattle.std.specs.{Io.KnownBytes.Keeps, Io.KnownBytes.Consumes, Io.KnownBytes.IsAtEnd, Prelude.IsUtf8}
 
 -- ---- parts
 
@@ -38,8 +32,7 @@ comes_first depth in_flow unique was start (Some text) held place none first bar
       front = [];
       follows = first;
       whole = ap (λ (all : List ℕ). all ++ text) none;
-      sending = sending_same depth in_flow unique text was start text (held ++ text) was start (ap (λ (all : List ℕ). all ++ text) (sym none))
-          (sending_begins depth in_flow unique text was start bare);
+      sending = sending_same _ _ _ _ _ _ _ _ _ _ (ap (λ (all : List ℕ). all ++ text) (sym none)) (sending_begins _ _ _ _ _ _ bare);
     }
 
 -- a flush keeps them
@@ -162,16 +155,14 @@ module _ (depth : ℕ) (in_flow unique : Bool) (was : WriterState) (start : Opti
 
   last_left : (text : List ℕ) → Comes depth in_flow unique text was start held place ahead now holds
       → SentSoFar depth in_flow unique text was start held now holds
-  last_left text comes =
-      sending_same depth in_flow unique text was start (held ++ comes.left) held now holds (no_more_held text comes) comes.sending
+  last_left text comes = sending_same depth in_flow unique text was start (held ++ comes.left) held now holds (no_more_held text comes) comes.sending
 
   last_given : (given : WriterState) (first : Option (List ℕ)) → (unique ≡ true → NamesOnce [] (tokens held)) → IsUtf8 held
       → WroteText depth in_flow held now given → HaveScalarTexts given.emitter.events
       → IfSome first (λ text. Comes depth in_flow unique text was start held place ahead now holds)
       → IfSome first (λ text. SentTexts depth unique in_flow text was start given holds)
   last_given given first named readable one scalars =
-      if_some first
-      (λ text come. all_given depth in_flow unique text was start held now holds (last_left text come) held [] [] (append-nil held)
+      if_some first (λ text come. all_given depth in_flow unique text was start held now holds (last_left text come) held [] [] (append-nil held)
       (whole_text held scan scanned all) given named readable one refl refl scalars)
 
   last_stopped : (first : Option (List ℕ)) (error : StreamError) (after : WriterState)
@@ -179,10 +170,8 @@ module _ (depth : ℕ) (in_flow unique : Bool) (was : WriterState) (start : Opti
       → IfSome first (λ text. Comes depth in_flow unique text was start held place ahead now holds)
       → IfSome first (λ text. StopsSending depth unique in_flow text was start error after holds)
   last_stopped first error after stops =
-      if_some first
-      (λ text come. stops_next_text depth in_flow unique text was start held now holds (last_left text come) held [] (whole_text held scan scanned all)
-      error after come.front (ap (λ (all_held : List ℕ). come.front ++ all_held) (sym (no_more_held text come)) ∙ come.whole)
-      (stops come.front come.follows))
+      if_some first (λ text come. stops_next_text _ _ _ _ _ _ _ _ _ (last_left text come) _ [] (whole_text _ _ scanned all) _ _ _
+      (ap (λ (all_held : List ℕ). come.front ++ all_held) (sym (no_more_held text come)) ∙ come.whole) (stops come.front come.follows))
 
 -- as the last text's result says
 pub ends_sending : (settings : JsonSettings) (was : WriterState) (start : Option (List ℕ)) (held : List ℕ) (place : Position) (ahead : Option (List ℕ))

@@ -38,3 +38,37 @@ pub use Rattle.yaml_json.specs.Wrote.{WroteText, AreJson, parts_events, ReadsTex
 pub use Rattle.yaml_writer.{specs.NumberParts.number_in, specs.NumberParts.IsNumber}
 pub use Rattle.yaml_writer.specs.Writing.{WriterState, opening, closing, float_tag, number_tag, number_event, text_style, text_event, mapping_event}
 pub use Rattle.yaml_writer.specs.Writing.{sequence_event, end_event, with_collection, IsNewWriter, PassedEvents, GaveEvent, EndsInnermost}
+pub use Prim.Native.Nat.{min}
+pub use Rattle.std.proofs.{lemmas.Bool.Decides.nat_tests, lemmas.Bool.false_from_ne_true, lemmas.Bool.ne_eqb, lemmas.Bool.true≢false, lemmas.Grind.common_steps}
+pub use Rattle.std.proofs.{lemmas.Simd.mask_l-mod, lemmas.Simd.zip2_of_maps, lemmas.Simd.zip2_splat, lemmas.Simd.map-map, lemmas.Str.IsCharBoundary-after_ascii}
+pub use Rattle.std.proofs.Common.{◌%◌, ◌*◌, ◌^◌, rules, bit_and, eqb, nat_eq, ltb, get_or, replicate, ◌↔◌}
+pub use Rattle.std.proofs.lemmas.List.{drop_more, drop_all, length-map, drop-drop, get_or-drop}
+pub use Rattle.json.proofs.Unique.Spelling.{value-json_tokens_back}
+pub use Rattle.json.specs.{Strict.HasUniqueKeys, Text.after_backslash, Text.after_high, Text.after_u, Text.content, Text.prepend}
+pub use Rattle.json.specs.Lex.{Class, Lexeme, after_comma, after_key, after_value, backslash, begins_colon, class, colon, comma, fresh, if_allowed, in_escape}
+pub use Rattle.json.specs.Lex.{in_string, in_word, lex, lex_byte, may_begin, may_close, operator, other, place_token, quote, space, string_token, token}
+pub use Rattle.json.specs.Token.{bad, begin_array, begin_object, end_array, end_object, key}
+pub use Rattle.json.specs.Word.{after_digits, after_exponent, after_fraction, after_minus, after_sign, after_whole, ends_word, head, is_operator, is_space}
+pub use Rattle.json.specs.Word.{literal, number_before, word}
+pub use Rattle.yaml_base.proofs.Common.{or_parts}
+pub use Rattle.std.specs.{Char.encode_utf8, Char.is_ascii_digit, Int.bit_at, List.prefix_len, List.starts_with, Str.IsCharBoundary, String.string_bytes}
+pub use Rattle.yaml_base.specs.{declared.errors.yaml_error_t.TheVariants.Memory, declared.errors.yaml_error_t.yaml_error_t, declared.places.Position.Position}
+pub use Rattle.yaml_base.specs.declared.kinds.CollectionKind.{CollectionKind}
+pub use Rattle.yaml_base.specs.declared.kinds.CollectionKind.TheVariants.{Mapping, Sequence}
+pub use Rattle.yaml_json.specs.{Ahead.IsTidy, Ahead.IsTrimmed, Ahead.StepsFrom, Ahead.ahead, Ahead.place_of, Begins.BeginsSome, Failing.Grew, Failing.Kept}
+pub use Rattle.yaml_json.specs.{Failing.writers_error, Faults.Fault, Faults.FaultsAt, Faults.content_fault, Faults.said_at, Lexemes.ArePlain, Lexemes.Unescapes}
+pub use Rattle.yaml_json.specs.{Lexemes.first_unit, Lexemes.is_stop, Offsets.PassesLexeme, Places.HasPlaceWithin, Places.IsAny, Places.IsPositionAfter}
+pub use Rattle.yaml_json.specs.{Places.MovesPosition, Reached.AreFrom, Reached.Reader, Refused.IsByText, Stopped.StopsInText, WalkSteps.at}
+pub use Rattle.yaml_json.specs.{declared.cuts.Cut.Cut, declared.cuts.Scan.Scan, declared.error.JsonError.JsonError, declared.error.StreamError.StreamError}
+pub use Rattle.yaml_json.specs.{declared.expecting.Expected.Expected, declared.expecting.Last.Last, declared.tokens.Stage.Stage}
+pub use Rattle.yaml_json.specs.{declared.tokens.Stage.TheVariants.Open, declared.tokens.Stage.TheVariants.Over, declared.tokens.Stage.TheVariants.Owed}
+pub use Rattle.yaml_json.specs.{declared.values.Spot.Spot, declared.values.Spot.TheVariants.At, declared.values.Spot.TheVariants.PastString}
+pub use Rattle.yaml_json.specs.{declared.values.Spot.TheVariants.PastValue, declared.values.Stop.Stop}
+pub use Rattle.yaml_json.specs.Expected.{StandingInJson, expected_by, innermost, standing_over, start}
+pub use Rattle.yaml_json.specs.Lexing.{EndsWord, Leads, LeadsFrom, MayBegin, mode_after, mode_over}
+pub use Rattle.yaml_json.specs.Sent.{SentSoFar, StopsInPart, StopsPartAt, StopsSending, emitter_error}
+pub use Rattle.yaml_json.specs.Walk.{GaveTokens, NoStringNext, ReadsNone, StepFailed, TextStopsWriting, closes}
+pub use Rattle.yaml_json.specs.declared.expecting.Last.TheVariants.{Colon, Comma, First, Nothing, Opener, Value}
+pub use Rattle.yaml_writer.proofs.{AnswerLemmas.kept_then, GivenLemmas.bare_awaits_none, OpenLevels.gave_same, OpenLevels.usable_by}
+pub use Rattle.yaml_writer.specs.{Answering.FailsAt, WasGiven.GaveEvents, WasGiven.levels_after, WasGiven.levels_after_event}
+pub use lib.Lanes.{chunk, mask_l, top, zip2}

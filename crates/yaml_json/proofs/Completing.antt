@@ -1,9 +1,8 @@
 -- The tokens that complete a value of JSON, by the arrays and objects that are open in it.
-use Rattle.std.proofs.Common.{◌≡◌, ℕ, Bool, true, false, List, [], ◌∷◌, ◌++◌, refl, sym, subst, ap, append-nil, append_assoc, ◌∙◌}
-use Rattle.json.specs.Json.{Json, Items, no_items, item, Members, no_members, member}
-use Rattle.json.specs.Token.{Token, begin_object, end_object, begin_array, end_array, key, string, number, boolean, null, bad}
-use Rattle.json.specs.Tree.{json_tokens, items_tokens, members_tokens}
-use Rattle.yaml_base.specs.declared.kinds.CollectionKind.{CollectionKind, TheVariants.Mapping, TheVariants.Sequence}
+use Rattle.yaml_json.proofs.Common.{◌≡◌, ℕ, Bool, true, false, List, [], ◌∷◌, ◌++◌, refl, sym, subst, ap, append-nil, append_assoc, ◌∙◌, Json, Items, no_items}
+use Rattle.yaml_json.proofs.Common.{item, Members, no_members, member, Token, begin_object, end_object, begin_array, end_array, key, bad, json_tokens}
+use Rattle.yaml_json.proofs.Common.{items_tokens, members_tokens, CollectionKind, Mapping, Sequence}
+use Rattle.json.specs.Token.{string, number, boolean, null}
 use Rattle.json.specs.Json as json
 
 -- ---- token by token
@@ -58,9 +57,8 @@ mutual
       → Completes false (Sequence ∷ kinds) (items_tokens js ++ ts)
   items_complete no_items kinds ts so = so
   items_complete (item j js) kinds ts so =
-      subst (Completes false (Sequence ∷ kinds)) (sym (append_assoc (json_tokens j) (items_tokens js) ts))
-      (item_next kinds (json_tokens j ++ (items_tokens js ++ ts))
-      (value_completes j (Sequence ∷ kinds) (items_tokens js ++ ts) (items_complete js kinds ts so)))
+      subst (Completes false (Sequence ∷ kinds)) (sym (append_assoc (json_tokens j) (items_tokens js) ts)) (item_next kinds
+      (json_tokens j ++ (items_tokens js ++ ts)) (value_completes j (Sequence ∷ kinds) (items_tokens js ++ ts) (items_complete js kinds ts so)))
 
   members_complete : (ms : Members) (kinds : List CollectionKind) (ts : List Token) → Completes false kinds ts
       → Completes false (Mapping ∷ kinds) (members_tokens ms ++ ts)
@@ -98,8 +96,7 @@ member_first s kinds ts (j, (left, (is, (ms, (rest, (more, ends)))))) = (
   (
     rest,
     (
-      ap (λ (l : List Token). key s ∷ l)
-          (is ∙ ap (λ (l : List Token). json_tokens j ++ l) more ∙ sym (append_assoc (json_tokens j) (members_tokens ms) rest)),
+      ap (λ (l : List Token). key s ∷ l) (is ∙ ap (λ (l : List Token). json_tokens j ++ l) more ∙ sym (append_assoc (json_tokens j) (members_tokens ms) rest)),
       ends,
     ),
   ),
@@ -118,10 +115,8 @@ completed false (Sequence ∷ kinds) (begin_object ∷ ts) so =
 completed false (Sequence ∷ kinds) (begin_array ∷ ts) so =
     item_first kinds (begin_array ∷ ts) (array_begins (Sequence ∷ kinds) ts (completed false (Sequence ∷ Sequence ∷ kinds) ts so))
 completed false (Sequence ∷ kinds) (end_array ∷ ts) so = (no_items, (ts, (refl, completed false kinds ts so)))
-completed false (Sequence ∷ kinds) (string s ∷ ts) so =
-    item_first kinds (string s ∷ ts) (json.string s, (ts, (refl, completed false (Sequence ∷ kinds) ts so)))
-completed false (Sequence ∷ kinds) (number s ∷ ts) so =
-    item_first kinds (number s ∷ ts) (json.number s, (ts, (refl, completed false (Sequence ∷ kinds) ts so)))
+completed false (Sequence ∷ kinds) (string s ∷ ts) so = item_first kinds (string s ∷ ts) (json.string s, (ts, (refl, completed false (Sequence ∷ kinds) ts so)))
+completed false (Sequence ∷ kinds) (number s ∷ ts) so = item_first kinds (number s ∷ ts) (json.number s, (ts, (refl, completed false (Sequence ∷ kinds) ts so)))
 completed false (Sequence ∷ kinds) (boolean b ∷ ts) so =
     item_first kinds (boolean b ∷ ts) (json.boolean b, (ts, (refl, completed false (Sequence ∷ kinds) ts so)))
 completed false (Sequence ∷ kinds) (null ∷ ts) so = item_first kinds (null ∷ ts) (json.null, (ts, (refl, completed false (Sequence ∷ kinds) ts so)))

@@ -1,12 +1,10 @@
 -- The content of a string (RFC 8259, section 7), run by run and escape by escape.
-use Rattle.std.proofs.Common.{◌≡◌, ℕ, zero, suc, ◌+◌, ◌-◌, ◌*◌, ◌<◌, ◌≤◌, Bool, true, false, not, inl, inr, cond, ◌||◌, ◌&&◌, ◌==◌, nat_lt, List, [], ◌∷◌}
-use Rattle.std.proofs.Common.{◌++◌, take, drop, get_or, length, Option, Some, None, option_and_then, refl, subst, sym, ap, ◌∙◌, arith}
-use Rattle.std.proofs.lemmas.List.{append_assoc, append-nil, drop-drop, drop_more, drop_all, get_or-drop, length-drop, take_all}
-use Rattle.std.specs.Char.{InScalarRange, OutOfScalarRange, digit_value, encode_utf8, is_digit}
-use Rattle.json.specs.Text.{Within, plain, after_backslash, after_u, after_high, content, code_unit, short_escape, is_high_surrogate, is_low_surrogate}
-use Rattle.json.specs.Text.{surrogate_pair, prepend}
-use Rattle.yaml_json.specs.Lexemes.{ArePlain, Unescapes, first_unit, is_stop}
-use Rattle.std.proofs.lemmas.Bool.{true≢false, ne_eqb, or_parts, Decides.nat_tests}
+use Rattle.yaml_json.proofs.Common.{◌≡◌, ℕ, zero, suc, ◌+◌, ◌-◌, ◌*◌, ◌<◌, ◌≤◌, Bool, true, false, not, inl, inr, cond, ◌||◌, ◌&&◌, ◌==◌, List, [], ◌∷◌, ◌++◌}
+use Rattle.yaml_json.proofs.Common.{take, drop, get_or, length, Option, Some, None, option_and_then, refl, subst, sym, ap, ◌∙◌, arith, append_assoc, append-nil}
+use Rattle.yaml_json.proofs.Common.{drop-drop, drop_more, drop_all, get_or-drop, length-drop, take_all, encode_utf8, after_backslash, after_u, after_high}
+use Rattle.yaml_json.proofs.Common.{prepend, ArePlain, Unescapes, first_unit, is_stop, true≢false, ne_eqb, or_parts, nat_tests}
+use Rattle.std.{proofs.Common.nat_lt, specs.Char.InScalarRange, specs.Char.OutOfScalarRange, specs.Char.digit_value, specs.Char.is_digit}
+use Rattle.json.specs.Text.{Within, plain, content, code_unit, short_escape, is_high_surrogate, is_low_surrogate, surrogate_pair}
 
 -- No content is in nothing.
 none_in_nothing : (within : Within) → content within [] ≡ None
@@ -87,8 +85,7 @@ no_high_byte a b c d none = λ i.
 
 pub no_low_byte : (a b c d : ℕ) → (is_digit c 16 && is_digit d 16) ≡ false → code_unit a b c d ≡ None
 unfolding code_unit
-no_low_byte a b c d none = λ i.
-    cond (and_last (is_digit a 16 && is_digit b 16) (is_digit c 16) (is_digit d 16) none i)
+no_low_byte a b c d none = λ i. cond (and_last (is_digit a 16 && is_digit b 16) (is_digit c 16) (is_digit d 16) none i)
     (Some (digit_value a * 4096 + digit_value b * 256 + digit_value c * 16 + digit_value d)) None
 
 pub unit_of_bytes : (a b c d high low : ℕ) → is_digit a 16 ≡ true → is_digit b 16 ≡ true → is_digit c 16 ≡ true → is_digit d 16 ≡ true
@@ -114,9 +111,8 @@ by_unit (a ∷ b ∷ c ∷ d ∷ rest) = refl
 
 -- After the first half of a pair it goes on by the second.
 pub by_half : (high : ℕ) (text : List ℕ) → 6 ≤ length text → content (after_high high) text
-    ≡ cond ((get_or text 0 0 == 92) && (get_or text 1 0 == 117))
-    (option_and_then (λ low. cond (is_low_surrogate low) (prepend (encode_utf8 (surrogate_pair high low)) (content plain (drop 6 text))) None)
-    (first_unit (drop 2 text))) None
+    ≡ cond ((get_or text 0 0 == 92) && (get_or text 1 0 == 117)) (option_and_then
+    (λ low. cond (is_low_surrogate low) (prepend (encode_utf8 (surrogate_pair high low)) (content plain (drop 6 text))) None) (first_unit (drop 2 text))) None
 unfolding content
 by_half high (slash ∷ u ∷ a ∷ b ∷ c ∷ d ∷ rest) six = refl
 by_half high _ six = absurd (omega arith)
@@ -183,8 +179,7 @@ module _ (text : List ℕ) where
         ∙ (λ i. cond (high i) (content (after_high unit) (drop 4 text))
         (cond (is_low_surrogate unit) None (prepend (encode_utf8 unit) (content plain (drop 4 text)))))
 
-    alone : is_high_surrogate unit ≡ false
-        → content after_u text ≡ cond (is_low_surrogate unit) None (prepend (encode_utf8 unit) (content plain (drop 4 text)))
+    alone : is_high_surrogate unit ≡ false → content after_u text ≡ cond (is_low_surrogate unit) None (prepend (encode_utf8 unit) (content plain (drop 4 text)))
     alone high =
         unit_spelled
         ∙ (λ i. cond (high i) (content (after_high unit) (drop 4 text))

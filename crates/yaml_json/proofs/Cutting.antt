@@ -1,12 +1,10 @@
 -- The end of a text of several.
-use Rattle.yaml_json.proofs.Common.{suc, zero, ℕ, ◌+◌, ◌<◌, ◌≤◌, Option, None, Some, drop, length, slice_index_or as get_or, take, List, [], ◌++◌, ◌∷◌}
-use Rattle.yaml_json.proofs.Common.{refl, ◌≡◌, length-append, length-drop, take-append-drop, length-take-le, take_all, append-nil, append_assoc, inl, inr, ap}
-use Rattle.yaml_json.proofs.Common.{subst, sym, ◌∙◌, arith, HasScanned, CutsAt, after_byte, texts_in, CutsFirstText}
-use Rattle.std.specs.Str.{IsCharBoundary}
-use Rattle.yaml_json.specs.Cuts.{all_onto, Scanned}
+use Rattle.yaml_json.proofs.Common.{suc, zero, ℕ, ◌+◌, ◌<◌, ◌≤◌, Option, None, Some, drop, length, take, List, [], ◌++◌, ◌∷◌, refl, ◌≡◌, length-append}
+use Rattle.yaml_json.proofs.Common.{length-drop, take-append-drop, length-take-le, take_all, append-nil, append_assoc, inl, inr, ap, subst, sym, ◌∙◌, arith}
+use Rattle.yaml_json.proofs.Common.{HasScanned, CutsAt, after_byte, texts_in, CutsFirstText, IsCharBoundary, Cut, Scan}
+use Rattle.yaml_json.{proofs.Common.slice_index_or as get_or, specs.Cuts.all_onto, specs.Cuts.Scanned, specs.declared.cuts.Mode.Mode}
 use Rattle.yaml_json.specs.Texts.{scan_first_byte, scan_within, scan_in_string, onto_first, cut_text_before, texts_after}
-use Rattle.yaml_json.specs.declared.cuts.{Cut.Cut, Mode.Mode, Scan.Scan, Mode.TheVariants.Before, Mode.TheVariants.Behind, Mode.TheVariants.InString}
-use Rattle.yaml_json.specs.declared.cuts.{Mode.TheVariants.InWord, Mode.TheVariants.Within}
+use Rattle.yaml_json.specs.declared.cuts.Mode.TheVariants.{Before, Behind, InString, InWord, Within}
 use Rattle.std.proofs.{Common.drop-cons, lemmas.List.take-append-le, lemmas.List.take_more}
 
 onto_one_more : (bytes : List ℕ) (byte : ℕ) (texts : List (List ℕ)) → all_onto (bytes ++ byte ∷ []) texts ≡ all_onto bytes (onto_first byte texts)
@@ -33,8 +31,7 @@ module _ (done : List ℕ) (scan : Scan) (byte : ℕ) (scanned : Scanned done sc
       let few = scanned.few in
       let more = step_few scan.mode scan.levels byte next is in
       record {
-        texts = λ more. ap texts_in (append_assoc done (byte ∷ []) more) ∙ by_next (Some next) is more
-            ∙ sym (onto_one_more done byte (texts_after next more));
+        texts = λ more. ap texts_in (append_assoc done (byte ∷ []) more) ∙ by_next (Some next) is more ∙ sym (onto_one_more done byte (texts_after next more));
         few = omega (arith, few, more, length-append done (byte ∷ []));
         fresh = λ none. let never : ⊥ = omega (arith, none, length-append done (byte ∷ [])) in absurd never;
       }

@@ -1,16 +1,14 @@
 -- Bytes that are no digits, sixteen at a time.
-use Rattle.std.proofs.Common.{◌≡◌, ℕ, suc, ◌+◌, ◌*◌, ◌%◌, ◌^◌, ◌<◌, ◌≤◌, ltb, Bool, true, false, not, cond, List, [], ◌∷◌, map, drop, length, take, replicate}
-use Rattle.std.proofs.Common.{refl, ap, ap₂, ◌∙◌, arith}
-use Rattle.std.proofs.lemmas.Bool.{agree_below_at}
-use Rattle.std.proofs.lemmas.List.{length-map}
-use Rattle.std.proofs.lemmas.Simd.{zip2_splat, zip2_of_maps, splat_is_map, map-map, mask_l-mod, trailing_mask_l, length-chunk}
+use Rattle.yaml_json.proofs.Common.{◌≡◌, ℕ, suc, ◌+◌, ◌*◌, ◌%◌, ◌^◌, ◌<◌, ◌≤◌, ltb, Bool, true, false, not, cond, List, [], ◌∷◌, map, drop, length, take}
+use Rattle.yaml_json.proofs.Common.{replicate, refl, ap, ap₂, ◌∙◌, arith, length-map, zip2_splat, zip2_of_maps, map-map, mask_l-mod, zip2, chunk, mask_l, top}
+use Rattle.yaml_json.proofs.Common.{is_ascii_digit, prefix_len}
+use Rattle.std.proofs.{lemmas.Bool.agree_below_at, lemmas.Simd.splat_is_map, lemmas.Simd.trailing_mask_l, lemmas.Simd.length-chunk}
 use lib.Bits.{bit_xor}
 use lib.Count.{count_trailing_zeros}
-use lib.Lanes.{Each1, zip2, chunk, mask_l, top}
+use lib.Lanes.{Each1}
 use mir.Syntax.{w8}
 use mir.Val.{Fits}
 use Rattle.yaml_json.specs.Lexemes.{is_no_digit}
-use Rattle.std.specs.{Char.is_ascii_digit, List.prefix_len}
 
 abbrev below : ℕ → ℕ → ℕ
 below a b = cond (ltb a b) 255 0
@@ -22,9 +20,7 @@ one_lane false = refl
 each_lane : (v : List ℕ) → Each1 (Fits w8) v → map (λ x. top 7 (below 9 (bit_xor x 48))) v ≡ map is_no_digit v
 each_lane [] fits = refl
 each_lane (x ∷ xs) fits =
-    ap₂ (λ b bs. b ∷ bs)
-    (one_lane (ltb 9 (bit_xor x 48)) ∙ agree_below_at (λ b. ltb 9 (bit_xor b 48)) is_no_digit 256 x refl fits.0.fits)
-    (each_lane xs fits.1)
+    ap₂ (λ b bs. b ∷ bs) (one_lane (ltb 9 (bit_xor x 48)) ∙ agree_below_at (λ b. ltb 9 (bit_xor b 48)) is_no_digit 256 x refl fits.0.fits) (each_lane xs fits.1)
 
 -- the bytes of a vector that are none
 pub no_digits_masked : (v : List ℕ) → length v ≡ 16 → Each1 (Fits w8) v

@@ -1,17 +1,13 @@
 -- At the first lexeme that isn't possible, the input that is expected names the lexemes that may follow.
-use Rattle.std.proofs.Common.{◌≡◌, ◌↔◌, inl, inr, ℕ, Bool, true, false, nat_le, Option, List, [], ◌∷◌, ◌++◌, drop, length, take, refl, sym, subst, ap, ◌∙◌}
-use Rattle.std.proofs.Common.{take-append-drop}
-use Rattle.yaml_base.specs.declared.kinds.CollectionKind.{CollectionKind}
-use Rattle.yaml_json.specs.Expected.{Names, StandingInJson, expected_by, expected_of, innermost, standing_over, start}
-use Rattle.yaml_json.specs.Lexing.{MayBegin, mode_over}
-use Rattle.yaml_json.specs.Places.{ExpectedIsPossible, MayFollow}
-use Rattle.yaml_json.proofs.Following.{kinds_next, last_next, names}
+use Rattle.yaml_json.proofs.Common.{◌≡◌, ◌↔◌, inl, inr, ℕ, Bool, true, false, Option, List, [], ◌∷◌, ◌++◌, drop, length, take, refl, sym, subst, ap, ◌∙◌}
+use Rattle.yaml_json.proofs.Common.{take-append-drop, CollectionKind, StandingInJson, expected_by, innermost, standing_over, start, MayBegin, mode_over}
+use Rattle.yaml_json.proofs.Common.{Expected, Last, Nothing, Lexeme, in_word, lex, token, bad, ends_word, true≢false, append_cancel_right}
+use Rattle.std.proofs.Common.{nat_le}
+use Rattle.yaml_json.specs.{Expected.Names, Expected.expected_of, Places.ExpectedIsPossible, Places.MayFollow, declared.expecting.Quoting.Quoting}
+use Rattle.yaml_json.proofs.{Following.kinds_next, Following.last_next, Following.names, LexSteps.lex-delimiter, LexSteps.lex-none}
 use Rattle.yaml_json.proofs.LastTokens.{AreGood, lex_passed, passed, quoting_of, standing_at, stands_over}
-use Rattle.yaml_json.proofs.LexSteps.{lex-delimiter, lex-none}
 use Rattle.yaml_json.proofs.Possible.{Runs, kinds_over, last_over, possible_is_named, runs_before}
-use Rattle.yaml_json.specs.declared.expecting.{Expected.Expected, Last.Last, Last.TheVariants.Nothing, Quoting.Quoting}
-use Rattle.json.specs.{Lex.Lexeme, Lex.Mode, Lex.between, Lex.in_word, Lex.lex, Lex.token, Token.bad, Word.ends_word}
-use Rattle.std.proofs.lemmas.{Bool.true≢false, List.append_cancel_right}
+use Rattle.json.specs.Lex.{Mode, between}
 use Rattle.yaml_json.specs.declared.expecting.Expected.TheVariants as expected
 
 -- ---- the lexemes before a place
@@ -29,8 +25,7 @@ new_lexeme _ t (inr may) = absurd may
 before_is : (front rest : List ℕ) (before : List Lexeme) → MayBegin (mode_over between front) rest
     → before ++ lex between rest ≡ lex between (front ++ rest) → before ≡ passed between front rest
 before_is front rest before may parts =
-    append_cancel_right before (passed between front rest) (lex between rest)
-    (parts ∙ lex_passed between front rest
+    append_cancel_right before (passed between front rest) (lex between rest) (parts ∙ lex_passed between front rest
     ∙ ap (λ (ls : List Lexeme). passed between front rest ++ ls) (new_lexeme (mode_over between front) rest may))
 
 no_bad : (e : Expected) → names e (token bad) ≡ false
@@ -70,8 +65,7 @@ expected_is_possible text at place next =
     let rest = drop at text in
     let before = place.before in
     let whole : front ++ rest ≡ text = take-append-drop at text in
-    let is : before ≡ passed between front rest =
-    before_is front rest before place.start.begins (place.parts ∙ ap (lex between) (sym whole)) in
+    let is : before ≡ passed between front rest = before_is front rest before place.start.begins (place.parts ∙ ap (lex between) (sym whole)) in
     let stands = state_before front rest before is (runs_before before place.begins) in
     let q = quoting_of (mode_over between front) in
     let last = last_over Nothing before in

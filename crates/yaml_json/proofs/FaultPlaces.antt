@@ -1,10 +1,7 @@
 -- The place of a fault in a text.
-use Prim.Native.Nat.{min}
-use Rattle.std.proofs.Common.{◌≡◌, ℕ, ◌-◌, ◌≤◌, inl, inr, Option, None, Some, List, drop, length, length-drop, sym, ap, ◌∙◌, arith}
-use Rattle.std.proofs.lemmas.{Bool.cases_lt, List.drop_all}
-use Rattle.yaml_json.specs.Faults.{Fault, FaultsAt, fault_of, said_at, said_by}
-use Rattle.yaml_json.specs.Expected.{expected_at}
-use Rattle.yaml_json.specs.declared.expecting.Expected.{Expected}
+use Rattle.yaml_json.proofs.Common.{min, ◌≡◌, ℕ, ◌-◌, ◌≤◌, inl, inr, Option, None, Some, List, drop, length, length-drop, sym, ap, ◌∙◌, arith, cases_lt}
+use Rattle.yaml_json.proofs.Common.{drop_all, Fault, FaultsAt, said_at, Expected}
+use Rattle.yaml_json.specs.{Faults.fault_of, Faults.said_by, Expected.expected_at}
 
 pub dropped_within : (text : List ℕ) (at place : ℕ) → place ≡ min at (length text) → drop place text ≡ drop at text
 dropped_within text at place is = elim (cases_lt at (length text)) [

@@ -1,30 +1,17 @@
 -- At which lexeme of its text the writing is stopped.
-use Rattle.std.proofs.Common.{◌≡◌, ℕ, ◌<◌, ◌≤◌, Bool, true, false, List, [], ◌∷◌, ◌++◌, drop, take, length, refl, sym, subst, ap, ◌∙◌, inl, inr, append_assoc}
-use Rattle.std.proofs.Common.{append-nil, take-append-drop}
-use Rattle.yaml_base.specs.Prefix.{IsPrefix}
+use Rattle.yaml_json.proofs.Common.{◌≡◌, ℕ, ◌<◌, ◌≤◌, Bool, true, false, List, [], ◌∷◌, ◌++◌, drop, take, length, refl, sym, subst, ap, ◌∙◌, inl, inr}
+use Rattle.yaml_json.proofs.Common.{append_assoc, append-nil, take-append-drop, IsPrefix, IsTidy, IsTrimmed, ahead, place_of, BeginsSome, NoneGoesOn, LeadsFrom}
+use Rattle.yaml_json.proofs.Common.{MayBegin, mode_over, PassesLexeme, IsAny, AreFrom, NoStringNext, Json, HasUniqueKeys, json_tokens, Lexeme, after_key}
+use Rattle.yaml_json.proofs.Common.{after_value, begins_colon, colon, comma, fresh, if_allowed, in_word, lex, place_token, may_begin, token, tokens, Token, bad}
+use Rattle.yaml_json.proofs.Common.{key, Stage, Over, cases_lt, true≢false, append_cancel_right, drop_all}
+use Rattle.yaml_json.proofs.{LexSteps.lex-none, ModeSteps.goes_on, Refusing.nothing_past, Reaching.is_placed, Reaching.no_key_place}
 use Rattle.yaml_json.proofs.FirstLexemes.{EndsValue, IsOfString, IsOfValue, as_string, comma_first, ends_good, first_of, of_string, of_value, some_token}
-use Rattle.yaml_json.proofs.LexSteps.{lex-none}
-use Rattle.yaml_json.proofs.ModeSteps.{goes_on}
-use Rattle.yaml_json.proofs.Refusing.{nothing_past}
 use Rattle.yaml_json.proofs.PunctuateSteps.{as_placed, lex-stray, put-key, put-string}
-use Rattle.yaml_json.proofs.Reaching.{is_placed, no_key_place}
 use Rattle.yaml_json.proofs.Spelling.{AllGood, AreSpelled, are_spelled, due_at, goes_on_at, good_back, good_front, json_ends, json_good, last_same}
 use Rattle.yaml_json.proofs.Spelling.{nothing_left, spelled, spelled_colon}
-use Rattle.yaml_json.specs.Ahead.{FollowsAs, IsTidy, IsTrimmed, ahead, place_of}
-use Rattle.yaml_json.specs.Begins.{BeginsSome, NoneGoesOn}
-use Rattle.yaml_json.specs.Lexing.{LeadsFrom, MayBegin, mode_over}
-use Rattle.yaml_json.specs.Offsets.{IsPast, PassesLexeme}
-use Rattle.yaml_json.specs.Places.{BeginLexemes, CannotStandAt, IsAny, IsLexemeStart, NoneGoOn}
-use Rattle.yaml_json.specs.Reached.{AreFrom, EndsBad, HaveTokens, Passed}
-use Rattle.yaml_json.specs.Walk.{IsBeginner, NoStringNext}
-use Rattle.json.specs.Json.{Json}
-use Rattle.json.specs.Strict.{HasUniqueKeys}
-use Rattle.json.specs.Tree.{json_tokens}
-use Rattle.json.specs.Lex.{Lexeme, Place, after_key, after_value, begins_colon, between, colon, comma, fresh, if_allowed, in_word, lex, place_token, may_begin}
-use Rattle.json.specs.Lex.{punctuate, token, tokens}
-use Rattle.json.specs.Token.{Token, bad, key, string}
-use Rattle.yaml_json.specs.declared.tokens.Stage.{Stage, TheVariants.Behind, TheVariants.Over}
-use Rattle.std.proofs.lemmas.{Bool.cases_lt, Bool.true≢false, List.append_cancel_right, List.drop_all}
+use Rattle.yaml_json.specs.{Ahead.FollowsAs, Offsets.IsPast, Places.BeginLexemes, Places.CannotStandAt, Places.IsLexemeStart, Places.NoneGoOn, Reached.EndsBad}
+use Rattle.yaml_json.specs.{Reached.HaveTokens, Reached.Passed, Walk.IsBeginner, declared.tokens.Stage.TheVariants.Behind}
+use Rattle.json.specs.{Lex.Place, Lex.between, Lex.punctuate, Token.string}
 
 -- ---- the beginning of a lexeme
 
@@ -32,11 +19,7 @@ pub is_start : (text : List ℕ) (at : ℕ) → at ≤ length text → LeadsFrom
 is_start text at within leads trimmed =
     let passed : leads.1.passed ≡ take at text =
     append_cancel_right leads.1.passed (take at text) (drop at text) (leads.1.parts ∙ sym (take-append-drop at text)) in
-    record {
-      within = within;
-      begins = subst (λ m. MayBegin m (drop at text)) (sym leads.1.mode ∙ ap (mode_over between) passed) leads.2;
-      trimmed = trimmed;
-    }
+    record { within = within; begins = subst (λ m. MayBegin m (drop at text)) (sym leads.1.mode ∙ ap (mode_over between) passed) leads.2; trimmed = trimmed }
 
 -- ---- a reader that isn't past a bad token
 
@@ -103,8 +86,7 @@ pub stands_here : (text : List ℕ) (taken left : List Token) (at : ℕ) → Are
     → IsPrefix taken (json_tokens json) → StandsHere text taken left at
 stands_here text taken left at from parts json begins =
     let stood = from.stood in
-    let same : from.taken ≡ taken =
-    append_cancel_right from.taken taken left (ap (λ (l : List Token). from.taken ++ l) from.are ∙ stood.all ∙ sym parts) in
+    let same : from.taken ≡ taken = append_cancel_right from.taken taken left (ap (λ (l : List Token). from.taken ++ l) from.are ∙ stood.all ∙ sym parts) in
     let passed = subst (λ (ts : List Token). Passed text ts from.stage (drop at text)) same stood.passed in
     let going = not_over text taken from.stage (drop at text) passed json begins in
     record {
@@ -147,8 +129,7 @@ module _ (allowed : Json → Type 0) (text : List ℕ) (taken left : List Token)
       → ((x : Token) (u : List Token) → left ≡ x ∷ u → (json : Json) → allowed json → IsPrefix (taken ++ x ∷ []) (json_tokens json) → ⊥)
       → NoneGoOn allowed here.have.passed ls
   none_here [] is other ends goes = λ json allow e.
-      ends json allow
-      (ap (λ (l : List Token). taken ++ l) (here.left_is ∙ ap (punctuate (place_of here.stage)) is)
+      ends json allow (ap (λ (l : List Token). taken ++ l) (here.left_is ∙ ap (punctuate (place_of here.stage)) is)
       ∙ sym (here.have.reads [] (λ f. absurd (true≢false (sym f)))) ∙ ap (punctuate fresh) (append-nil here.have.passed) ∙ e)
   none_here (l ∷ ls) is other ends goes = λ found.
       let json = found.0 in
@@ -159,8 +140,7 @@ module _ (allowed : Json → Type 0) (text : List ℕ) (taken left : List Token)
       let first = first_of (place_of here.stage) l ls (no_key_place here.stage)
       (λ behind comma_is. here.no_comma behind ls (is ∙ ap (λ (c : Lexeme). c ∷ ls) comma_is)) (subst NoStringNext left_is other) in
       let read = here.have.reads (l ∷ more) (follows_first rest l ls more is) in
-      goes first.token_is (first.rest_of ls) (left_is ∙ first.is ls) json allow
-      (some_append taken first.token_is (first.rest_of more) json
+      goes first.token_is (first.rest_of ls) (left_is ∙ first.is ls) json allow (some_append taken first.token_is (first.rest_of more) json
       (ap (λ (u : List Token). taken ++ u) (sym (first.is more)) ∙ sym read ∙ ap (punctuate fresh) (sym (append_assoc here.have.passed (l ∷ []) more)) ∙ e))
 
   pub at_token : (json : Json) → allowed json → (x : Token) → IsBeginner x → IsPrefix (taken ++ x ∷ []) (json_tokens json)
@@ -178,8 +158,7 @@ module _ (allowed : Json → Type 0) (text : List ℕ) (taken left : List Token)
 string_may : (p : Place) (s : List ℕ) (b : Bool) (ts : List Token) → may_begin p ≡ true → AreSpelled ts
     → (more : List Lexeme) × (punctuate p (token (string s) ∷ more) ≡ as_string b s ∷ ts)
 string_may p s true ts may so = (colon ∷ spelled false ts, put-key p s (spelled false ts) may ∙ ap (λ (l : List Token). key s ∷ l) so.0)
-string_may p s false ts may so =
-    (spelled true ts, put-string p s (spelled true ts) may (spelled_colon true ts) ∙ ap (λ (l : List Token). string s ∷ l) so.1)
+string_may p s false ts may so = (spelled true ts, put-string p s (spelled true ts) may (spelled_colon true ts) ∙ ap (λ (l : List Token). string s ∷ l) so.1)
 
 as_read : (p : Place) (s : List ℕ) (l : Lexeme) (ls : List Lexeme) (b : Bool) → may_begin p ≡ true → begins_colon (l ∷ ls) ≡ b
     → (u : List Token) × (punctuate p (token (string s) ∷ l ∷ ls) ≡ as_string b s ∷ u)
@@ -249,14 +228,12 @@ module _ (text : List ℕ) (taken left : List Token) (last at : ℕ) (here : Sta
             )
 
         never : (json : Json) (u : List Token) → taken ++ as_string b s ∷ u ≡ json_tokens json → ⊥
-        never json u e =
-            subst (NoneGoesOn taken) is none (json, some_append taken (as_string b s) u json e)
+        never json u e = subst (NoneGoesOn taken) is none (json, some_append taken (as_string b s) u json e)
 
         none_as : (ls : List Lexeme) → (others : IsOfString (place_of here.stage) s (lex between after_last) b)
             → others.others ≡ ls → NoneGoOn IsAny (here.have.passed ++ token (string s) ∷ []) ls
         none_as [] found same = λ json allow e.
-            never json after
-            (ap (λ (l : List Token). taken ++ l) (sym is ∙ here.left_is ∙ ap (punctuate (place_of here.stage))
+            never json after (ap (λ (l : List Token). taken ++ l) (sym is ∙ here.left_is ∙ ap (punctuate (place_of here.stage))
             (found.are ∙ ap (λ (l : List Lexeme). token (string s) ∷ l) same))
             ∙ sym (read_as []) ∙ e)
         none_as (l ∷ ls) found same = λ so.
@@ -264,8 +241,7 @@ module _ (text : List ℕ) (taken left : List Token) (last at : ℕ) (here : Sta
             let more = so.1.1.0 in
             let e = so.1.1.1 in
             let read = as_read (place_of here.stage) s l more b found.may (colon_alone l more ls ∙ ap begins_colon (sym same) ∙ found.follows) in
-            never json read.0
-            (ap (λ (u : List Token). taken ++ u) (sym read.1) ∙ sym (read_as (l ∷ more))
+            never json read.0 (ap (λ (u : List Token). taken ++ u) (sym read.1) ∙ sym (read_as (l ∷ more))
             ∙ ap (punctuate fresh) (sym (append_assoc here.have.passed (token (string s) ∷ l ∷ []) more)
             ∙ ap (λ (u : List Lexeme). u ++ more) (sym (append_assoc here.have.passed (token (string s) ∷ []) (l ∷ [])))) ∙ e)
 
@@ -357,8 +333,7 @@ module _ (text : List ℕ) (taken : List Token) (name : List ℕ) (after : List 
 
   pub none_again : (ls : List Lexeme) → lex between (drop at text) ≡ ls → NoneGoOn HasUniqueKeys here.have.passed ls
   none_again [] is = λ json allow e.
-      neither true after json allow
-      (ap (λ (l : List Token). taken ++ l) (here.left_is ∙ ap (punctuate (place_of here.stage)) is)
+      neither true after json allow (ap (λ (l : List Token). taken ++ l) (here.left_is ∙ ap (punctuate (place_of here.stage)) is)
       ∙ sym (here.have.reads [] (λ f. absurd (true≢false (sym f)))) ∙ ap (punctuate fresh) (append-nil here.have.passed) ∙ e)
   none_again (l ∷ ls) is = λ so.
       let json = so.0 in

@@ -1,14 +1,11 @@
 -- Lexemes that are left, and their tokens: there are some, and the first of them is found.
-use Rattle.std.proofs.Common.{◌≡◌, ℕ, Bool, true, false, cond, ◌==◌, List, [], ◌∷◌, refl, sym, subst, ap, ◌∙◌}
-use Rattle.std.proofs.lemmas.Bool.{true≢false, false_from_ne_true}
-use Rattle.json.specs.Lex.{Lexeme, Mode, Place, after_comma, after_key, after_value, backslash, begins_colon, between, colon, comma, fresh, if_allowed}
-use Rattle.json.specs.Lex.{in_word, in_string, lex, lex_byte, may_begin, may_close, operator, other, place_token, punctuate, quote, space, string_token, token}
-use Rattle.json.specs.Text.{content, plain}
-use Rattle.json.specs.Token.{Token, begin_object, end_object, begin_array, end_array, key, string, number, boolean, null, bad}
-use Rattle.json.specs.Word.{head, is_operator, is_space, word}
+use Rattle.yaml_json.proofs.Common.{◌≡◌, ℕ, Bool, true, false, cond, ◌==◌, List, [], ◌∷◌, refl, sym, subst, ap, ◌∙◌, true≢false, false_from_ne_true, Lexeme}
+use Rattle.yaml_json.proofs.Common.{after_comma, after_key, after_value, backslash, begins_colon, colon, comma, fresh, if_allowed, in_word, in_string, lex_byte}
+use Rattle.yaml_json.proofs.Common.{may_begin, may_close, operator, other, place_token, quote, space, string_token, token, content, Token, begin_object}
+use Rattle.yaml_json.proofs.Common.{end_object, begin_array, end_array, key, bad, head, is_operator, is_space, word, IsTrimmed, NoStringNext}
+use Rattle.json.specs.{Lex.Mode, Lex.Place, Lex.between, Lex.lex, Lex.punctuate, Text.plain, Token.string, Token.number, Token.boolean, Token.null}
 use Rattle.yaml_json.proofs.LexSteps.{each_operator}
 use Rattle.yaml_json.proofs.PunctuateSteps.{as_placed, put-end_array, put-end_object, put-string, put-word}
-use Rattle.yaml_json.specs.{Ahead.IsTrimmed, Walk.NoStringNext}
 use Rattle.json.specs.Ascii as ascii
 
 -- ---- the rest has a lexeme
@@ -34,11 +31,9 @@ some_lexeme (x ∷ xs) trimmed some = go (is_operator x) (is_space x) refl refl
         (token end_array, (lex between xs, refl)) (colon, (lex between xs, refl)) (comma, (lex between xs, refl)) x e
     go false true e f = let none = trimmed f in cc
     go false false e f =
-        subst HasFirst
-        (sym (λ i. lex_byte between
+        subst HasFirst (sym (λ i. lex_byte between
         (cond (x == ascii.quote) quote (cond (x == ascii.backslash) backslash (cond (e i) operator (cond (f i) space other))))
-        x xs (λ next. lex next xs)))
-        (some_byte (x == ascii.quote) (x == ascii.backslash) x xs (λ next. lex next xs))
+        x xs (λ next. lex next xs))) (some_byte (x == ascii.quote) (x == ascii.backslash) x xs (λ next. lex next xs))
 
 -- a comma comes from its byte
 no_comma_byte : (q b : Bool) (x : ℕ) (xs : List ℕ) (k : Mode → List Lexeme) (more : List Lexeme)
@@ -60,18 +55,15 @@ comma_first (x ∷ xs) trimmed more e = go (is_operator x) (is_space x) refl ref
   where
     go : (o s : Bool) → is_operator x ≡ o → is_space x ≡ s → x ≡ 44
     go true s f g =
-        each_operator (λ v. lex between (v ∷ xs) ≡ comma ∷ more → v ≡ 44)
-        (λ is. absurd (other_lexeme (token begin_object) (lex between xs) more is (λ e. cc)))
+        each_operator (λ v. lex between (v ∷ xs) ≡ comma ∷ more → v ≡ 44) (λ is. absurd (other_lexeme (token begin_object) (lex between xs) more is (λ e. cc)))
         (λ is. absurd (other_lexeme (token end_object) (lex between xs) more is (λ e. cc)))
         (λ is. absurd (other_lexeme (token begin_array) (lex between xs) more is (λ e. cc)))
         (λ is. absurd (other_lexeme (token end_array) (lex between xs) more is (λ e. cc)))
         (λ is. absurd (other_lexeme colon (lex between xs) more is (λ e. cc))) (λ is. refl) x f e
     go false true f g = let none = trimmed g in cc
     go false false f g =
-        absurd (no_comma_byte (x == ascii.quote) (x == ascii.backslash) x xs (λ next. lex next xs) more
-        (sym (λ i. lex_byte between
-        (cond (x == ascii.quote) quote (cond (x == ascii.backslash) backslash (cond (f i) operator (cond (g i) space other))))
-        x xs (λ next. lex next xs)) ∙ e))
+        absurd (no_comma_byte (x == ascii.quote) (x == ascii.backslash) x xs (λ next. lex next xs) more (sym (λ i. lex_byte between
+        (cond (x == ascii.quote) quote (cond (x == ascii.backslash) backslash (cond (f i) operator (cond (g i) space other)))) x xs (λ next. lex next xs)) ∙ e))
 
 -- ---- a lexeme has a token
 
@@ -86,10 +78,9 @@ placed_some p begin_array b k e = allowed_some (may_begin p) begin_array k fresh
 placed_some p end_array b k e = allowed_some (may_close p) end_array k after_value e
 placed_some p (string s) true k e = allowed_some (may_begin p) (key s) k after_key e
 placed_some p (string s) false k e = allowed_some (may_begin p) (string s) k after_value e
-placed_some p (number s) b k e = allowed_some (may_begin p) (number s) k after_value e
-placed_some p (boolean v) b k e = allowed_some (may_begin p) (boolean v) k after_value e
-placed_some p null b k e = allowed_some (may_begin p) null k after_value e
-placed_some p _ b k e = cc
+placed_some p (key s) b k e = cc
+placed_some p bad b k e = cc
+placed_some p w b k e = allowed_some (may_begin p) w k after_value e
 
 pub some_after_comma : (ls : List Lexeme) → punctuate after_comma ls ≡ [] → ⊥
 unfolding punctuate
@@ -154,8 +145,7 @@ first_string : (p : Place) (s : List ℕ) (ls : List Lexeme) → (p ≡ after_ke
 first_string fresh s ls apart known =
     absurd (string_or_key (begins_colon ls) s (λ place. punctuate place ls) (subst NoStringNext (as_placed fresh (string s) ls) known))
 first_string after_value s ls apart known =
-    first_bad after_value (token (string s))
-    (λ more. as_placed after_value (string s) more ∙ late_string (begins_colon more) s (λ place. punctuate place more))
+    first_bad after_value (token (string s)) (λ more. as_placed after_value (string s) more ∙ late_string (begins_colon more) s (λ place. punctuate place more))
 first_string after_comma s ls apart known =
     absurd (string_or_key_owed (begins_colon ls) s (λ place. punctuate place ls) (subst NoStringNext (as_placed after_comma (string s) ls) known))
 first_string after_key s ls apart known = absurd (apart refl)
@@ -169,17 +159,12 @@ first_of p (token begin_array) ls apart no_comma known = first_allowed p begin_a
 first_of p (token end_array) ls apart no_comma known = first_allowed p end_array (may_close p) after_value (λ b k. refl)
 first_of p (token (key s)) ls apart no_comma known = first_bad p (token (key s)) (λ more. as_placed p (key s) more)
 first_of p (token (string s)) ls apart no_comma known = first_string p s ls apart known
-first_of p (token (number s)) ls apart no_comma known = first_allowed p (number s) (may_begin p) after_value (λ b k. refl)
-first_of p (token (boolean v)) ls apart no_comma known = first_allowed p (boolean v) (may_begin p) after_value (λ b k. refl)
-first_of p (token null) ls apart no_comma known = first_allowed p null (may_begin p) after_value (λ b k. refl)
 first_of p (token bad) ls apart no_comma known = first_bad p (token bad) (λ more. as_placed p bad more)
-first_of fresh comma ls apart no_comma known = first_bad fresh comma (λ more. refl)
-first_of after_value comma ls apart no_comma known = absurd (no_comma refl refl)
-first_of after_comma comma ls apart no_comma known = first_bad after_comma comma (λ more. refl)
-first_of fresh colon ls apart no_comma known = first_bad fresh colon (λ more. refl)
-first_of after_value colon ls apart no_comma known = first_bad after_value colon (λ more. refl)
-first_of after_comma colon ls apart no_comma known = first_bad after_comma colon (λ more. refl)
+first_of p (token w) ls apart no_comma known = first_allowed p w (may_begin p) after_value (λ b k. refl)
 first_of after_key _ ls apart no_comma known = absurd (apart refl)
+first_of after_value comma ls apart no_comma known = absurd (no_comma refl refl)
+first_of p comma ls apart no_comma known = first_bad p comma (λ more. refl)
+first_of p colon ls apart no_comma known = first_bad p colon (λ more. refl)
 
 -- ---- which lexeme a token is of
 
@@ -244,9 +229,6 @@ named p x false b s k left e =
 pub of_string : (p : Place) (ls : List Lexeme) (b : Bool) (s : List ℕ) (left : List Token) → (p ≡ after_key → ⊥)
     → (p ≡ after_value → (more : List Lexeme) → ls ≡ comma ∷ more → ⊥) → punctuate p ls ≡ as_string b s ∷ left → IsOfString p s ls b
 unfolding punctuate
-of_string fresh [] b s left apart no_comma e = absurd (none_first (as_string b s) left e)
-of_string after_value [] b s left apart no_comma e = absurd (none_first (as_string b s) left e)
-of_string after_key [] b s left apart no_comma e = absurd (apart refl)
 of_string p (token begin_object ∷ ls) b s left apart no_comma e =
     absurd (other_token p begin_object b s (may_begin p) (λ place. punctuate place ls) fresh left (sym (as_placed p begin_object ls) ∙ e) refl)
 of_string p (token end_object ∷ ls) b s left apart no_comma e =
@@ -255,22 +237,17 @@ of_string p (token begin_array ∷ ls) b s left apart no_comma e =
     absurd (other_token p begin_array b s (may_begin p) (λ place. punctuate place ls) fresh left (sym (as_placed p begin_array ls) ∙ e) refl)
 of_string p (token end_array ∷ ls) b s left apart no_comma e =
     absurd (other_token p end_array b s (may_close p) (λ place. punctuate place ls) after_value left (sym (as_placed p end_array ls) ∙ e) refl)
-of_string p (token (key x) ∷ ls) b s left apart no_comma e =
-    absurd (bad_first (as_string b s) left (sym (as_placed p (key x) ls) ∙ e) (name_is_good b s))
+of_string p (token (key x) ∷ ls) b s left apart no_comma e = absurd (bad_first (as_string b s) left (sym (as_placed p (key x) ls) ∙ e) (name_is_good b s))
 of_string p (token (string x) ∷ ls) b s left apart no_comma e =
     let parts = named p x (begins_colon ls) b s (λ place. punctuate place ls) left (sym (as_placed p (string x) ls) ∙ e) in
     record { others = ls; are = ap (λ (y : List ℕ). token (string y) ∷ ls) parts.0; follows = parts.1.0; may = parts.1.1 }
-of_string p (token (number x) ∷ ls) b s left apart no_comma e =
-    absurd (other_token p (number x) b s (may_begin p) (λ place. punctuate place ls) after_value left (sym (as_placed p (number x) ls) ∙ e) refl)
-of_string p (token (boolean v) ∷ ls) b s left apart no_comma e =
-    absurd (other_token p (boolean v) b s (may_begin p) (λ place. punctuate place ls) after_value left (sym (as_placed p (boolean v) ls) ∙ e) refl)
-of_string p (token null ∷ ls) b s left apart no_comma e =
-    absurd (other_token p null b s (may_begin p) (λ place. punctuate place ls) after_value left (sym (as_placed p null ls) ∙ e) refl)
-of_string p (token bad ∷ ls) b s left apart no_comma e =
-    absurd (bad_first (as_string b s) left (sym (as_placed p bad ls) ∙ e) (name_is_good b s))
+of_string p (token bad ∷ ls) b s left apart no_comma e = absurd (bad_first (as_string b s) left (sym (as_placed p bad ls) ∙ e) (name_is_good b s))
+of_string p (token w ∷ ls) b s left apart no_comma e =
+    absurd (other_token p w b s (may_begin p) (λ place. punctuate place ls) after_value left (sym (as_placed p w ls) ∙ e) refl)
+of_string after_key _ b s left apart no_comma e = absurd (apart refl)
+of_string fresh [] b s left apart no_comma e = absurd (none_first (as_string b s) left e)
+of_string after_value [] b s left apart no_comma e = absurd (none_first (as_string b s) left e)
 of_string after_value (comma ∷ ls) b s left apart no_comma e = absurd (no_comma refl ls refl)
-of_string after_key (comma ∷ ls) b s left apart no_comma e = absurd (apart refl)
-of_string after_key (colon ∷ ls) b s left apart no_comma e = absurd (apart refl)
 of_string _ _ b s left apart no_comma e = absurd (bad_first (as_string b s) left e (name_is_good b s))
 
 -- ---- a token that ends a value
@@ -298,8 +275,7 @@ ends_here : (p : Place) (x : Token) (m : Bool) (ls : List Lexeme) (t : Token) (l
     → IsOfValue p t (token x ∷ ls) left
 ends_here p x m ls t left ends e put =
     let same = allowed_same m x (λ place. punctuate place ls) after_value t left e (ends_good t ends) in
-    subst (λ (y : Token). IsOfValue p y (token x ∷ ls) left) same.1.0
-    (record { others = ls; are = refl; left_is = same.1.1; reads = put same.0 })
+    subst (λ (y : Token). IsOfValue p y (token x ∷ ls) left) same.1.0 (record { others = ls; are = refl; left_is = same.1.1; reads = put same.0 })
 
 opens_none : (x : Token) (m : Bool) (k : Place → List Token) (next : Place) (t : Token) (left : List Token) → EndsValue t → if_allowed m x k next ≡ t ∷ left
     → (EndsValue x → ⊥) → ⊥
@@ -312,18 +288,13 @@ not_true b e c f = false_from_ne_true c (λ t. true≢false (sym (f t) ∙ e))
 
 string_ends : (p : Place) (x : List ℕ) (ls : List Lexeme) (b : Bool) (t : Token) (left : List Token) → begins_colon ls ≡ b → EndsValue t
     → place_token p (string x) b (λ place. punctuate place ls) ≡ t ∷ left → IsOfValue p t (token (string x) ∷ ls) left
-string_ends p x ls true t left is ends e =
-    absurd (opens_none (key x) (may_begin p) (λ place. punctuate place ls) after_key t left ends e (λ never. never))
+string_ends p x ls true t left is ends e = absurd (opens_none (key x) (may_begin p) (λ place. punctuate place ls) after_key t left ends e (λ never. never))
 string_ends p x ls false t left is ends e =
-    ends_here p (string x) (may_begin p) ls t left ends e
-    (λ may more f. put-string p x more may (not_true (begins_colon ls) is (begins_colon more) f))
+    ends_here p (string x) (may_begin p) ls t left ends e (λ may more f. put-string p x more may (not_true (begins_colon ls) is (begins_colon more) f))
 
 pub of_value : (p : Place) (ls : List Lexeme) (t : Token) (left : List Token) → EndsValue t → (p ≡ after_key → ⊥)
     → (p ≡ after_value → (more : List Lexeme) → ls ≡ comma ∷ more → ⊥) → punctuate p ls ≡ t ∷ left → IsOfValue p t ls left
 unfolding punctuate
-of_value fresh [] t left ends apart no_comma e = absurd (none_first t left e)
-of_value after_value [] t left ends apart no_comma e = absurd (none_first t left e)
-of_value after_key [] t left ends apart no_comma e = absurd (apart refl)
 of_value p (token begin_object ∷ ls) t left ends apart no_comma e =
     absurd (opens_none begin_object (may_begin p) (λ place. punctuate place ls) fresh t left ends (sym (as_placed p begin_object ls) ∙ e) (λ never. never))
 of_value p (token end_object ∷ ls) t left ends apart no_comma e =
@@ -332,19 +303,13 @@ of_value p (token begin_array ∷ ls) t left ends apart no_comma e =
     absurd (opens_none begin_array (may_begin p) (λ place. punctuate place ls) fresh t left ends (sym (as_placed p begin_array ls) ∙ e) (λ never. never))
 of_value p (token end_array ∷ ls) t left ends apart no_comma e =
     ends_here p end_array (may_close p) ls t left ends (sym (as_placed p end_array ls) ∙ e) (λ may more f. put-end_array p more may)
-of_value p (token (key x) ∷ ls) t left ends apart no_comma e =
-    absurd (bad_first t left (sym (as_placed p (key x) ls) ∙ e) (ends_good t ends))
-of_value p (token (string x) ∷ ls) t left ends apart no_comma e =
-    string_ends p x ls (begins_colon ls) t left refl ends (sym (as_placed p (string x) ls) ∙ e)
-of_value p (token (number x) ∷ ls) t left ends apart no_comma e =
-    ends_here p (number x) (may_begin p) ls t left ends (sym (as_placed p (number x) ls) ∙ e) (λ may more f. put-word p (number x) more tt (λ e. cc) may)
-of_value p (token (boolean v) ∷ ls) t left ends apart no_comma e =
-    ends_here p (boolean v) (may_begin p) ls t left ends (sym (as_placed p (boolean v) ls) ∙ e)
-    (λ may more f. put-word p (boolean v) more tt (λ e. cc) may)
-of_value p (token null ∷ ls) t left ends apart no_comma e =
-    ends_here p null (may_begin p) ls t left ends (sym (as_placed p null ls) ∙ e) (λ may more f. put-word p null more tt (λ e. cc) may)
+of_value p (token (key x) ∷ ls) t left ends apart no_comma e = absurd (bad_first t left (sym (as_placed p (key x) ls) ∙ e) (ends_good t ends))
+of_value p (token (string x) ∷ ls) t left ends apart no_comma e = string_ends p x ls (begins_colon ls) t left refl ends (sym (as_placed p (string x) ls) ∙ e)
 of_value p (token bad ∷ ls) t left ends apart no_comma e = absurd (bad_first t left (sym (as_placed p bad ls) ∙ e) (ends_good t ends))
+of_value p (token w ∷ ls) t left ends apart no_comma e =
+    ends_here p w (may_begin p) ls t left ends (sym (as_placed p w ls) ∙ e) (λ may more f. put-word p w more tt (λ e. cc) may)
+of_value after_key _ t left ends apart no_comma e = absurd (apart refl)
+of_value fresh [] t left ends apart no_comma e = absurd (none_first t left e)
+of_value after_value [] t left ends apart no_comma e = absurd (none_first t left e)
 of_value after_value (comma ∷ ls) t left ends apart no_comma e = absurd (no_comma refl ls refl)
-of_value after_key (comma ∷ ls) t left ends apart no_comma e = absurd (apart refl)
-of_value after_key (colon ∷ ls) t left ends apart no_comma e = absurd (apart refl)
 of_value _ _ t left ends apart no_comma e = absurd (bad_first t left e (ends_good t ends))

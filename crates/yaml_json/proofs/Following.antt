@@ -1,15 +1,11 @@
 -- The lexemes that follow one another in a value of JSON, by the last token and the arrays and objects that are open.
-use Rattle.std.proofs.Common.{◌≡◌, ◌↔◌, ℕ, Bool, true, false, ◌||◌, List, [], ◌∷◌, drop, refl, sym, subst, ◌∙◌}
-use Rattle.std.proofs.lemmas.Bool.{true≢false}
-use Rattle.json.specs.Lex.{Lexeme, Place, after_comma, after_key, after_value, begins_colon, colon, comma, fresh, if_allowed, may_begin, place_token}
-use Rattle.json.specs.Lex.{punctuate, token}
-use Rattle.json.specs.Token.{Token, begin_object, end_object, begin_array, end_array, key, string, bad}
+use Rattle.yaml_json.proofs.Common.{◌≡◌, ◌↔◌, ℕ, Bool, true, false, ◌||◌, List, [], ◌∷◌, drop, refl, sym, subst, ◌∙◌, true≢false, Lexeme, after_comma}
+use Rattle.yaml_json.proofs.Common.{after_key, after_value, begins_colon, colon, comma, fresh, if_allowed, may_begin, place_token, token, Token, begin_object}
+use Rattle.yaml_json.proofs.Common.{end_object, begin_array, end_array, key, bad, closes, Expected, CollectionKind, Mapping, Sequence, Last, Opener, Comma}
+use Rattle.yaml_json.proofs.Common.{Colon, First, Value}
+use Rattle.json.specs.{Lex.Place, Lex.punctuate, Token.string}
 use Rattle.yaml_json.specs.Expected.{after_word_byte}
-use Rattle.yaml_json.specs.Walk.{closes}
-use Rattle.yaml_json.specs.declared.expecting.Expected.{Expected}
 use Rattle.yaml_json.proofs.{PunctuateSteps.put-string, PunctuateSteps.as_placed, FirstLexemes.late_string, Completing.Completes}
-use Rattle.yaml_base.specs.declared.kinds.CollectionKind.{CollectionKind, TheVariants.Mapping, TheVariants.Sequence}
-use Rattle.yaml_json.specs.declared.expecting.Last.{Last, TheVariants.Opener, TheVariants.Comma, TheVariants.Colon, TheVariants.First, TheVariants.Value}
 use Rattle.yaml_json.specs.declared.expecting.Expected.TheVariants as expected
 
 -- ---- after a lexeme
@@ -133,8 +129,7 @@ late_name _ _ k = refl
 
 -- nothing else follows a name
 pub no_token : (t : Token) (ls : List Lexeme) (kinds : List CollectionKind) → Completes true kinds (punctuate after_key (token t ∷ ls)) → ⊥
-no_token t ls kinds so =
-    subst (Completes true kinds) (as_placed after_key t ls ∙ late_name t (begins_colon ls) (λ next. punctuate next ls)) so
+no_token t ls kinds so = subst (Completes true kinds) (as_placed after_key t ls ∙ late_name t (begins_colon ls) (λ next. punctuate next ls)) so
 
 no_other : (ls : List Lexeme) (kinds : List CollectionKind) → begins_colon ls ≡ false → Completes true kinds (punctuate after_key ls) → ⊥
 unfolding punctuate
@@ -164,6 +159,5 @@ text_name p kinds s ls may =
 late_put : (s : List ℕ) (ls : List Lexeme) → punctuate after_value (token (string s) ∷ ls) ≡ bad ∷ []
 late_put s ls = as_placed after_value (string s) ls ∙ late_string (begins_colon ls) s (λ next. punctuate next ls)
 
-pub never_late : (P : List Token → Type 0) (s : List ℕ) (ls : List Lexeme) → (P (bad ∷ []) → ⊥)
-    → P (punctuate after_value (token (string s) ∷ ls)) ↔ ⊥
+pub never_late : (P : List Token → Type 0) (s : List ℕ) (ls : List Lexeme) → (P (bad ∷ []) → ⊥) → P (punctuate after_value (token (string s) ∷ ls)) ↔ ⊥
 never_late P s ls refused = (λ so. refused (subst P (late_put s ls) so), λ never. absurd never)

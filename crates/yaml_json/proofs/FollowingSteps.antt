@@ -1,14 +1,9 @@
 -- One lexeme more of a value of JSON: it is named by the input that is possible, or no value goes on with it.
-use Rattle.std.proofs.Common.{◌≡◌, ◌↔◌, false, List, [], ◌∷◌, refl}
-use Rattle.yaml_json.proofs.Completing.{Completes}
-use Rattle.yaml_json.proofs.FirstLexemes.{some_token}
+use Rattle.yaml_json.proofs.Common.{◌≡◌, ◌↔◌, false, List, [], ◌∷◌, refl, expected_by, innermost, Last, Nothing, Opener, Comma, Colon, First, Value, Lexeme}
+use Rattle.yaml_json.proofs.Common.{after_comma, after_value, fresh, token, Token, CollectionKind, Mapping, Sequence}
+use Rattle.yaml_json.proofs.{Completing.Completes, FirstLexemes.some_token}
 use Rattle.yaml_json.proofs.Following.{If, IsReachable, Rest, kinds_next, last_next, names, never_late, no_token, same, text_item, text_name, text_owed}
-use Rattle.yaml_json.specs.Expected.{expected_by, innermost}
-use Rattle.yaml_json.specs.declared.expecting.Last.{Last}
-use Rattle.yaml_json.specs.declared.expecting.Last.TheVariants.{Nothing, Opener, Comma, Colon, First, Value}
-use Rattle.json.specs.Lex.{Lexeme, after_comma, after_value, fresh, punctuate, token}
-use Rattle.json.specs.Token.{Token, string}
-use Rattle.yaml_base.specs.declared.kinds.CollectionKind.{CollectionKind, TheVariants.Mapping, TheVariants.Sequence}
+use Rattle.json.specs.{Lex.punctuate, Token.string}
 use Rattle.yaml_json.specs.declared.expecting.Expected.TheVariants as expected
 
 -- The rest goes on with the lexeme if the input that is possible names it, and never else.
@@ -71,8 +66,7 @@ none_left [] so = refl
 none_left (t ∷ ts) so = absurd so
 
 nothing_over : (l : Lexeme) (ls : List Lexeme) → Completes false [] (punctuate after_value (l ∷ ls)) ↔ ⊥
-nothing_over l ls =
-    (λ so. absurd (some_token after_value l ls (λ e. cc) (none_left (punctuate after_value (l ∷ ls)) so)), λ never. absurd never)
+nothing_over l ls = (λ so. absurd (some_token after_value l ls (λ e. cc) (none_left (punctuate after_value (l ∷ ls)) so)), λ never. absurd never)
 
 -- ---- at each place
 

@@ -1,12 +1,9 @@
 -- A writer's text and output only grow, and its emitter has no error but the one that is said.
 use Rattle.yaml_json.proofs.Common.{[], append-nil, subst, sym, Option, None, Some, Ok, Err, List, ◌≡◌, inl, inr, some_from_result, Event, failure_of, refl}
-use Rattle.yaml_json.proofs.Common.{WriterState, PassedEvents}
-use Rattle.yaml_base.specs.declared.errors.yaml_error_t.{yaml_error_t}
+use Rattle.yaml_json.proofs.Common.{WriterState, PassedEvents, yaml_error_t, writers_error, Grew, Kept, emitter_error, JsonError, StreamError, Stop}
 use Rattle.yaml_emitter.specs.State.{with_all_taken}
-use Rattle.yaml_json.proofs.TextStops.{said_as}
+use Rattle.yaml_json.{proofs.TextStops.said_as, specs.Sent.IsByReader}
 use Rattle.yaml_writer.specs.Failing.{HasErrorSaid}
-use Rattle.yaml_json.specs.{Failing.writers_error, Failing.Grew, Failing.Kept, Sent.IsByReader, Sent.emitter_error, declared.error.JsonError.JsonError}
-use Rattle.yaml_json.specs.{declared.error.StreamError.StreamError, declared.values.Stop.Stop}
 use Rattle.yaml_pen.proofs.{Composing.grows_itself, Composing.grows_then, Writing.none_from_result}
 use Rattle.yaml_json.specs.declared.error.StreamError.TheVariants as faults
 
@@ -32,8 +29,7 @@ grew_said before after stop found is kept = record { grows = kept.grows; sound =
 
 -- a call that gives events
 pub grew_passed : (before after : WriterState) (events : List Event) → PassedEvents before events (Ok tt) after → Grew before None after
-grew_passed before after events passed =
-    record { grows = passed.emits.grows; sound = λ none. none_from_result after.emitter.error passed.emits.answered }
+grew_passed before after events passed = record { grows = passed.emits.grows; sound = λ none. none_from_result after.emitter.error passed.emits.answered }
 
 pub grew_failing : (before after : WriterState) (events : List Event) (error : yaml_error_t) → PassedEvents before events (Err error) after
     → Grew before (Some error) after

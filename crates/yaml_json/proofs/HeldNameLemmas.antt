@@ -1,14 +1,13 @@
 -- The lists and sets that hold the names of the objects that are open.
-use Rattle.yaml_base.proofs.Common.{bytes_eq-Decides, ap, arith, inl, inr, length-append, subst, sym, ◌∙◌, or_parts, or_cases, same_from_decides, list_any}
-use Rattle.yaml_base.proofs.Common.{bytes_eq, ◌<◌, ◌≤◌, ◌+◌, ◌⊎◌}
-use Rattle.std.specs.{BTreeSet.BTreeSet, BTreeSet.Updates, BTreeSet.contains_by, Borrow.Bor, Cmp.Lexicographic.slice_cmp, List.slice_range, Ordering.nat_cmp}
-use Rattle.std.specs.{declared.cmp.Ordering.Ordering}
-use Rattle.std.proofs.{lemmas.Bool.not-true, lemmas.Bool.not-false, lemmas.Bool.both_ways, lemmas.Bool.Decides.Decides-like, lemmas.Map.Text.is_eq-slice_cmp}
-use Rattle.std.proofs.{Common.ap₂, Common.set, Common.length-drop, Common.take_all, Math.Seq.get_or-append_seam, Math.Seq.set-append_seam}
-use Rattle.std.proofs.{lemmas.List.Folds.list_any-append, lemmas.List.drop-append-le, lemmas.List.take-append-le}
-use Rattle.yaml_json.specs.{HeldNames.AddsName, HeldNames.HasNames, HeldNames.HaveNames, Names.IsNewName, Names.outer_names, declared.names.Level.Level}
-use Rattle.yaml_json.specs.{declared.names.Names.Names}
-use Rattle.yaml_base.proofs.Common.{Bool, List, [], cond, drop, false, length, not, refl, slice_index_or as get_or, take, true, ℕ, ◌++◌, ◌-◌, ◌||◌, ◌∷◌, ◌≡◌}
+use Rattle.yaml_json.proofs.Common.{bytes_eq-Decides, ap, arith, inl, inr, length-append, subst, sym, ◌∙◌, or_parts, list_any, bytes_eq, ◌<◌, ◌≤◌, ◌+◌, ◌⊎◌}
+use Rattle.yaml_json.proofs.Common.{both_ways, ap₂, length-drop, take_all, AddsName, HaveNames, IsNewName, Bool, List, [], cond, drop, false, length, not, refl}
+use Rattle.yaml_json.proofs.Common.{take, true, ℕ, ◌++◌, ◌-◌, ◌||◌, ◌∷◌, ◌≡◌}
+use Rattle.yaml_base.proofs.Common.{or_cases, same_from_decides, slice_index_or as get_or}
+use Rattle.std.{specs.BTreeSet.BTreeSet, specs.BTreeSet.Updates, specs.BTreeSet.contains_by, specs.Borrow.Bor, specs.Cmp.Lexicographic.slice_cmp}
+use Rattle.std.{specs.List.slice_range, specs.Ordering.nat_cmp, specs.declared.cmp.Ordering.Ordering, proofs.lemmas.Bool.not-true, proofs.lemmas.Bool.not-false}
+use Rattle.std.{proofs.lemmas.Bool.Decides.Decides-like, proofs.lemmas.Map.Text.is_eq-slice_cmp, proofs.Common.set, proofs.Math.Seq.get_or-append_seam}
+use Rattle.std.{proofs.Math.Seq.set-append_seam, proofs.lemmas.List.Folds.list_any-append, proofs.lemmas.List.drop-append-le, proofs.lemmas.List.take-append-le}
+use Rattle.yaml_json.specs.{HeldNames.HasNames, Names.outer_names, declared.names.Level.Level, declared.names.Names.Names}
 
 -- A name is new if and only if it is none of those.
 pub new_among : (names : List (List ℕ)) (name : List ℕ) → list_any (bytes_eq name) names ≡ false → IsNewName names name
@@ -159,8 +158,7 @@ pub left : {A : Type 0} (few later : Keys) (levels before : List (Level A)) (lev
 left few later levels before level [] is cut have = absurd (none_left before level (sym have ∙ is))
 left few later levels before level (names ∷ outer) is cut have =
     let ends = same_ends have.0 before have.1 level (sym have.2 ∙ is) in
-    subst (λ (keys : Keys). HaveNames keys before outer) (sym cut)
-    (subst (λ (l : Level _). HaveNames (take l.first few) before outer) ends.1
+    subst (λ (keys : Keys). HaveNames keys before outer) (sym cut) (subst (λ (l : Level _). HaveNames (take l.first few) before outer) ends.1
     (subst (λ (ls : List (Level _)). HaveNames (take have.1.first few) ls outer) ends.0 have.5))
 
 module _ {A : Type 0} (few : Keys) (levels : List (Level A)) (n : ℕ) (long : n ≡ length levels) (level : Level A) (at : level ≡ get_or levels (n - 1) level)

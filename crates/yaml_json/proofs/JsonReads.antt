@@ -2,15 +2,11 @@
 use Rattle.yaml_json.proofs.Common.{ℕ, Some, Bool, true, List, [], map, ◌++◌, ◌∷◌, ◌≡◌, list_all, Json, HasNumbers, Event, has_scalar_texts, IsAccepted}
 use Rattle.yaml_json.proofs.Common.{Settings, Effective, directives_in_force, Tree, resolved_by_core, resolved_by_11, Schema, closing, json_events, opening}
 use Rattle.yaml_json.proofs.Common.{parts_events}
-use Rattle.yaml_json.proofs.Meanings.{node_means}
-use Rattle.yaml_json.proofs.Portable.{are_unsigned, value_written}
-use Rattle.yaml_writer.proofs.DocumentsOf.{tree_by, trees_found}
-use Rattle.yaml_writer.specs.Means.{plain_document}
-use Rattle.yaml_json.proofs.Trees.{json_node, nodes_of, parts_are, values_of}
-use Rattle.yaml_json.specs.Means.{AllMean, ReadsAsValues, ReadsAsJson}
-use Rattle.yaml_base.proofs.Common.{stream_trees, root_place, settings_for}
-use Rattle.yaml_writer.proofs.WholeStreams.{IsWhole}
+use Rattle.yaml_json.{proofs.Meanings.node_means, proofs.Portable.are_unsigned, proofs.Portable.value_written, proofs.Trees.json_node, proofs.Trees.nodes_of}
+use Rattle.yaml_json.{proofs.Trees.parts_are, proofs.Trees.values_of, specs.Means.AllMean, specs.Means.ReadsAsValues, specs.Means.ReadsAsJson}
+use Rattle.yaml_writer.{proofs.DocumentsOf.tree_by, proofs.DocumentsOf.trees_found, proofs.WholeStreams.IsWhole, specs.Means.plain_document}
 use Rattle.yaml_writer.proofs.ScalarMeanings.{ReadsScalars, reads_by_11, reads_by_core}
+use Rattle.yaml_base.proofs.Common.{stream_trees, root_place, settings_for}
 
 -- each number of each value is one
 abbrev pub HaveNumbers : List Json → Type 0
@@ -40,8 +36,7 @@ module _ (given : Settings) (in_flow : Bool) (part : List ℕ × Json) (rest : L
       → stream_trees given.breaks12 bytes ≡ Some (map plain_document (roots_of (settings_for given all) in_flow values))
   found =
       trees_found given (json_node part.1 given.canonical in_flow) (nodes_of given.canonical in_flow (values_of rest)) bytes
-      (value_written part.1 given.canonical in_flow numbers.0) (are_unsigned given.canonical in_flow values)
-      (parts_events given.canonical in_flow (part ∷ rest)) (parts_are given.canonical in_flow part rest)
+      (value_written _ given.canonical in_flow numbers.0) (are_unsigned given.canonical in_flow values) _ (parts_are given.canonical in_flow part rest)
 
   pub reads_as_values : list_all has_scalar_texts all ≡ true → IsAccepted given.canonical all → IsWhole given all bytes
       → ReadsAsValues given.breaks12 bytes values

@@ -1,11 +1,10 @@
 -- The names that are kept while the tokens of a value are walked over.
 use Rattle.yaml_json.proofs.Common.{ℕ, length, Bool, false, true, List, [], ◌++◌, ◌∷◌, refl, ◌≡◌, length-append, append_assoc, inl, inr, ap, subst, sym, ◌∙◌}
 use Rattle.yaml_json.proofs.Common.{arith, both_ways, Token, HaveNames, HoldsNames, AddsName, IsNewName, inner_names, names_after, NamesOnce, all_names_after}
-use Rattle.yaml_json.proofs.Common.{IsScalar, opener, closer, KeepsNames, FitsNames, KeepsNamesAfter, HasUniqueNames}
+use Rattle.yaml_json.proofs.Common.{IsScalar, opener, closer, KeepsNames, FitsNames, KeepsNamesAfter, HasUniqueNames, CollectionKind, Mapping, Sequence}
 use Rattle.std.proofs.lemmas.Bool.{cases_Bool}
 use Rattle.yaml_json.proofs.NameLemmas.{once_both, names_after_both}
 use Rattle.yaml_json.specs.{Names.outer_names, Walk.KeepsTo, Walk.LeavesNames, declared.names.Names.Names}
-use Rattle.yaml_base.specs.declared.kinds.CollectionKind.{CollectionKind, TheVariants.Mapping, TheVariants.Sequence}
 
 abbrev Taken : Type 0
 Taken = List (List (List ℕ))
@@ -130,5 +129,4 @@ module _ {A : Type 0} where
 
   pub names_done : (unique : Bool) (kinds : List CollectionKind) (start ahead : List Token) (held : Names A) → NamesSoFar start ahead held
       → FitsNames unique kinds held → HasUniqueNames unique start ahead
-  names_done unique kinds start ahead held so_far fits is =
-      (so_far.taken, so_far.parts, names_once unique kinds held so_far.taken fits so_far.kept is)
+  names_done unique kinds start ahead held so_far fits is = (so_far.taken, so_far.parts, names_once unique kinds held so_far.taken fits so_far.kept is)

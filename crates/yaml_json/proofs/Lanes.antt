@@ -1,13 +1,10 @@
 -- Bytes that stop the plain text of a string, sixteen at a time.
-use Rattle.std.proofs.Common.{◌≡◌, ℕ, suc, ◌+◌, ◌*◌, ◌%◌, ◌^◌, ◌<◌, ◌≤◌, ltb, Bool, true, false, not, cond, eqb, ◌||◌, List, [], ◌∷◌, map, length, get_or}
-use Rattle.std.proofs.Common.{replicate, inl, inr, refl, ap, ap₂, ◌∙◌, arith}
+use Rattle.yaml_json.proofs.Common.{◌≡◌, ℕ, suc, ◌+◌, ◌*◌, ◌%◌, ◌^◌, ◌<◌, ◌≤◌, ltb, Bool, true, false, not, cond, eqb, ◌||◌, List, [], ◌∷◌, map, length, get_or}
+use Rattle.yaml_json.proofs.Common.{replicate, inl, inr, refl, ap, ap₂, ◌∙◌, arith, zip2, chunk, mask_l, top, prefix_len, ArePlain, is_stop, zip2_splat}
+use Rattle.yaml_json.proofs.Common.{zip2_of_maps, map-map, mask_l-mod, length-map, cases_lt}
 use lib.Bits.{bit_or}
 use lib.Count.{count_trailing_zeros}
-use lib.Lanes.{zip2, chunk, mask_l, top}
-use Rattle.std.specs.List.{prefix_len}
-use Rattle.yaml_json.specs.Lexemes.{ArePlain, is_stop}
-use Rattle.std.proofs.lemmas.{Simd.zip2_splat, Simd.zip2_of_maps, Simd.map-map, Simd.mask_l-mod, Simd.length-chunk, Simd.trailing_mask_l}
-use Rattle.std.proofs.lemmas.{Simd.run_in_chunk_fails, Simd.run_in_chunk_stops, Simd.none_from_empty_mask, List.length-map, Bool.cases_lt}
+use Rattle.std.proofs.lemmas.Simd.{length-chunk, trailing_mask_l, run_in_chunk_fails, run_in_chunk_stops, none_from_empty_mask}
 
 abbrev equal : ℕ → ℕ → ℕ
 equal a b = cond (eqb a b) 255 0
@@ -30,10 +27,8 @@ each_lane [] = refl
 each_lane (x ∷ xs) = ap₂ (λ b bs. b ∷ bs) (one_lane (eqb x 34) (eqb x 92) (ltb x 32)) (each_lane xs)
 
 pub stops_masked : (v : List ℕ) → length v ≡ 16
-    → mask_l (map (top 7) (zip2 bit_or
-    (zip2 bit_or (zip2 (λ a b. cond (eqb a b) 255 0) v (replicate 16 34)) (zip2 (λ a b. cond (eqb a b) 255 0) v (replicate 16 92)))
-    (zip2 (λ a b. cond (ltb a b) 255 0) v (replicate 16 32)))) % 2 ^ 64
-    ≡ mask_l (map is_stop v)
+    → mask_l (map (top 7) (zip2 bit_or (zip2 bit_or (zip2 (λ a b. cond (eqb a b) 255 0) v (replicate 16 34))
+    (zip2 (λ a b. cond (eqb a b) 255 0) v (replicate 16 92))) (zip2 (λ a b. cond (ltb a b) 255 0) v (replicate 16 32)))) % 2 ^ 64 ≡ mask_l (map is_stop v)
 stops_masked v long =
     let two = zip2_of_maps bit_or (λ x. equal x 34) (λ x. equal x 92) v (zip2_splat equal v 16 34 long) (zip2_splat equal v 16 92 long) in
     let all = zip2_of_maps bit_or (λ x. bit_or (equal x 34) (equal x 92)) (λ x. below x 32) v two (zip2_splat below v 16 32 long) in

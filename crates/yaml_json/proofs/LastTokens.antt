@@ -1,21 +1,15 @@
 -- The state of a text after some of its bytes is that after the lexemes that it has there.
-use Rattle.std.proofs.Common.{◌≡◌, ◌⊎◌, inl, inr, ℕ, Bool, true, false, cond, ◌||◌, ◌==◌, Option, None, Some, List, [], ◌∷◌, ◌++◌, refl, sym, ap, ◌∙◌}
-use Rattle.std.proofs.Common.{append_assoc}
-use Rattle.std.specs.Prelude.{if◌then◌else◌}
-use Rattle.std.proofs.lemmas.Bool.{true≢false, or_parts}
-use Rattle.yaml_json.specs.Expected.{StandingInJson, after_word_byte, open_by, standing_after, standing_over}
-use Rattle.yaml_json.specs.Lexing.{mode_after, mode_over}
-use Rattle.json.specs.Lex.{Class, Lexeme, Mode, backslash, between, class, in_escape, in_string, in_word, lex, lex_byte, operator, other, quote, space}
-use Rattle.json.specs.Lex.{string_token, token}
-use Rattle.json.specs.Text.{content, plain}
-use Rattle.json.specs.Token.{Token, number, boolean, null, bad}
-use Rattle.json.specs.Word.{is_operator, is_space, word}
-use Rattle.yaml_json.proofs.{Following.kinds_by, Following.kinds_next, Following.last_by, Following.last_next, LexSteps.each_operator, LexSteps.each_space}
-use Rattle.yaml_json.proofs.{LexSteps.value_is, Possible.kinds_over, Possible.last_over, PunctuateSteps.IsWord, PunctuateSteps.IsWord-word}
-use Rattle.yaml_json.proofs.{WordBytes.QuoteFree, WordBytes.good_word, WordSteps.other_inner}
-use Rattle.yaml_base.specs.declared.kinds.CollectionKind.{CollectionKind, TheVariants.Mapping, TheVariants.Sequence}
-use Rattle.yaml_json.specs.declared.expecting.Quoting.{Quoting, TheVariants.Outside, TheVariants.Inside, TheVariants.Escaped}
-use Rattle.yaml_json.specs.declared.expecting.Last.{Last, TheVariants.Nothing, TheVariants.Opener, TheVariants.Comma, TheVariants.Colon, TheVariants.Value}
+use Rattle.yaml_json.proofs.Common.{◌≡◌, ◌⊎◌, inl, inr, ℕ, Bool, true, false, cond, ◌||◌, ◌==◌, Option, None, Some, List, [], ◌∷◌, ◌++◌, refl, sym, ap, ◌∙◌}
+use Rattle.yaml_json.proofs.Common.{append_assoc, if◌then◌else◌, true≢false, or_parts, StandingInJson, standing_over, mode_after, mode_over, Class, Lexeme}
+use Rattle.yaml_json.proofs.Common.{backslash, class, in_escape, in_string, in_word, lex_byte, operator, other, quote, space, string_token, token, content}
+use Rattle.yaml_json.proofs.Common.{Token, bad, is_operator, is_space, word, CollectionKind, Mapping, Sequence, Last, Nothing, Opener, Comma, Colon, Value}
+use Rattle.yaml_json.specs.Expected.{after_word_byte, open_by, standing_after}
+use Rattle.yaml_json.specs.declared.expecting.Quoting.{Quoting}
+use Rattle.yaml_json.specs.declared.expecting.Quoting.TheVariants.{Outside, Inside, Escaped}
+use Rattle.yaml_json.proofs.{LexSteps.each_operator, LexSteps.each_space, LexSteps.value_is, Possible.kinds_over, Possible.last_over, PunctuateSteps.IsWord}
+use Rattle.yaml_json.proofs.{PunctuateSteps.IsWord-word, WordBytes.QuoteFree, WordBytes.good_word, WordSteps.other_inner}
+use Rattle.yaml_json.proofs.Following.{kinds_by, kinds_next, last_by, last_next}
+use Rattle.json.specs.{Lex.Mode, Lex.between, Lex.lex, Text.plain, Token.number, Token.boolean, Token.null}
 
 -- ---- the lexemes of some bytes of a text
 
@@ -27,8 +21,7 @@ abbrev pub passed : Mode → (front rest : List ℕ) → List Lexeme
 passed m [] rest = []
 passed m (x ∷ xs) rest = heads m x (xs ++ rest) ++ passed (mode_after m (class x)) xs rest
 
-split_byte : (m : Mode) (c : Class) (x : ℕ) (t : List ℕ) (k : Mode → List Lexeme)
-    → lex_byte m c x t k ≡ lex_byte m c x t (λ next. []) ++ k (mode_after m c)
+split_byte : (m : Mode) (c : Class) (x : ℕ) (t : List ℕ) (k : Mode → List Lexeme) → lex_byte m c x t k ≡ lex_byte m c x t (λ next. []) ++ k (mode_after m c)
 split_byte between quote x t k = refl
 split_byte in_word quote x t k = refl
 split_byte in_string quote x t k = refl
@@ -55,8 +48,7 @@ record IsOther (x : ℕ) : Type 0 where
 is_other : (x : ℕ) → IsOther x → class x ≡ other
 is_other x so = λ i. cond (so.no_quote i) quote (cond (so.no_backslash i) backslash (cond (so.no_operator i) operator (cond (so.no_space i) space other)))
 
-each_byte : (P : ℕ → Type 0) → P 34 → P 92 → P 123 → P 125 → P 91 → P 93 → P 58 → P 44 → P 32 → P 9 → P 10 → P 13 → ((x : ℕ) → IsOther x → P x)
-    → (x : ℕ) → P x
+each_byte : (P : ℕ → Type 0) → P 34 → P 92 → P 123 → P 125 → P 91 → P 93 → P 58 → P 44 → P 32 → P 9 → P 10 → P 13 → ((x : ℕ) → IsOther x → P x) → (x : ℕ) → P x
 each_byte P q b o1 o2 o3 o4 o5 o6 s1 s2 s3 s4 others x = go (x == 34) (x == 92) (is_operator x) (is_space x) refl refl refl refl
   where
     go : (quoted escaped operates blank : Bool) → (x == 34) ≡ quoted → (x == 92) ≡ escaped → is_operator x ≡ operates → is_space x ≡ blank → P x
@@ -126,11 +118,8 @@ outside : (x : ℕ) (last : Last) (kinds : List CollectionKind) → IsOther x
     → standing_after (standing_at Outside last kinds) x ≡ standing_at Outside (after_word_byte last) kinds
 outside x last kinds so =
     let no = no_operator x so.no_operator in λ i.
-    standing_at (if so.no_quote i then Inside else Outside)
-    (if so.no_space i then last
-    else (if no.open_brace i || no.open_bracket i then Opener
-    else (if no.close_brace i || no.close_bracket i then Value
-    else (if no.comma i then Comma else (if no.colon i then Colon else after_word_byte last)))))
+    standing_at (if so.no_quote i then Inside else Outside) (if so.no_space i then last else (if no.open_brace i || no.open_bracket i then Opener
+    else (if no.close_brace i || no.close_bracket i then Value else (if no.comma i then Comma else (if no.colon i then Colon else after_word_byte last)))))
     (open_by (if no.open_bracket i then Some Sequence else (if no.open_brace i then Some Mapping else None)) (no.close_brace i || no.close_bracket i) kinds)
 
 between_steps : (t : List ℕ) (last : Last) (kinds : List CollectionKind) (x : ℕ) → Steps between t last kinds x
@@ -222,10 +211,7 @@ word_good x t good = good_word (x ∷ t) (λ e. good (ap token e))
 begins_within : (x : ℕ) (t : List ℕ) (last : Last) (c : Class) → class x ≡ c → AreGood (lex_byte between c x t (λ next. []))
     → IsWithin (mode_after between c) (last_over last (lex_byte between c x t (λ next. []))) t
 begins_within x t last backslash e good = absurd (good.0 refl)
-begins_within x t last other e good = (
-  settled_word last (word (x ∷ t)) (IsWord-word (x ∷ t)),
-  (word_good x t good.0).1 (other_inner x e),
-)
+begins_within x t last other e good = (settled_word last (word (x ∷ t)) (IsWord-word (x ∷ t)), (word_good x t good.0).1 (other_inner x e))
 begins_within x t last _ e good = tt
 
 string_within : (x : ℕ) (t : List ℕ) (last : Last) (c : Class) → IsWithin (mode_after in_string c) (last_over last (lex_byte in_string c x t (λ next. []))) t

@@ -1,10 +1,8 @@
 -- The lexer byte by byte.
-use Rattle.std.proofs.Common.{◌≡◌, ℕ, zero, suc, ◌+◌, ◌<◌, ◌≤◌, Bool, true, false, cond, ◌||◌, ◌==◌, List, [], ◌∷◌, drop, get_or, length, refl, sym, ap, ◌∙◌}
-use Rattle.std.proofs.Common.{subst, arith}
-use Rattle.json.specs.Word.{is_operator, is_space}
-use Rattle.json.specs.Lex.{Class, quote, backslash, operator, space, other, class, Lexeme, Mode, between, in_word, in_string, in_escape, lex_byte, lex}
-use Rattle.yaml_json.specs.Lexemes.{is_stop}
-use Rattle.std.proofs.lemmas.{Bool.true≢false, Bool.eqb-true, Bool.or_parts, List.drop_more, List.drop-drop}
+use Rattle.yaml_json.proofs.Common.{◌≡◌, ℕ, zero, suc, ◌+◌, ◌<◌, ◌≤◌, Bool, true, false, cond, ◌||◌, ◌==◌, List, [], ◌∷◌, drop, get_or, length, refl, sym, ap}
+use Rattle.yaml_json.proofs.Common.{◌∙◌, subst, arith, is_operator, is_space, Class, quote, backslash, operator, space, other, class, Lexeme, in_word}
+use Rattle.yaml_json.proofs.Common.{in_string, in_escape, lex_byte, is_stop, true≢false, eqb-true, or_parts, drop_more, drop-drop}
+use Rattle.json.specs.Lex.{Mode, between, lex}
 use Rattle.json.specs.Ascii as ascii
 
 pub or_elim : {C : Type 0} (a b : Bool) → (a ≡ true → C) → (b ≡ true → C) → (a || b) ≡ true → C
@@ -23,12 +21,9 @@ each_space P a b c d x e =
 -- A property of each bracket, colon and comma.
 pub each_operator : (P : ℕ → Type 0) → P 123 → P 125 → P 91 → P 93 → P 58 → P 44 → (x : ℕ) → is_operator x ≡ true → P x
 each_operator P a b c d f g x e =
-    or_elim ((x == 123) || (x == 125) || (x == 91) || (x == 93) || (x == 58)) (x == 44)
-    (or_elim ((x == 123) || (x == 125) || (x == 91) || (x == 93)) (x == 58)
-    (or_elim ((x == 123) || (x == 125) || (x == 91)) (x == 93)
-    (or_elim ((x == 123) || (x == 125)) (x == 91) (or_elim (x == 123) (x == 125) (value_is P x 123 a) (value_is P x 125 b))
-    (value_is P x 91 c)) (value_is P x 93 d))
-    (value_is P x 58 f)) (value_is P x 44 g) e
+    or_elim ((x == 123) || (x == 125) || (x == 91) || (x == 93) || (x == 58)) (x == 44) (or_elim ((x == 123) || (x == 125) || (x == 91) || (x == 93)) (x == 58)
+    (or_elim ((x == 123) || (x == 125) || (x == 91)) (x == 93) (or_elim ((x == 123) || (x == 125)) (x == 91) (or_elim (x == 123) (x == 125) (value_is P x 123 a)
+    (value_is P x 125 b)) (value_is P x 91 c)) (value_is P x 93 d)) (value_is P x 58 f)) (value_is P x 44 g) e
 
 word_over : (q b o s : Bool) (x : ℕ) (xs : List ℕ) (k : Mode → List Lexeme) → (o || s) ≡ false
     → lex_byte in_word (cond q quote (cond b backslash (cond o operator (cond s space other)))) x xs k ≡ k in_word

@@ -1,8 +1,7 @@
 -- `n & (n - 1)` clears the lowest bit that is set.
-use Rattle.std.proofs.Common.{◌≡◌, ℕ, zero, suc, ◌+◌, ◌-◌, ◌*◌, ◌/◌, ◌%◌, ◌<◌, ◌≤◌, min, sym, ap, ap₂, ◌∙◌, arith}
-use Rattle.std.proofs.lemmas.Nat.Bits.{bit_at_lowest, bit_at-suc}
-use Rattle.std.specs.Int.{bit_at}
-use lib.Bits.{bit_and, and_step, and_self}
+use Rattle.yaml_json.proofs.Common.{◌≡◌, ℕ, zero, suc, ◌+◌, ◌-◌, ◌*◌, ◌%◌, ◌<◌, ◌≤◌, min, sym, ap, ap₂, ◌∙◌, arith, bit_at, bit_and}
+use Rattle.std.proofs.{Common.◌/◌, lemmas.Nat.Bits.bit_at_lowest, lemmas.Nat.Bits.bit_at-suc}
+use lib.Bits.{and_step, and_self}
 
 odd_cleared : (n : ℕ) → n % 2 ≡ 1 → bit_and n (n - 1) ≡ n / 2 * 2 + 0
 odd_cleared n odd =

@@ -1,12 +1,10 @@
 -- The lexer's mode, byte by byte.
-use Rattle.yaml_json.proofs.LexSteps.{or_elim, each_operator, each_space}
-use Rattle.std.proofs.Common.{◌≡◌, ℕ, zero, suc, ◌+◌, ◌-◌, ◌<◌, ◌≤◌, Bool, true, false, cond, ◌||◌, ◌==◌, List, [], ◌∷◌, ◌++◌, drop, get_or, length, refl, sym}
-use Rattle.std.proofs.Common.{ap, ◌∙◌, subst, arith, append_assoc, inl, inr}
-use Rattle.json.specs.Word.{head, is_operator, is_space}
-use Rattle.json.specs.Lex.{Class, Mode, backslash, between, class, in_escape, in_string, in_word, operator, other, quote, space}
-use Rattle.yaml_json.specs.Lexemes.{ArePlain, is_stop}
-use Rattle.yaml_json.specs.Lexing.{EndsBefore, GoesOver, Leads, LeadsFrom, mode_after, mode_over}
-use Rattle.std.proofs.lemmas.{Bool.true≢false, Bool.or_parts, Bool.cases_lt, List.drop_all, List.drop_more}
+use Rattle.yaml_json.proofs.Common.{◌≡◌, ℕ, zero, suc, ◌+◌, ◌-◌, ◌<◌, ◌≤◌, Bool, true, false, cond, ◌||◌, ◌==◌, List, [], ◌∷◌, ◌++◌, drop, get_or, length, refl}
+use Rattle.yaml_json.proofs.Common.{sym, ap, ◌∙◌, subst, arith, append_assoc, inl, inr, head, is_operator, is_space, Class, backslash, class, in_escape}
+use Rattle.yaml_json.proofs.Common.{in_string, in_word, operator, other, quote, space, ArePlain, is_stop, Leads, LeadsFrom, mode_after, mode_over, true≢false}
+use Rattle.yaml_json.proofs.Common.{or_parts, cases_lt, drop_all, drop_more}
+use Rattle.yaml_json.{proofs.LexSteps.or_elim, proofs.LexSteps.each_operator, proofs.LexSteps.each_space, specs.Lexing.EndsBefore, specs.Lexing.GoesOver}
+use Rattle.json.specs.Lex.{Mode, between}
 
 mode_over-append : (mode : Mode) (front back : List ℕ) → mode_over mode (front ++ back) ≡ mode_over (mode_over mode front) back
 mode_over-append mode [] back = refl
@@ -39,11 +37,9 @@ leads_on text left rest one two from may =
 
 -- a blank or an operator
 parts_class : (x : ℕ) → (is_operator x || is_space x) ≡ true → (mode_after between (class x) ≡ between) × (mode_after in_word (class x) ≡ between)
-parts_class x e = or_elim (is_operator x) (is_space x)
-    (each_operator (λ y. (mode_after between (class y) ≡ between) × (mode_after in_word (class y) ≡ between)) (refl, refl) (refl, refl) (refl, refl)
-    (refl, refl) (refl, refl) (refl, refl) x)
-    (each_space (λ y. (mode_after between (class y) ≡ between) × (mode_after in_word (class y) ≡ between)) (refl, refl) (refl, refl) (refl, refl)
-    (refl, refl) x) e
+parts_class x e = or_elim (is_operator x) (is_space x) (each_operator (λ y. (mode_after between (class y) ≡ between) × (mode_after in_word (class y) ≡ between))
+    (refl, refl) (refl, refl) (refl, refl) (refl, refl) (refl, refl) (refl, refl) x) (each_space
+    (λ y. (mode_after between (class y) ≡ between) × (mode_after in_word (class y) ≡ between)) (refl, refl) (refl, refl) (refl, refl) (refl, refl) x) e
 
 past_delimiter : (from : Mode) (x : ℕ) (xs : List ℕ) → (is_operator x || is_space x) ≡ true → EndsBefore from (x ∷ xs) → mode_after from (class x) ≡ between
 past_delimiter between x xs e may = (parts_class x e).0
@@ -57,21 +53,17 @@ leads_past x xs e from (inr may) =
 
 -- ---- at a place of a text
 
-pub leads_past_at : (d : List ℕ) (i : ℕ) → i < length d → (is_operator (get_or d i 0) || is_space (get_or d i 0)) ≡ true
-    → Leads (drop i d) (drop (i + 1) d)
-leads_past_at d i h e =
-    subst (λ (t : List ℕ). Leads t (drop (i + 1) d)) (sym (drop_more d i 0 h)) (leads_past (get_or d i 0) (drop (i + 1) d) e)
+pub leads_past_at : (d : List ℕ) (i : ℕ) → i < length d → (is_operator (get_or d i 0) || is_space (get_or d i 0)) ≡ true → Leads (drop i d) (drop (i + 1) d)
+leads_past_at d i h e = subst (λ (t : List ℕ). Leads t (drop (i + 1) d)) (sym (drop_more d i 0 h)) (leads_past (get_or d i 0) (drop (i + 1) d) e)
 
 pub goes_by_one_at : (from to : Mode) (d : List ℕ) (i : ℕ) → i < length d → mode_after from (class (get_or d i 0)) ≡ to
     → GoesOver from (drop i d) (drop (i + 1) d) to
 goes_by_one_at from to d i h is =
-    subst (GoesOver from (drop i d) (drop (i + 1) d)) is
-    (subst (λ (t : List ℕ). GoesOver from t (drop (i + 1) d) (mode_after from (class (get_or d i 0)))) (sym (drop_more d i 0 h))
-    (goes_by_one from (get_or d i 0) (drop (i + 1) d)))
+    subst (GoesOver from (drop i d) (drop (i + 1) d)) is (subst (λ (t : List ℕ). GoesOver from t (drop (i + 1) d) (mode_after from (class (get_or d i 0))))
+    (sym (drop_more d i 0 h)) (goes_by_one from (get_or d i 0) (drop (i + 1) d)))
 
 pub leads_past_blank : (d : List ℕ) (i : ℕ) → i < length d → is_space (get_or d i 0) ≡ true → Leads (drop i d) (drop (i + 1) d)
-leads_past_blank d i h blank =
-    leads_past_at d i h (each_space (λ y. (is_operator y || is_space y) ≡ true) refl refl refl refl (get_or d i 0) blank)
+leads_past_blank d i h blank = leads_past_at d i h (each_space (λ y. (is_operator y || is_space y) ≡ true) refl refl refl refl (get_or d i 0) blank)
 
 -- ---- in a string
 
@@ -116,9 +108,8 @@ escape_passed d from at less is so =
     elim (cases_lt (at + 1) (length d)) [
       | inl more ↦ (
         in_string,
-        subst (λ n. GoesOver in_string (drop from d) (drop n d) in_string) two
-            (goes_on in_string in_escape in_string (drop from d) (drop (at + 1) d) (drop (at + 1 + 1) d) one
-            (goes_by_one_at in_escape in_string d (at + 1) more (escaped_stays (class (get_or d (at + 1) 0))))),
+        subst (λ n. GoesOver in_string (drop from d) (drop n d) in_string) two (goes_on in_string in_escape in_string (drop from d) (drop (at + 1) d)
+            (drop (at + 1 + 1) d) one (goes_by_one_at in_escape in_string d (at + 1) more (escaped_stays (class (get_or d (at + 1) 0))))),
         λ further. refl,
       )
       | inr last ↦ (
@@ -139,8 +130,7 @@ string_closed d from at less is so = (
 )
 
 pub string_cut : (d rest : List ℕ) (from at : ℕ) → length d ≤ at → rest ≡ [] → WithinString d from at → LeadsFrom in_string (drop from d) rest
-string_cut d rest from at all none so =
-    (so.0, subst (λ (t : List ℕ). GoesOver in_string (drop from d) t so.0) (drop_all at d all ∙ sym none) so.1, inl none)
+string_cut d rest from at all none so = (so.0, subst (λ (t : List ℕ). GoesOver in_string (drop from d) t so.0) (drop_all at d all ∙ sym none) so.1, inl none)
 
 plain_run : (d : List ℕ) (from n : ℕ) → from + n ≤ length d → ((k : ℕ) → from ≤ k → k < from + n → is_stop (get_or d k 0) ≡ false)
     → WithinString d from (from + n)

@@ -1,11 +1,10 @@
 -- That no name comes twice among the tokens of a value is that each object has it once.
 use Rattle.yaml_json.proofs.Common.{suc, ℕ, ◌<◌, length, slice_index_or, List, [], ◌++◌, ◌∷◌, refl, ◌≡◌, append-nil, append_assoc, subst, sym, arith, Json}
 use Rattle.yaml_json.proofs.Common.{Items, array, Members, object, no_items, item, no_members, member, Token, json_tokens, items_tokens, members_tokens}
-use Rattle.yaml_json.proofs.Common.{IsNewName, names_after, NamesOnce, all_names_after}
+use Rattle.yaml_json.proofs.Common.{IsNewName, names_after, NamesOnce, all_names_after, HasUniqueKeys}
 use Rattle.yaml_base.proofs.Common.{⊤, All}
-use Rattle.std.specs.Prelude.{◌≢◌}
-use Rattle.json.specs.Strict.{keys, AreDistinct, HasUniqueKeys, ItemsHaveUniqueKeys, MembersHaveUniqueKeys}
-use Rattle.std.proofs.lemmas.List.{Elements.All-nil, Elements.All-cons, Kept.AllPairs-cons}
+use Rattle.std.{specs.Prelude.◌≢◌, proofs.lemmas.List.Elements.All-nil, proofs.lemmas.List.Elements.All-cons, proofs.lemmas.List.Kept.AllPairs-cons}
+use Rattle.json.specs.Strict.{keys, AreDistinct, ItemsHaveUniqueKeys, MembersHaveUniqueKeys}
 
 -- some tokens, and then others
 pub once_both : (levels : List (List (List ℕ))) (first second : List Token) → NamesOnce levels first → NamesOnce (all_names_after levels first) second
@@ -68,8 +67,7 @@ distinct_more name more differ distinct = AllPairs-cons (λ (a b : List ℕ). a 
 
 differs_each : (name : List ℕ) (more : List (List ℕ)) → ((j : ℕ) (d : List ℕ) → j < length more → name ≢ slice_index_or more j d) → Differs name more
 differs_each name [] each = tt
-differs_each name (next ∷ more) each =
-    (each 0 next (omega arith), differs_each name more (λ j d less. each (suc j) d (omega (arith, less))))
+differs_each name (next ∷ more) each = (each 0 next (omega arith), differs_each name more (λ j d less. each (suc j) d (omega (arith, less))))
 
 distinct_first : (name : List ℕ) (more : List (List ℕ)) → AreDistinct (name ∷ more) → Differs name more
 distinct_first name more distinct = differs_each name more (λ j d less. distinct 0 (suc j) d (omega arith) (omega (arith, less)))
@@ -116,8 +114,7 @@ mutual
 mutual
   value_once : (json : Json) (levels : Levels) (rest : List Token) → HasUniqueKeys json → NamesOnce levels rest → NamesOnce levels (json_tokens json ++ rest)
   value_once (array inner) levels rest unique once = (tt, items_once inner [] levels rest unique once)
-  value_once (object inner) levels rest unique once =
-      (tt, members_once inner [] levels rest (new_to_none (keys inner)) unique.0 unique.1 once)
+  value_once (object inner) levels rest unique once = (tt, members_once inner [] levels rest (new_to_none (keys inner)) unique.0 unique.1 once)
   value_once _ levels rest unique once = (tt, once)
 
   items_once : (inner : Items) (names : List (List ℕ)) (levels : Levels) (rest : List Token) → ItemsHaveUniqueKeys inner → NamesOnce levels rest
@@ -132,10 +129,9 @@ mutual
   members_once no_members names levels rest new distinct unique once = (tt, once)
   members_once (member name json more) names levels rest new distinct unique once = (
     new.0,
-    subst (NamesOnce ((name ∷ names) ∷ levels)) (sym (append_assoc (json_tokens json) (members_tokens more) rest))
-        (value_once json ((name ∷ names) ∷ levels) (members_tokens more ++ rest) unique.0
-        (members_once more (name ∷ names) levels rest (new_to_both name names (keys more) (distinct_first name (keys more) distinct) new.1)
-        (distinct_rest name (keys more) distinct) unique.1 once)),
+    subst (NamesOnce ((name ∷ names) ∷ levels)) (sym (append_assoc (json_tokens json) (members_tokens more) rest)) (value_once json ((name ∷ names) ∷ levels)
+        (members_tokens more ++ rest) unique.0 (members_once more (name ∷ names) levels rest
+        (new_to_both name names (keys more) (distinct_first name (keys more) distinct) new.1) (distinct_rest name (keys more) distinct) unique.1 once)),
   )
 
 pub once_is_unique : (json : Json) (levels : Levels) → NamesOnce levels (json_tokens json) → HasUniqueKeys json

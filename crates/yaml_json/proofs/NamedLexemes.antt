@@ -1,14 +1,9 @@
 -- The lexemes that a possible input names, by computation.
-use Rattle.std.proofs.Common.{◌≡◌, ◌⊎◌, inl, inr, ℕ, Bool, true, false, ◌||◌, None, Some, List, refl, sym, ap, ◌∙◌}
-use Rattle.std.proofs.lemmas.Bool.{true≢false}
-use Rattle.json.specs.Lex.{Lexeme, colon, comma, token}
-use Rattle.json.specs.Token.{Token, begin_object, end_object, begin_array, end_array, string, number, boolean, null}
-use Rattle.yaml_base.specs.declared.kinds.CollectionKind.TheVariants.{Mapping, Sequence}
-use Rattle.yaml_json.proofs.Closing.{closes_is}
+use Rattle.yaml_json.proofs.Common.{◌≡◌, ◌⊎◌, inl, inr, ℕ, Bool, true, false, ◌||◌, None, Some, List, refl, sym, ap, ◌∙◌, true≢false, Lexeme, colon, comma}
+use Rattle.yaml_json.proofs.Common.{token, Token, begin_object, end_object, begin_array, end_array, Mapping, Sequence, IsScalar, closes, Expected}
+use Rattle.json.specs.Token.{string, number, boolean, null}
+use Rattle.yaml_json.{proofs.Closing.closes_is, specs.Expected.BeginsValue, specs.Expected.IsText, specs.Expected.Names, specs.Walk.IsOpener}
 use Rattle.yaml_json.proofs.Following.{begins, by_token, is_colon, is_comma, is_text, names}
-use Rattle.yaml_json.specs.Expected.{BeginsValue, IsText, Names}
-use Rattle.yaml_json.specs.Walk.{IsOpener, IsScalar, closes}
-use Rattle.yaml_json.specs.declared.expecting.Expected.{Expected}
 use Rattle.yaml_json.specs.declared.expecting.Expected.TheVariants as expected
 
 -- ---- the lexemes that are named
@@ -110,11 +105,9 @@ pub only : (e : Expected) (l : Lexeme) → Names e (Some l) → names e l ≡ tr
 only expected.Text l so = value_only l so
 only expected.Value l so = value_only l so
 only expected.ItemOrEnd l so =
-    either_only (by_token begins l) (by_token (λ t. closes t Sequence) l) (value_only l)
-    (is_so (by_token (λ t. closes t Sequence)) l (token end_array) refl) so
+    either_only (by_token begins l) (by_token (λ t. closes t Sequence) l) (value_only l) (is_so (by_token (λ t. closes t Sequence)) l (token end_array) refl) so
 only expected.NameOrEnd l so =
-    either_only (by_token is_text l) (by_token (λ t. closes t Mapping) l) (text_only l)
-    (is_so (by_token (λ t. closes t Mapping)) l (token end_object) refl) so
+    either_only (by_token is_text l) (by_token (λ t. closes t Mapping) l) (text_only l) (is_so (by_token (λ t. closes t Mapping)) l (token end_object) refl) so
 only expected.Name l so = text_only l so
 only expected.Colon l so = is_so is_colon l colon refl so
 only expected.CommaOrBracket l so =

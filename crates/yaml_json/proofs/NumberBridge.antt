@@ -83,9 +83,8 @@ first_or none (c ∷ rest) = c
 leading : (c : ℕ) (text rest digits : Text) → (c == 0x30) ≡ false → (c ∷ text) ≡ digits ++ rest → are_digits 10 digits ≡ true → is_whole_part digits ≡ true
 leading c text rest [] other joined are = absurd (false≢true are)
 leading c text rest (d ∷ digits) other joined are =
-    and_from (are_digits 10 (d ∷ digits)) (is_word (d ∷ digits) (codes "0") || not (d == 0x30)) are
-    (or_right (is_word (d ∷ digits) (codes "0")) (not (d == 0x30))
-    (not_from_false (d == 0x30) (ap (λ (x : ℕ). x == 0x30) (sym (ap (first_or 0) joined)) ∙ other)))
+    and_from (are_digits 10 (d ∷ digits)) (is_word (d ∷ digits) (codes "0") || not (d == 0x30)) are (or_right (is_word (d ∷ digits) (codes "0"))
+    (not (d == 0x30)) (not_from_false (d == 0x30) (ap (λ (x : ℕ). x == 0x30) (sym (ap (first_or 0) joined)) ∙ other)))
 
 whole_got : (text rest : Text) → after_whole text ≡ Some rest → Whole text rest
 whole_got [] rest e = nothing_got rest e
@@ -199,8 +198,7 @@ exponent_got (c ∷ text) rest e = by (c == 0x65) (c == 0x45) refl refl e
 -- Numbers
 
 regrouped : (a b c d : Text) → a ++ (b ++ (c ++ (d ++ []))) ≡ a ++ b ++ c ++ d
-regrouped a b c d =
-    ap (λ (t : Text). a ++ (b ++ (c ++ t))) (append-nil d) ∙ sym (append_assoc (a ++ b) c d ∙ append_assoc a b (c ++ d))
+regrouped a b c d = ap (λ (t : Text). a ++ (b ++ (c ++ t))) (append-nil d) ∙ sym (append_assoc (a ++ b) c d ∙ append_assoc a b (c ++ d))
 
 all_parts : (text unsigned after_it later : Text) (negative : Bool) → text ≡ minus negative ++ unsigned → Whole unsigned after_it → Fraction after_it later
     → Exponent later [] → (number : JsonNumber) × IsNumber text number

@@ -44,5 +44,4 @@ one_byte bytes deep at front next less so goes =
 pub all_bytes : (bytes : List ℕ) (deep at : ℕ) (front : Front) → length bytes ≤ at → StandsBefore bytes deep at front
     → IsFront deep (standing_over start bytes) front
 all_bytes bytes deep at front all so =
-    subst (λ (s : StandingInJson). IsFront deep s front)
-    (sym (ap (standing_over so.standing) (drop_all at bytes all)) ∙ so.whole) so.is
+    subst (λ (s : StandingInJson). IsFront deep s front) (sym (ap (standing_over so.standing) (drop_all at bytes all)) ∙ so.whole) so.is

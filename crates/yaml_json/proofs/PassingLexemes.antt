@@ -1,18 +1,13 @@
 -- One lexeme is passed.
+use Rattle.yaml_json.proofs.Common.{◌≡◌, ℕ, ◌+◌, ◌-◌, ◌<◌, ◌≤◌, true, false, ◌||◌, List, [], ◌∷◌, ◌++◌, drop, get_or, length, refl, sym, subst, ap, ◌∙◌, arith}
+use Rattle.yaml_json.proofs.Common.{inr, append_assoc, take, take-append-drop, Lexeme, colon, comma, in_string, in_word, string_token, token, content}
+use Rattle.yaml_json.proofs.Common.{begin_array, begin_object, end_array, end_object, ends_word, head, is_operator, is_space, word, IsTrimmed, PassesLexeme}
+use Rattle.yaml_json.proofs.Common.{EndsWord, Leads, LeadsFrom, true≢false, drop_all, drop_more}
+use Rattle.yaml_json.proofs.{PunctuateSteps.begins_word, PunctuateSteps.lex-string, PunctuateSteps.lex-word, Reaching.last_is, WordSteps.other_inner}
 use Rattle.yaml_json.proofs.LexSteps.{or_elim, each_operator, each_space, lex-delimiter, lex-in_word, lex-none}
-use Rattle.std.proofs.Common.{◌≡◌, ℕ, ◌+◌, ◌-◌, ◌<◌, ◌≤◌, true, false, ◌||◌, List, [], ◌∷◌, ◌++◌, drop, get_or, length, refl, sym, subst, ap, ◌∙◌, arith, inr}
-use Rattle.std.proofs.Common.{append_assoc, take, take-append-drop}
-use Rattle.json.specs.Lex.{Lexeme, between, colon, comma, in_string, in_word, lex, string_token, token}
-use Rattle.json.specs.Text.{content, plain}
-use Rattle.json.specs.Token.{begin_array, begin_object, end_array, end_object}
-use Rattle.json.specs.Word.{ends_word, head, is_operator, is_space, word}
 use Rattle.yaml_json.proofs.ModeSteps.{goes_by_one_at, goes_nowhere, goes_on, leads_on, leads_past, quote_leads}
-use Rattle.yaml_json.proofs.PunctuateSteps.{begins_word, lex-string, lex-word}
-use Rattle.yaml_json.proofs.Reaching.{last_is}
-use Rattle.yaml_json.proofs.WordSteps.{other_inner}
 use Rattle.yaml_json.proofs.WordModes.{InWord, byte_stays, one_goes, then_goes, word_leads}
-use Rattle.yaml_json.specs.{Ahead.IsTrimmed, Offsets.PassesLexeme, Lexing.EndsWord, Lexing.Leads, Lexing.LeadsFrom}
-use Rattle.std.proofs.lemmas.{Bool.true≢false, List.drop_all, List.drop_more}
+use Rattle.json.specs.{Lex.between, Lex.lex, Text.plain}
 
 pub head_at : (d : List ℕ) (i : ℕ) → i < length d → head (drop i d) ≡ get_or d i 0
 head_at d i h = ap head (drop_more d i 0 h)
@@ -39,14 +34,12 @@ pub word_on : (d : List ℕ) (from at : ℕ) → at < length d → (is_operator 
     → WithinWord d from (at + 1)
 word_on d from at less inner so = (
   sym (ap (lex in_word) (drop_more d at 0 less) ∙ lex-in_word (get_or d at 0) (drop (at + 1) d) inner) ∙ so.0,
-  goes_on in_word in_word in_word (drop from d) (drop at d) (drop (at + 1) d) so.1
-      (goes_by_one_at in_word in_word d at less (byte_stays (get_or d at 0) inner)),
+  goes_on _ _ _ _ _ _ so.1 (goes_by_one_at _ _ d at less (byte_stays (get_or d at 0) inner)),
 )
 
 pub delimiter_small : (x : ℕ) → (is_operator x || is_space x) ≡ true → x < 128
 delimiter_small x e =
-    or_elim (is_operator x) (is_space x)
-    (each_operator (λ v. v < 128) (omega arith) (omega arith) (omega arith) (omega arith) (omega arith) (omega arith) x)
+    or_elim (is_operator x) (is_space x) (each_operator (λ v. v < 128) (omega arith) (omega arith) (omega arith) (omega arith) (omega arith) (omega arith) x)
     (each_space (λ v. v < 128) (omega arith) (omega arith) (omega arith) (omega arith) x) e
 
 pub word_ends : (d rest : List ℕ) (from at : ℕ) → at < length d → (is_operator (get_or d at 0) || is_space (get_or d at 0)) ≡ true → rest ≡ drop at d
@@ -107,8 +100,7 @@ passes_word t after rest q b o begins some same ends blanks over trimmed =
     record {
       first = token (word t);
       parts = lex-word t is ∙ ap (λ ls. token (word t) ∷ ls) (sym (blanks ∙ same));
-      leads = leads_on t after rest
-          (word_leads t after is (then_goes t (drop 1 t) after (one_goes t (other_inner (head t) is)) ends.0) ends.1) over;
+      leads = leads_on t after rest (word_leads t after is (then_goes t (drop 1 t) after (one_goes t (other_inner (head t) is)) ends.0) ends.1) over;
       trimmed = trimmed;
     }
 

@@ -1,13 +1,10 @@
 -- A scan passes the bytes within an array, an object or a string that aren't special.
-use Rattle.yaml_json.proofs.Common.{false, suc, zero, ℕ, ◌+◌, ◌-◌, ◌<◌, ◌≤◌, Some, length, slice_index_or as get_or, List, ◌≡◌, inl, inr, ap}
-use lib.Lanes.{chunk}
-use Rattle.std.specs.Int.{bit_at, trailing_zeros}
-use Rattle.std.proofs.Common.{◌^◌, w64, bit_and}
-use Rattle.yaml_json.proofs.Common.{subst, sym, ◌∙◌, arith, HasScanned, after_byte, cases_lt}
-use Rattle.yaml_json.proofs.LowestBit.{lowest_cleared}
-use Rattle.yaml_json.proofs.Cutting.{within_stays, string_stays, one_scanned}
-use Rattle.std.proofs.lemmas.{Bool.true≢false, Nat.and_le_r, Simd.get_or-chunk, Nat.Bits.bit_at-trailing_zeros, Nat.Bits.bit_at_above, Nat.Bits.bit_at-zero}
-use Rattle.yaml_json.specs.{declared.cuts.Cut.Cut, declared.cuts.Scan.Scan, Specials.IsInside, Specials.MayBeSpecial, Specials.may_change_scan}
+use Rattle.yaml_json.proofs.Common.{false, suc, zero, ℕ, ◌+◌, ◌-◌, ◌<◌, ◌≤◌, Some, length, List, ◌≡◌, inl, inr, ap, chunk, bit_at, ◌^◌, bit_and, subst, sym}
+use Rattle.yaml_json.proofs.Common.{◌∙◌, arith, HasScanned, after_byte, cases_lt, true≢false, Cut, Scan}
+use Rattle.yaml_json.proofs.{Common.slice_index_or as get_or, LowestBit.lowest_cleared, Cutting.within_stays, Cutting.string_stays, Cutting.one_scanned}
+use Rattle.yaml_json.specs.Specials.{IsInside, MayBeSpecial, may_change_scan}
+use Rattle.std.{specs.Int.trailing_zeros, proofs.Common.w64, proofs.lemmas.Nat.and_le_r, proofs.lemmas.Simd.get_or-chunk}
+use Rattle.std.proofs.lemmas.Nat.Bits.{bit_at-trailing_zeros, bit_at_above, bit_at-zero}
 
 plain_stays : (scan : Scan) (byte : ℕ) → IsInside scan → may_change_scan byte ≡ false → after_byte scan byte ≡ Some scan
 plain_stays scan byte inside none =
@@ -27,8 +24,7 @@ passes text cut (suc n) inside has room each =
     let next : cut.scanned + n + 1 ≡ cut.scanned + suc n = omega arith in
     let stays = plain_stays cut.scan (get_or text (cut.scanned + n) 0) inside (each n (omega arith)) in
     subst (λ (at : ℕ). HasScanned text (record { scan = cut.scan; scanned = at })) next
-    (one_scanned text (record { scan = cut.scan; scanned = cut.scanned + n })
-    (passes text cut n inside has (omega arith) (λ k low. each k (omega arith))) (omega arith) cut.scan stays)
+    (one_scanned _ _ (passes text cut n inside has (omega arith) (λ k low. each k (omega arith))) (omega arith) cut.scan stays)
 
 -- So many of 32 bytes are scanned, and the bits that are left mark the other bytes that may be special.
 pub record Left (text : List ℕ) (from : ℕ) (scan : Scan) (left : ℕ) : Type 0 where
@@ -57,8 +53,7 @@ left_first text cut found inside has small room specials =
 
 module _ (text : List ℕ) (from : ℕ) (scan : Scan) (left : ℕ) (held : Left text from scan left) (room : from + 32 ≤ length text) where
   -- as far as no bit is set
-  up_to : (end : ℕ) → held.count ≤ end → end ≤ 32 → ((k : ℕ) → k < end → bit_at left k ≡ 0)
-      → HasScanned text (record { scan = scan; scanned = from + end })
+  up_to : (end : ℕ) → held.count ≤ end → end ≤ 32 → ((k : ℕ) → k < end → bit_at left k ≡ 0) → HasScanned text (record { scan = scan; scanned = from + end })
   up_to end further within none =
       let count = held.count in
       let back : from + count + (end - count) ≡ from + end = omega (arith, further) in

@@ -1,17 +1,14 @@
 -- The line and the column of an offset in a text that follows others.
-use Prim.Native.Nat.{min}
-use Rattle.std.proofs.Common.{◌≡◌, ℕ, ◌+◌, ◌-◌, ◌<◌, ◌≤◌, Bool, true, false, cond, not, ◌==◌, List, [], ◌∷◌, ◌++◌, drop, take, length, refl, sym, subst, ap}
-use Rattle.std.proofs.Common.{◌∙◌, arith, inl, inr}
-use Rattle.std.proofs.Math.Seq.{drop-append-add, take-append-add, take-length}
-use Rattle.std.proofs.lemmas.Bool.{cases_lt, ne_eqb}
+use Rattle.yaml_json.proofs.Common.{min, ◌≡◌, ℕ, ◌+◌, ◌-◌, ◌<◌, ◌≤◌, Bool, true, false, cond, not, ◌==◌, List, [], ◌∷◌, ◌++◌, drop, take, length, refl, sym}
+use Rattle.yaml_json.proofs.Common.{subst, ap, ◌∙◌, arith, inl, inr, cases_lt, ne_eqb, IsPositionAfter, MovesPosition, Position, length-append, length-drop}
+use Rattle.yaml_json.proofs.Common.{length-take-le, append-nil, take-append-drop, prefix_len}
+use Rattle.std.proofs.{Math.Seq.drop-append-add, Math.Seq.take-append-add, Math.Seq.take-length, lemmas.List.Folds.prefix_len-append}
+use Rattle.std.proofs.lemmas.List.{drop-append-le, length-reverse, reverse-append}
+use Rattle.std.proofs.lemmas.List.Sums.{count_by-le-length, suffix_len-le-length, sum_by-append}
+use Rattle.std.specs.{Fmt.is_char_start, List.after_last, List.count_by, List.suffix_len}
 use mathlib.Core.List.{reverse}
-use Rattle.yaml_json.specs.Places.{IsPositionAfter, MovesPosition, many_bytes}
-use Rattle.yaml_base.specs.values.LinesAndColumns.{column_of, is_line_feed, line_of}
-use Rattle.yaml_base.specs.Positions.{IsPositionOf}
-use Rattle.yaml_base.specs.declared.places.Position.{Position}
-use Rattle.std.proofs.lemmas.List.{drop-append-le, length-append, length-drop, length-reverse, length-take-le, reverse-append, append-nil, take-append-drop}
-use Rattle.std.proofs.lemmas.List.{Folds.prefix_len-append, Sums.count_by-le-length, Sums.suffix_len-le-length, Sums.sum_by-append}
-use Rattle.std.specs.{Fmt.is_char_start, List.after_last, List.count_by, List.prefix_len, List.suffix_len}
+use Rattle.yaml_json.specs.Places.{many_bytes}
+use Rattle.yaml_base.specs.{values.LinesAndColumns.column_of, values.LinesAndColumns.is_line_feed, values.LinesAndColumns.line_of, Positions.IsPositionOf}
 
 count_more : {X : Type 0} (p : X → Bool) (xs ys : List X) → count_by p (xs ++ ys) ≡ count_by p xs + count_by p ys
 count_more p xs ys = sum_by-append (λ x. cond (p x) 1 0) xs ys
@@ -21,8 +18,7 @@ count_more p xs ys = sum_by-append (λ x. cond (p x) 1 0) xs ys
 abbrev tail_of : {X : Type 0} → (X → Bool) → List X → ℕ
 tail_of p xs = suffix_len (λ x. not (p x)) xs
 
-tail_append : {X : Type 0} (p : X → Bool) (xs ys : List X)
-    → tail_of p (xs ++ ys) ≡ cond (tail_of p ys == length ys) (length ys + tail_of p xs) (tail_of p ys)
+tail_append : {X : Type 0} (p : X → Bool) (xs ys : List X) → tail_of p (xs ++ ys) ≡ cond (tail_of p ys == length ys) (length ys + tail_of p xs) (tail_of p ys)
 tail_append p xs ys =
     ap (prefix_len (λ x. not (p x))) (reverse-append xs ys) ∙ prefix_len-append (λ x. not (p x)) (reverse ys) (reverse xs)
     ∙ ap (λ n. cond (tail_of p ys == n) (n + tail_of p xs) (tail_of p ys)) (length-reverse ys)
@@ -33,8 +29,7 @@ tail_all p xs ys all = tail_append p xs ys ∙ ap (λ b. cond b (length ys + tai
   same_eqb a b e = grind (arith, e)
 
 tail_some : {X : Type 0} (p : X → Bool) (xs ys : List X) → (tail_of p ys ≡ length ys → ⊥) → tail_of p (xs ++ ys) ≡ tail_of p ys
-tail_some p xs ys some =
-    tail_append p xs ys ∙ ap (λ b. cond b (length ys + tail_of p xs) (tail_of p ys)) (ne_eqb (tail_of p ys) (length ys) some)
+tail_some p xs ys some = tail_append p xs ys ∙ ap (λ b. cond b (length ys + tail_of p xs) (tail_of p ys)) (ne_eqb (tail_of p ys) (length ys) some)
 
 one_tail : {X : Type 0} (p : X → Bool) (x : X) (b : Bool) → p x ≡ b → tail_of p (x ∷ []) ≡ cond (not b) 1 0
 one_tail p x true e = ap (λ c. cond (not c) (1 + 0) 0) e
@@ -186,8 +181,7 @@ pub after_all : (front bytes : List ℕ) (start last after : Position) → IsPos
     → IsPositionAfter (front ++ bytes) after
 after_all front bytes start last after follows here says less =
     let size = length-append front bytes in
-    subst (λ n. IsPositionOf (front ++ bytes) n after) (sym size)
-    (says front bytes (length bytes) follows here (omega arith) (omega (arith, less, size)))
+    subst (λ n. IsPositionOf (front ++ bytes) n after) (sym size) (says front bytes (length bytes) follows here (omega arith) (omega (arith, less, size)))
 
 pub moves_nothing : (held later : List ℕ) (old new : Position) → later ≡ held → new ≡ old → MovesPosition held later old new
 moves_nothing held later old new same stays = record {
@@ -198,8 +192,4 @@ moves_nothing held later old new same stays = record {
 
 pub moves_on : (held later first : List ℕ) (start : ℕ) (old new : Position) → later ≡ drop start held → first ≡ take start held
     → ((front : List ℕ) → IsPositionAfter front old → IsPositionAfter (front ++ first) new) → MovesPosition held later old new
-moves_on held later first start old new left is moves = record {
-  dropped = first;
-  parts = (λ i. is i ++ left i) ∙ take-append-drop start held;
-  follows = moves;
-}
+moves_on held later first start old new left is moves = record { dropped = first; parts = (λ i. is i ++ left i) ∙ take-append-drop start held; follows = moves }

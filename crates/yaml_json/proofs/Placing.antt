@@ -1,18 +1,12 @@
 -- The place at which the writing is stopped, by the reason.
+use Rattle.yaml_json.proofs.Common.{◌≡◌, ℕ, ◌≤◌, Bool, true, false, List, [], ◌∷◌, ◌++◌, drop, refl, sym, subst, ap, ◌∙◌, arith, inl, inr, append_assoc}
+use Rattle.yaml_json.proofs.Common.{append-nil, IsPrefix, WriterState, NoneGoesOn, IsAny, AreFrom, TextStopsWriting, NoStringNext, Json, HasUniqueKeys, lex}
+use Rattle.yaml_json.proofs.Common.{tokens, Token, key, Stop, At, PastString, PastValue, json_tokens}
 use Rattle.yaml_json.proofs.Spelling.{head_same}
-use Rattle.std.proofs.Common.{◌≡◌, ℕ, ◌≤◌, Bool, true, false, List, [], ◌∷◌, ◌++◌, drop, refl, sym, subst, ap, ◌∙◌, arith, inl, inr, append_assoc, append-nil}
-use Rattle.yaml_base.specs.Prefix.{IsPrefix}
-use Rattle.yaml_writer.specs.Writing.{WriterState}
 use Rattle.yaml_json.proofs.Faults.{StandsHere, at_token, none_again, none_here, past_string, past_value, some_append, stands_here}
-use Rattle.yaml_json.specs.Begins.{BeginsAllowed, NoneGoesOn}
-use Rattle.yaml_json.specs.Offsets.{IsOffset, IsPast, StopsAtLexeme}
-use Rattle.yaml_json.specs.Places.{CannotStandAt, IsAny, IsWithinDepth}
-use Rattle.yaml_json.specs.Reached.{AreFrom}
-use Rattle.yaml_json.specs.Refused.{TokensBreakAt, NamesTwiceAt, OpensTooDeepAt}
-use Rattle.yaml_json.specs.Walk.{TextStopsWriting, CouldStandOther, GoesOn, NoStringNext, NoStringStands}
-use Rattle.json.specs.{Json.Json, Strict.HasUniqueKeys, Lex.between, Lex.lex, Lex.tokens, Token.Token, Token.key}
-use Rattle.yaml_json.specs.declared.values.{Stop.Stop, Spot.TheVariants.At, Spot.TheVariants.PastString, Spot.TheVariants.PastValue}
-use Rattle.json.specs.Tree.{depth as nesting, json_tokens}
+use Rattle.yaml_json.specs.{Begins.BeginsAllowed, Offsets.IsOffset, Offsets.IsPast, Offsets.StopsAtLexeme, Places.CannotStandAt, Places.IsWithinDepth}
+use Rattle.yaml_json.specs.{Refused.TokensBreakAt, Refused.NamesTwiceAt, Refused.OpensTooDeepAt, Walk.CouldStandOther, Walk.GoesOn, Walk.NoStringStands}
+use Rattle.json.specs.{Lex.between, Tree.depth as nesting}
 use Rattle.yaml_json.specs.declared.values.Stop.TheVariants as stops
 
 no_value : (left taken : List Token) → NoneGoesOn taken left → (json : Json) → taken ++ left ≡ json_tokens json → ⊥
@@ -65,15 +59,13 @@ module _ (depth : ℕ) (unique in_flow : Bool) (text : List ℕ) (before : List 
   again taken left were parts twice goes no_string =
       let here = reader_here taken (key twice.name ∷ twice.after) (were ∙ twice.first)
       (ap (λ (l : List Token). taken ++ l) (sym twice.first) ∙ parts) twice.begins in
-      at_token HasUniqueKeys text taken (key twice.name ∷ twice.after) last here goes.begins.json (goes.begins.allowed.names twice.wanted)
-      goes.token goes.is_beginner goes.begins.begins
-      (none_again text taken twice.name twice.after last here twice.twice (no_string twice.name twice.after twice.first) (lex between (drop last text)) refl)
+      at_token _ _ _ _ _ here goes.begins.json (goes.begins.allowed.names twice.wanted) _ goes.is_beginner goes.begins.begins
+      (none_again _ _ _ _ _ here twice.twice (no_string twice.name twice.after twice.first) (lex between (drop last text)) refl)
 
   pub stops_at_lexeme : (stop : Stop) → TextStopsWriting depth unique in_flow (tokens text) before was stop now → IsOffset text last stop at
       → StopsAtLexeme depth text at stop
   stops_at_lexeme (stops.NotJson At) so is =
-      subst (CannotStandAt IsAny text) (sym is)
-      (at_itself IsAny so.taken so.left so.were so.parts so.why.begins so.place.0 tt so.place.1
+      subst (CannotStandAt IsAny text) (sym is) (at_itself IsAny so.taken so.left so.were so.parts so.why.begins so.place.0 tt so.place.1
       (λ json allow e. no_value so.left so.taken so.why.breaks json e)
       (λ x u left_is json allow begins. subst (NoneGoesOn so.taken) left_is so.why.breaks (json, begins)))
   stops_at_lexeme (stops.NotJson PastString) so is = past_other so.taken so.left so.were so.parts so.why so.place is

@@ -6,10 +6,9 @@ use Rattle.yaml_json.proofs.Common.{directives_in_force, is_empty, is_plain, Jso
 use Rattle.yaml_json.proofs.Common.{yaml_number, are_digits, null_tag, bool_tag, bool_text, number_content, text_content, collection_in, number_in, number_tag}
 use Rattle.yaml_base.proofs.Common.{or_from, is_written_as_nothing, requested_style, exponent_spelled}
 use Rattle.yaml_base.specs.StreamLaw.{tag_has_flow_indicator, node_has_flow_indicator, nodes_have_flow_indicator, pairs_have_flow_indicator}
-use Rattle.yaml_json.proofs.NumberBridge.{number_is}
-use Rattle.yaml_json.proofs.Trees.{json_node, items_nodes, members_pairs, nodes_of}
-use Rattle.yaml_writer.proofs.{DocumentsOf.AreUnsigned, Unsigned.collection_unsigned, Unsigned.number_unsigned, Unsigned.text_unsigned, Unsigned.word_unsigned}
-use Rattle.yaml_writer.proofs.{SpellingLemmas.whole_digits}
+use Rattle.yaml_json.proofs.{NumberBridge.number_is, Trees.json_node, Trees.items_nodes, Trees.members_pairs, Trees.nodes_of}
+use Rattle.yaml_writer.proofs.{DocumentsOf.AreUnsigned, SpellingLemmas.whole_digits}
+use Rattle.yaml_writer.proofs.Unsigned.{collection_unsigned, number_unsigned, text_unsigned, word_unsigned}
 
 -- Nothing is lost
 
@@ -25,8 +24,7 @@ digits_filled false (c ∷ whole) rest h = refl
 number_filled : (parts : JsonNumber) → is_json_number parts ≡ true → is_empty (yaml_number parts) ≡ false
 number_filled parts valid =
     digits_filled parts.negative parts.whole
-    (if is_json_integer parts then [] else codes "." ++ fraction_or_default (codes "0") parts ++ exponent_spelled parts.exponent)
-    (whole_digits parts valid)
+    (if is_json_integer parts then [] else codes "." ++ fraction_or_default (codes "0") parts ++ exponent_spelled parts.exponent) (whole_digits parts valid)
 
 number_written : (content : Scalar) (canonical : Bool) → is_empty content.value ≡ false → is_written_as_nothing canonical (scalar_node content) ≡ false
 number_written content canonical filled =

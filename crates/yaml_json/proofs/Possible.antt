@@ -1,20 +1,11 @@
 -- The lexemes that may follow those with which a value of JSON begins are those that the possible input names.
-use Rattle.std.proofs.Common.{◌≡◌, ◌↔◌, ℕ, Bool, true, false, Option, None, Some, List, [], ◌∷◌, ◌++◌, refl, sym, subst, ap, ◌∙◌, append-nil, append_assoc}
-use Rattle.std.proofs.lemmas.Bool.{true≢false}
-use Rattle.yaml_json.specs.Expected.{Names, expected_by, innermost}
-use Rattle.yaml_json.specs.Places.{BeginLexemes, IsAny, MayFollow}
-use Rattle.json.specs.Json.{Json}
-use Rattle.json.specs.Lex.{Lexeme, colon, comma, fresh, punctuate, token}
-use Rattle.json.specs.Token.{end_object, end_array, key, string, number, boolean, null, bad}
-use Rattle.json.specs.Tree.{json_tokens}
-use Rattle.yaml_json.specs.declared.expecting.Expected.{Expected}
-use Rattle.yaml_json.specs.declared.expecting.Last.{Last}
-use Rattle.yaml_json.specs.declared.expecting.Last.TheVariants.{Nothing, Opener, Comma, First, Value}
-use Rattle.yaml_json.proofs.Completing.{Completes, is_value, of_value}
+use Rattle.yaml_json.proofs.Common.{◌≡◌, ◌↔◌, ℕ, Bool, true, false, Option, None, Some, List, [], ◌∷◌, ◌++◌, refl, sym, subst, ap, ◌∙◌, append-nil}
+use Rattle.yaml_json.proofs.Common.{append_assoc, true≢false, expected_by, innermost, IsAny, Json, Lexeme, colon, comma, fresh, token, end_object, end_array}
+use Rattle.yaml_json.proofs.Common.{key, bad, json_tokens, Expected, Last, Nothing, Opener, Comma, First, Value, CollectionKind, Mapping, Sequence}
+use Rattle.yaml_json.{specs.Expected.Names, specs.Places.BeginLexemes, specs.Places.MayFollow, proofs.Completing.Completes, proofs.Completing.is_value}
+use Rattle.yaml_json.{proofs.Completing.of_value, proofs.FollowingSteps.goes, proofs.NamedLexemes.named, proofs.NamedLexemes.no_end, proofs.NamedLexemes.only}
 use Rattle.yaml_json.proofs.Following.{If, IsReachable, Rest, kinds_next, last_next, names}
-use Rattle.yaml_json.proofs.FollowingSteps.{goes}
-use Rattle.yaml_json.proofs.NamedLexemes.{named, no_end, only}
-use Rattle.yaml_base.specs.declared.kinds.CollectionKind.{CollectionKind, TheVariants.Mapping, TheVariants.Sequence}
+use Rattle.json.specs.{Lex.punctuate, Token.string, Token.number, Token.boolean, Token.null}
 use Rattle.yaml_json.specs.declared.expecting.Expected.TheVariants as expected
 
 -- ---- after some lexemes
@@ -80,9 +71,8 @@ runs_back : (ls more : List Lexeme) (last : Last) (kinds : List CollectionKind) 
     → Rest (last_over last ls) (kinds_over kinds ls) more → Rest last kinds (ls ++ more)
 runs_back [] more last kinds r runs so = so
 runs_back (l ∷ ls) more last kinds r runs so =
-    (goes last kinds l (ls ++ more) r).1
-    (then_if (names (expected_by last (innermost kinds)) l) (Rest (last_next last l) (kinds_next kinds l) (ls ++ more)) runs.0
-    (runs_back ls more (last_next last l) (kinds_next kinds l) (reaches last kinds l r runs.0) runs.1 so))
+    (goes last kinds l (ls ++ more) r).1 (then_if (names (expected_by last (innermost kinds)) l) (Rest (last_next last l) (kinds_next kinds l) (ls ++ more))
+    runs.0 (runs_back ls more (last_next last l) (kinds_next kinds l) (reaches last kinds l r runs.0) runs.1 so))
 
 -- ---- lexemes that end what is open
 
@@ -165,8 +155,7 @@ module _ (before : List Lexeme) where
       let run = run_before [] json (ap (punctuate fresh) (append-nil before) ∙ is) in ends_here last kinds run.reachable run.rest
   may_is_named (Some l) (json, (any, (more, is))) =
       let run = run_before (l ∷ more) json (sym (ap (punctuate fresh) (append_assoc before (l ∷ []) more)) ∙ is) in
-      named possible l
-      (if_true (names possible l) (Rest (last_next last l) (kinds_next kinds l) more) ((goes last kinds l more run.reachable).0 run.rest)).0
+      named possible l (if_true (names possible l) (Rest (last_next last l) (kinds_next kinds l) more) ((goes last kinds l more run.reachable).0 run.rest)).0
 
   named_may : (next : Option Lexeme) → IsReachable last kinds → Runs Nothing [] before → Names possible next → MayFollow before next
   named_may None r runs so =

@@ -1,16 +1,12 @@
 -- The rules for commas and colons, token by token.
-use Rattle.std.proofs.Common.{◌≡◌, ℕ, Bool, true, false, cond, ◌&&◌, ◌==◌, ◌-◌, List, [], ◌∷◌, length, take, drop, Option, Some, None, refl, sym, ap, ◌∙◌}
-use Rattle.std.proofs.Common.{arith}
-use Rattle.std.proofs.lemmas.Bool.{true≢false, ne_eqb, false_from_ne_true}
-use Rattle.json.specs.Token.{Token, begin_object, end_object, begin_array, end_array, key, string, number, boolean, null, bad}
-use Rattle.json.specs.Text.{content, plain}
-use Rattle.json.specs.Word.{after_number, ends_word, head, is_operator, is_space, literal, number_before, word}
-use Rattle.yaml_json.specs.Ahead.{IsTrimmed}
+use Rattle.yaml_json.proofs.Common.{◌≡◌, ℕ, Bool, true, false, cond, ◌&&◌, ◌==◌, ◌-◌, List, [], ◌∷◌, length, take, drop, Option, Some, None, refl, sym, ap, ◌∙◌}
+use Rattle.yaml_json.proofs.Common.{arith, true≢false, ne_eqb, false_from_ne_true, Token, begin_object, end_object, begin_array, end_array, key, bad, content}
+use Rattle.yaml_json.proofs.Common.{ends_word, head, is_operator, is_space, literal, number_before, IsTrimmed, Lexeme, after_comma, after_key, after_value}
+use Rattle.yaml_json.proofs.Common.{backslash, begins_colon, class, colon, comma, fresh, in_string, in_word, lex_byte, may_begin, may_close, if_allowed}
+use Rattle.yaml_json.proofs.Common.{operator, other, place_token, quote, space, string_token, token, starts_with, nat_eq}
+use Rattle.json.specs.{Token.string, Token.number, Token.boolean, Token.null, Text.plain, Word.after_number, Word.word}
+use Rattle.json.specs.Lex.{Place, between, lex, Mode, punctuate}
 use Rattle.yaml_json.proofs.LexSteps.{each_operator}
-use Rattle.json.specs.Lex.{Lexeme, Place, after_comma, after_key, after_value, backslash, begins_colon, between, class, colon, comma, fresh, in_string}
-use Rattle.json.specs.Lex.{in_word, lex, lex_byte, may_begin, may_close, Mode, if_allowed, operator, other, place_token, punctuate, quote, space, string_token}
-use Rattle.json.specs.Lex.{token}
-use Rattle.std.specs.{List.starts_with, Prelude.nat_eq}
 use Rattle.json.specs.Ascii as ascii
 
 -- ---- the first lexeme of a text
@@ -211,8 +207,7 @@ stray-behind (x ∷ xs) trimmed some a b c = go (is_operator x) (is_space x) ref
     go false true e f = let none = trimmed f in cc
     go false false e f =
         (λ i. punctuate after_value (lex_byte between
-        (cond (x == ascii.quote) quote (cond (x == ascii.backslash) backslash (cond (e i) operator (cond (f i) space other))))
-        x xs (λ next. lex next xs)))
+        (cond (x == ascii.quote) quote (cond (x == ascii.backslash) backslash (cond (e i) operator (cond (f i) space other)))) x xs (λ next. lex next xs)))
         ∙ late_byte (x == ascii.quote) (x == ascii.backslash) x xs (λ next. lex next xs)
 
 no_colon_byte : (q b : Bool) (x : ℕ) (xs : List ℕ) (k : Mode → List Lexeme)
@@ -233,8 +228,7 @@ no_colon (x ∷ xs) trimmed apart = go (is_operator x) (is_space x) refl refl
     go false true e f = let none = trimmed f in cc
     go false false e f =
         (λ i. begins_colon (lex_byte between
-        (cond (x == ascii.quote) quote (cond (x == ascii.backslash) backslash (cond (e i) operator (cond (f i) space other))))
-        x xs (λ next. lex next xs)))
+        (cond (x == ascii.quote) quote (cond (x == ascii.backslash) backslash (cond (e i) operator (cond (f i) space other)))) x xs (λ next. lex next xs)))
         ∙ no_colon_byte (x == ascii.quote) (x == ascii.backslash) x xs (λ next. lex next xs)
 
 class_other : (q b : Bool) → q ≡ false → b ≡ false → (o s : Bool) → o ≡ false → s ≡ false

@@ -1,15 +1,11 @@
 -- The reader of tokens, from token to token.
-use Rattle.std.proofs.Common.{◌≡◌, ◌⊎◌, ℕ, ◌+◌, ◌-◌, List, [], ◌∷◌, ◌++◌, drop, length, refl, sym, subst, ap, ◌∙◌, append_assoc, arith, inl, inr}
-use Rattle.std.proofs.lemmas.Bool.{true≢false}
-use Rattle.json.specs.Lex.{Place, after_comma, after_key, after_value, between, fresh, lex, punctuate, token}
-use Rattle.json.specs.Reads.{token_of}
-use Rattle.json.specs.Token.{Token}
-use Rattle.yaml_json.specs.Ahead.{IsTidy, IsTrimmed, Passes, PassesOrEnds, ReadsFirst, ahead, place_of}
-use Rattle.yaml_json.specs.Lexing.{Leads}
-use Rattle.yaml_json.specs.declared.tokens.Step.{Step}
-use Rattle.yaml_json.specs.Reached.{HasReadTokens, HaveTokens, IsReader, LastRead, Passed, Reader, last_bytes}
-use Rattle.yaml_json.proofs.{Common.length-append, ModeSteps.goes_on, FirstLexemes.some_after_comma, FirstLexemes.some_ahead}
-use Rattle.yaml_json.specs.declared.tokens.Stage.{Stage, TheVariants.Open, TheVariants.Behind, TheVariants.Owed, TheVariants.Over}
+use Rattle.yaml_json.proofs.Common.{◌≡◌, ◌⊎◌, ℕ, ◌+◌, ◌-◌, List, [], ◌∷◌, ◌++◌, drop, length, refl, sym, subst, ap, ◌∙◌, append_assoc, arith, inl, inr}
+use Rattle.yaml_json.proofs.Common.{true≢false, after_comma, after_key, after_value, fresh, token, token_of, Token, IsTidy, IsTrimmed, ahead, place_of, Leads}
+use Rattle.yaml_json.proofs.Common.{Reader, length-append, Stage, Open, Owed, Over}
+use Rattle.json.specs.Lex.{Place, between, lex, punctuate}
+use Rattle.yaml_json.specs.{Ahead.Passes, Ahead.PassesOrEnds, Ahead.ReadsFirst, declared.tokens.Step.Step, declared.tokens.Stage.TheVariants.Behind}
+use Rattle.yaml_json.specs.Reached.{HasReadTokens, HaveTokens, IsReader, LastRead, Passed, last_bytes}
+use Rattle.yaml_json.proofs.{ModeSteps.goes_on, FirstLexemes.some_after_comma, FirstLexemes.some_ahead}
 
 -- ---- the rest is the text's end
 
@@ -121,8 +117,7 @@ last_on start middle end taken parts read = record {
 
 -- ---- the reader as a whole
 
-pub new_reader : (text rest : List ℕ) → lex between rest ≡ lex between text → Leads text rest → IsTrimmed rest
-    → IsReader text Open rest Open (length rest)
+pub new_reader : (text rest : List ℕ) → lex between rest ≡ lex between text → Leads text rest → IsTrimmed rest → IsReader text Open rest Open (length rest)
 new_reader text rest same leads trimmed =
     let none = reads_none text rest same leads trimmed in
     record { taken = []; stands = none; once = []; stood = subst (HasReadTokens text [] Open) (sym (left_is text rest [] Open none)) none }

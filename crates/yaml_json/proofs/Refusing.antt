@@ -1,19 +1,18 @@
 -- Why the walk over the tokens of a value is stopped by them.
-use Rattle.yaml_base.specs.declared.errors.yaml_error_t.{yaml_error_t}
-use Rattle.yaml_json.proofs.Common.{suc, ℕ, ◌-◌, ◌<◌, ◌≤◌, None, Some, length, Bool, true, List, [], ◌++◌, ◌∷◌, ◌⊎◌, refl, ◌≡◌, inl, ap, append-nil}
-use Rattle.yaml_json.proofs.Common.{append_assoc, inr, subst, sym, ◌∙◌, arith, le-max_left, le-max_right, append_cancel_right, left, value_is, Json}
+use Rattle.yaml_json.proofs.Common.{yaml_error_t, suc, ℕ, ◌-◌, ◌<◌, ◌≤◌, None, Some, length, Bool, true, List, [], ◌++◌, ◌∷◌, ◌⊎◌, refl, ◌≡◌, inl, ap}
+use Rattle.yaml_json.proofs.Common.{append-nil, append_assoc, inr, subst, sym, ◌∙◌, arith, le-max_left, le-max_right, append_cancel_right, left, value_is, Json}
 use Rattle.yaml_json.proofs.Common.{NoneGoesOn, inner_names, NamesOnce, all_names_after, TokensBreakOff, OpensTooDeep, ExplainsError, unwind, zero, LeavesOpen}
-use Rattle.yaml_json.proofs.Common.{opener, HasUniqueNames, RefusesToken, RefusesFirst, WhyStopped, ◌+◌, IsScalar}
+use Rattle.yaml_json.proofs.Common.{opener, HasUniqueNames, RefusesToken, RefusesFirst, WhyStopped, ◌+◌, IsScalar, IsByText, NoStringNext, JsonError, Stop}
+use Rattle.yaml_json.proofs.Common.{BeginsSome, Spot, CollectionKind, Mapping, Sequence, value-json_tokens_back, members_no_key, value-depth, read_key, value}
+use Rattle.yaml_json.proofs.Common.{skip_value, tokens, Token, json_tokens, IsPrefix, IsNewName}
 use Rattle.std.specs.Prelude.{max}
 use Rattle.yaml_json.proofs.NameLemmas.{once_first, once_second, once_is_unique, unique_is_once, once_both}
 use Rattle.yaml_json.proofs.Walking.{unwind_none, unwind_inner, Awaits, opener_too_deep, next_stands_at, closes_value, closes_allowed, value_begins_at}
 use Rattle.yaml_json.proofs.Walking.{value_closes, Awaiting, Closes, awaiting_named, next_stands}
-use Rattle.yaml_json.specs.{Refused.IsByText, Refused.DeniesJson, Refused.IsNotJson, Refused.TokensBreakAt, Refused.OpensTooDeepAt, Refused.NamesTwiceAt}
-use Rattle.yaml_json.specs.{Walk.BeginsNone, Walk.CouldStandOther, Walk.GoesOn, Walk.IsSpot, Walk.NoStringNext, Walk.NoStringStands, Walk.WhereStopped}
-use Rattle.yaml_json.specs.{Walk.spot_of, declared.error.JsonError.JsonError, declared.values.Stop.Stop, Begins.BeginsSome, declared.values.Spot.Spot}
-use Rattle.yaml_base.specs.declared.kinds.CollectionKind.{CollectionKind, TheVariants.Mapping, TheVariants.Sequence}
-use Rattle.json.proofs.{Unique.Spelling.value-json_tokens_back, Printed.Trees.value-json_tokens}
-use Rattle.yaml_json.proofs.Common.{members_no_key, value-depth, read_key, value, skip_value, tokens, Token, json_tokens, depth as nesting, IsPrefix, IsNewName}
+use Rattle.yaml_json.proofs.Common.{depth as nesting}
+use Rattle.yaml_json.specs.Refused.{DeniesJson, IsNotJson, TokensBreakAt, OpensTooDeepAt, NamesTwiceAt}
+use Rattle.yaml_json.specs.Walk.{BeginsNone, CouldStandOther, GoesOn, IsSpot, NoStringStands, WhereStopped, spot_of}
+use Rattle.json.proofs.Printed.Trees.{value-json_tokens}
 use Rattle.yaml_json.specs.declared.error.JsonError.TheVariants as errors
 use Rattle.yaml_json.specs.declared.values.Stop.TheVariants as stops
 
@@ -63,8 +62,7 @@ nothing_left : (depth : ℕ) (unique : Bool) (taken : List Token) (levels : List
 nothing_left depth unique taken levels place once =
     record {
       begins = closes_allowed depth unique taken place.begins once;
-      breaks = none_ends depth taken
-          (λ deep so. nothing_begins deep taken levels [] (place.awaits deep so) (ap left (value_is (deep - length levels) [])));
+      breaks = none_ends depth taken (λ deep so. nothing_begins deep taken levels [] (place.awaits deep so) (ap left (value_is (deep - length levels) [])));
     }
 
 token_breaks : (depth : ℕ) (unique : Bool) (taken : List Token) (levels : List CollectionKind) (token : Token) (after : List Token)
@@ -73,8 +71,7 @@ token_breaks : (depth : ℕ) (unique : Bool) (taken : List Token) (levels : List
 token_breaks depth unique taken levels token after place once isn't =
     record {
       begins = closes_allowed depth unique taken place.begins once;
-      breaks = none_goes_on depth taken token after
-          (λ deep so more. nothing_begins deep taken levels (token ∷ more) (place.awaits deep so more)
+      breaks = none_goes_on depth taken token after (λ deep so more. nothing_begins deep taken levels (token ∷ more) (place.awaits deep so more)
           (begins_none (deep - length levels) token more isn't));
     }
 
@@ -100,8 +97,7 @@ opens_deep depth unique taken levels kind after place once full =
       deeper : (json : Json) → IsPrefix (taken ++ opener kind ∷ []) (json_tokens json) → depth < nesting json
       deeper json begins = elim (less_or depth (nesting json)) [
         | inl less ↦ less
-        | inr fits ↦ absurd
-            (unread json depth (taken ++ opener kind ∷ begins.rest) fits (sym begins.parts ∙ append_assoc taken (opener kind ∷ []) begins.rest)
+        | inr fits ↦ absurd (unread json depth (taken ++ opener kind ∷ begins.rest) fits (sym begins.parts ∙ append_assoc taken (opener kind ∷ []) begins.rest)
             (nothing_begins depth taken levels (opener kind ∷ begins.rest) (place.awaits depth (omega arith) begins.rest)
             (opener_too_deep kind (depth - length levels) begins.rest (omega (arith, full)))))
       ]
@@ -173,8 +169,7 @@ name_refused depth unique taken levels outer name after is stands wanted once ag
       first = refl;
       begins = closes_allowed depth unique taken (value_closes depth taken levels stands) (λ same. once);
       some = closes_value depth (taken ++ Token.key name ∷ []) (awaiting_named depth taken levels outer name is stands []).begins;
-      twice = λ json begins unique. again
-          (once_second [] taken (Token.key name ∷ [])
+      twice = λ json begins unique. again (once_second [] taken (Token.key name ∷ [])
           (once_first [] (taken ++ Token.key name ∷ []) begins.rest (subst (NamesOnce []) (sym begins.parts) (unique_is_once json [] unique)))).0;
     }
 
@@ -194,8 +189,7 @@ value_goes_on : (depth : ℕ) (unique : Bool) (taken : List Token) (levels : Lis
 value_goes_on depth unique taken levels place once = record {
   token = Token.null;
   is_beginner = tt;
-  begins = closes_allowed depth unique (taken ++ Token.null ∷ []) (scalar_stands depth taken levels Token.null tt place)
-      (λ is. once_both [] taken (Token.null ∷ []) (once is) (tt, tt));
+  begins = closes_allowed _ _ _ (scalar_stands depth taken levels Token.null tt place) (λ is. once_both [] taken (Token.null ∷ []) (once is) (tt, tt));
 }
 
 opener_next : (kind : CollectionKind) (token : Token) (after : List Token) → token ≡ opener kind → NoStringNext (token ∷ after)
@@ -217,11 +211,7 @@ module _ (depth : ℕ) (unique : Bool) (taken : List Token) (levels : List Colle
     text,
     (
       after,
-      inl (
-        refl,
-        some_stands depth (taken ++ Token.string text ∷ [])
-            (scalar_stands depth taken levels (Token.string text) tt (awaits (Token.string text) tt)),
-      ),
+      inl (refl, some_stands depth (taken ++ Token.string text ∷ []) (scalar_stands depth taken levels (Token.string text) tt (awaits (Token.string text) tt))),
     ),
   )
   at_token Token.bad after isn't = (goes_on_here, tt)
@@ -314,8 +304,7 @@ pub value_names : (depth : ℕ) (unique : Bool) (before after : List Token) (jso
     → HasUniqueNames unique before after → unique ≡ true → NamesOnce [] (json_tokens json)
 value_names depth unique before after json read once is =
     let found = once is in
-    subst (NamesOnce [])
-    (append_cancel_right found.0 (json_tokens json) after (found.1 ∙ value-json_tokens_back depth before after json read)) found.2
+    subst (NamesOnce []) (append_cancel_right found.0 (json_tokens json) after (found.1 ∙ value-json_tokens_back depth before after json read)) found.2
 
 -- ---- the meaning of the error
 

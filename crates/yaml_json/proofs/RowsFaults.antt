@@ -1,10 +1,7 @@
 -- The faults of strings and numbers, computed on small texts.
-use Rattle.std.specs.Prelude.{codes}
-use Rattle.yaml_json.proofs.Common.{◌≡◌, ℕ, List, ◌++◌, ◌∷◌, refl}
-use Rattle.yaml_json.specs.Faults.{said_at}
-use Rattle.yaml_json.specs.declared.expecting.Expected.{Expected}
-use Rattle.yaml_json.specs.declared.expecting.Expected.TheVariants as expected
+use Rattle.yaml_json.proofs.Common.{codes, ◌≡◌, ℕ, List, ◌++◌, ◌∷◌, refl, said_at, Expected}
 use Rattle.json.specs.Text.{code_unit, short_escape}
+use Rattle.yaml_json.specs.declared.expecting.Expected.TheVariants as expected
 
 -- of the lexeme at the first offset the error says this, at the second
 abbrev Says : (text : List ℕ) → (lexeme : ℕ) → Expected → (at : ℕ) → Type 0

@@ -1,9 +1,7 @@
 -- The places at which lexemes begin, computed on small texts.
-use Rattle.std.specs.Prelude.{codes}
-use Rattle.yaml_json.proofs.Common.{◌≡◌, ℕ, ◌++◌, List, [], ◌∷◌, drop, take, refl, inl, inr}
-use Rattle.yaml_json.specs.Lexing.{MayBegin, mode_over}
-use Rattle.json.specs.{Lex.Lexeme, Lex.between, Lex.colon, Lex.comma, Lex.lex, Lex.token, Text.content, Word.after_number, Word.word, Token.begin_array}
-use Rattle.json.specs.{Token.begin_object, Token.number, Token.string}
+use Rattle.yaml_json.proofs.Common.{codes, ◌≡◌, ℕ, ◌++◌, List, [], ◌∷◌, drop, take, refl, inl, inr, MayBegin, mode_over, Lexeme, colon, comma, token}
+use Rattle.yaml_json.proofs.Common.{begin_array, begin_object}
+use Rattle.json.specs.{Lex.between, Lex.lex, Text.content, Word.after_number, Word.word, Token.number, Token.string}
 
 -- before the offset are these lexemes, and one may begin there, or the text ends
 abbrev Begins : (text : List ℕ) → (at : ℕ) → List Lexeme → Type 0

@@ -1,18 +1,14 @@
 -- JSON texts that come part by part, in turn.
+use Rattle.yaml_json.proofs.Common.{GaveEvents, ℕ, flat_map, Option, Bool, true, List, [], map, ◌++◌, ◌∷◌, ◌⊎◌, refl, ◌≡◌, append-nil, append_assoc, inl, inr}
+use Rattle.yaml_json.proofs.Common.{ap, subst, sym, ◌∙◌, arith, map-append, Appends, Event, Json, tokens, FailedHaving, between, events_with_separators}
+use Rattle.yaml_json.proofs.Common.{json_events, IsBare, NamesOnce, HaveNamesOnce, texts_in, WasGiven, WroteText, AreJson, parts_events, State, Token}
+use Rattle.yaml_json.proofs.Common.{WriterState, yaml_error_t, StreamError, HasPlaceWithin, SentSoFar, StopsPartAt, StopsSending}
 use Rattle.yaml_writer.proofs.OpenLevels.{usable_same}
-use Rattle.yaml_writer.specs.WasGiven.{GaveEvents, EmitsTaking, IsAllTaken, WroteTaking, BeginsNext, NextUnsent}
-use Rattle.yaml_json.proofs.TokenLemmas.{texts_closed}
-use Rattle.yaml_json.proofs.Common.{ℕ, flat_map, Option, Bool, true, List, [], map, ◌++◌, ◌∷◌, ◌⊎◌, refl, ◌≡◌, append-nil, append_assoc, inl, inr, ap, subst}
-use Rattle.yaml_json.proofs.Common.{sym, ◌∙◌, arith, map-append, Appends, Event, Json, tokens, FailedHaving, between, events_with_separators, json_events}
-use Rattle.yaml_json.proofs.Common.{IsBare, NamesOnce, HaveNamesOnce, texts_in, WasGiven, WroteText, AreJson, parts_events, State, Token, WriterState}
-use Rattle.yaml_base.specs.declared.errors.yaml_error_t.{yaml_error_t}
-use Rattle.yaml_json.proofs.YamlOf.{HaveScalarTexts, sent_reads}
-use Rattle.yaml_json.specs.declared.error.StreamError.{StreamError}
-use Rattle.yaml_json.specs.Places.{HasPlaceWithin}
-use Rattle.yaml_json.proofs.TextsInTurn.{ends_with, one_more, joined_more, text_names, more_names, some_text, begins_nothing}
-use Rattle.yaml_json.specs.Sent.{AreUtf8, MayBeUnsent, SentTexts, SentSoFar, SentDocuments, StopsPartAt, StopsSending}
-use Rattle.yaml_json.proofs.SentParts.{gives_all, separated}
 use Rattle.yaml_writer.proofs.GivenAndTaken.{took_nothing, emits_taking_then, taking_then, took_none, taking_same}
+use Rattle.yaml_writer.specs.WasGiven.{EmitsTaking, IsAllTaken, WroteTaking, BeginsNext, NextUnsent}
+use Rattle.yaml_json.proofs.{TokenLemmas.texts_closed, YamlOf.HaveScalarTexts, YamlOf.sent_reads, SentParts.gives_all, SentParts.separated}
+use Rattle.yaml_json.proofs.TextsInTurn.{ends_with, one_more, joined_more, text_names, more_names, some_text, begins_nothing}
+use Rattle.yaml_json.specs.Sent.{AreUtf8, MayBeUnsent, SentTexts, SentDocuments}
 use Rattle.std.specs.{Prelude.IsUtf8, declared.io.Error.Error}
 use Rattle.std.proofs.{lemmas.Str.IsUtf8-append, lemmas.Str.IsUtf8-nil, KnownBytes.Appends-nil, KnownBytes.Appends-trans}
 use Rattle.yaml_json.specs.declared.error.JsonError.TheVariants as errors
@@ -40,8 +36,7 @@ sending_begins depth in_flow unique text was held bare =
 pub sending_same : (depth : ℕ) (in_flow unique : Bool) (text : List ℕ) (was : WriterState) (start : Option (List ℕ)) (rest same : List ℕ)
     (now : WriterState) (held : Option (List ℕ)) → rest ≡ same → SentSoFar depth in_flow unique text was start rest now held
     → SentSoFar depth in_flow unique text was start same now held
-sending_same depth in_flow unique text was start rest same now held is =
-    subst (λ (r : List ℕ). SentSoFar depth in_flow unique text was start r now held) is
+sending_same depth in_flow unique text was start rest same now held is = subst (λ (r : List ℕ). SentSoFar depth in_flow unique text was start r now held) is
 
 -- texts that are UTF-8, one after another
 utf8_joined : (parts : List (List ℕ × Json)) → AreUtf8 parts → IsUtf8 (flat_map (λ part. part.0) parts)
@@ -65,8 +60,7 @@ placed_nowhere depth code front part = (0, ((λ less. tt), tt))
 module _ (in_flow : Bool) (parts : List (List ℕ × Json)) (was : WriterState) (start : Option (List ℕ)) (handed : List ℕ) (then : State)
     (wrote : EmitsTaking was.emitter (events_with_separators was.canonical in_flow parts) handed then) where
   taken_so : EmitsTaking was.emitter (events_with_separators was.canonical in_flow parts) (handed ++ []) then
-  taken_so =
-      subst (λ (b : List ℕ). EmitsTaking was.emitter (events_with_separators was.canonical in_flow parts) b then) (sym (append-nil handed)) wrote
+  taken_so = subst (λ (b : List ℕ). EmitsTaking was.emitter (events_with_separators was.canonical in_flow parts) b then) (sym (append-nil handed)) wrote
 
   whole_so : ((parts ≡ []) × (handed ≡ [])) ⊎ IsAllTaken then → ((parts ≡ []) × (handed ++ [] ≡ [])) ⊎ IsAllTaken then
   whole_so (inl none) = inl (none.0, append-nil handed ∙ none.1)
@@ -132,11 +126,7 @@ stops_between depth in_flow unique text was start rest now holds parts handed cu
       handed = handed;
       emits = subst (λ (all : List Event). EmitsTaking was.emitter all handed now.emitter) (sym (append-nil events)) wrote.emits;
       usable = usable_same was now events (events ++ []) (sym (append-nil events))
-          (record {
-            canonical = wrote.canonical;
-            levels = wrote.levels ∙ sym (texts_closed was.canonical in_flow parts was.levels);
-            bare = wrote.bare;
-          });
+          (record { canonical = wrote.canonical; levels = wrote.levels ∙ sym (texts_closed was.canonical in_flow parts was.levels); bare = wrote.bare });
       documents = documents;
     }
 
@@ -149,13 +139,10 @@ module _ (depth : ℕ) (in_flow unique : Bool) (text : List ℕ) (was : WriterSt
   all_parts = sending.parts ++ (first, one.json) ∷ []
 
   events_given : WroteTaking now (json_events was.canonical in_flow one.json) [] given
-  events_given =
-      took_none now given (json_events was.canonical in_flow one.json)
-      (subst (λ (canonical : Bool). WasGiven now (json_events canonical in_flow one.json) given) sending.wrote.canonical one.wrote)
+  events_given = took_none _ _ _ (subst (λ (canonical : Bool). WasGiven now (json_events canonical in_flow one.json) given) sending.wrote.canonical one.wrote)
 
   joined_now : flat_map (λ part. part.0) all_parts ++ left ≡ text
-  joined_now =
-      joined_more sending.parts (first, one.json) left ∙ ap (λ (t : List ℕ). flat_map (λ part. part.0) sending.parts ++ t) joined ∙ sending.joined
+  joined_now = joined_more sending.parts (first, one.json) left ∙ ap (λ (t : List ℕ). flat_map (λ part. part.0) sending.parts ++ t) joined ∙ sending.joined
 
   cut_now : map (λ part. part.0) all_parts ++ later ≡ texts_in text
   cut_now =
@@ -177,8 +164,7 @@ module _ (depth : ℕ) (in_flow unique : Bool) (text : List ℕ) (was : WriterSt
       → EmitsTaking was.emitter (events_with_separators was.canonical in_flow all_parts) (sending.handed ++ bytes) after
   emits_next {after} {bytes} next =
       subst (λ (all : List Event). EmitsTaking was.emitter all (sending.handed ++ bytes) after)
-      (separated was.canonical in_flow sending.parts (first, one.json))
-      (emits_taking_then sending.wrote.emits (emits_taking_then events_given.emits next))
+      (separated was.canonical in_flow sending.parts (first, one.json)) (emits_taking_then sending.wrote.emits (emits_taking_then events_given.emits next))
 
   wrote_next : (after : WriterState) (bytes : List ℕ) → WroteTaking given between bytes after
       → WroteTaking was (events_with_separators was.canonical in_flow all_parts) (sending.handed ++ bytes) after
@@ -229,11 +215,7 @@ module _ (depth : ℕ) (in_flow unique : Bool) (text : List ℕ) (was : WriterSt
         are = append-nil all_parts;
         most = refl;
         offered = fails.offered;
-        sends = (
-          fails.sends.0,
-          fails.sends.1,
-          Appends-trans start held holds sending.handed fails.sends.0 sending.sends fails.sends.2,
-        );
+        sends = (fails.sends.0, fails.sends.1, Appends-trans start held holds sending.handed fails.sends.0 sending.sends fails.sends.2);
         then = fails.then;
         wrote = emits_next fails.wrote;
         whole = inr fails.whole;
@@ -245,15 +227,13 @@ module _ (depth : ℕ) (in_flow unique : Bool) (text : List ℕ) (was : WriterSt
       → StopsSending depth unique in_flow text was start (faults.Refused (errors.Emitter code)) after holds
   sending_unbegun after holds code is failed same =
       stops_begun is after failed.gave (faults.Refused (errors.Emitter code)) holds (λ next left. (begins_nothing depth, inr (refl, λ is. is)))
-      (placed_nowhere depth code)
-      (documents_but in_flow sending.parts was start sending.handed now.emitter sending.wrote.emits (first, one.json) code holds
+      (placed_nowhere depth code) (documents_but in_flow sending.parts was start sending.handed now.emitter sending.wrote.emits (first, one.json) code holds
       (subst (λ (h : Option (List ℕ)). Appends start h sending.handed) (sym same) sending.sends) sending.whole)
 
   -- or nothing follows
   module _ (none : left ≡ []) (last : later ≡ []) where
     joined_done : flat_map (λ part. part.0) all_parts ≡ text
-    joined_done =
-        sym (append-nil (flat_map (λ part. part.0) all_parts)) ∙ ap (λ (t : List ℕ). flat_map (λ part. part.0) all_parts ++ t) (sym none) ∙ joined_now
+    joined_done = sym (append-nil (flat_map (λ part. part.0) all_parts)) ∙ ap (λ (t : List ℕ). flat_map (λ part. part.0) all_parts ++ t) (sym none) ∙ joined_now
 
     cut_done : map (λ part. part.0) all_parts ≡ texts_in text
     cut_done =
@@ -262,11 +242,8 @@ module _ (depth : ℕ) (in_flow unique : Bool) (text : List ℕ) (was : WriterSt
 
     wrote_done : WroteTaking was (parts_events was.canonical in_flow all_parts) sending.handed given
     wrote_done =
-        let before = events_with_separators was.canonical in_flow sending.parts in
-        let events = json_events was.canonical in_flow one.json in
-        taking_same was given (before ++ events) (parts_events was.canonical in_flow all_parts) (sending.handed ++ []) sending.handed
-        (ends_with was.canonical in_flow sending.parts (first, one.json)) (append-nil sending.handed)
-        (taking_then was now given before events sending.handed [] sending.wrote events_given)
+        taking_same _ _ _ _ _ _ (ends_with was.canonical in_flow sending.parts (first, one.json)) (append-nil sending.handed)
+        (taking_then _ _ _ _ _ _ [] sending.wrote events_given)
 
     pub all_given : HaveScalarTexts given.emitter.events → SentTexts depth unique in_flow text was start given held
     all_given scalars =

@@ -1,18 +1,13 @@
 -- The reasons that stop the sending of texts that come part by part, and the events that one of them adds.
-use Rattle.yaml_writer.specs.WasGiven.{GaveEvents, BeginsNext}
-use Rattle.yaml_json.proofs.TokenLemmas.{texts_closed}
+use Rattle.yaml_json.proofs.Common.{GaveEvents, ℕ, ◌+◌, ◌-◌, ◌≤◌, flat_map, Option, drop, length, take, Bool, true, List, [], map, ◌++◌, ◌∷◌, refl, ◌≡◌}
+use Rattle.yaml_json.proofs.Common.{length-drop, take-append-drop, append_assoc, inr, ap, subst, sym, ◌∙◌, arith, Token, tokens, HasScanned, CutsAt}
+use Rattle.yaml_json.proofs.Common.{events_with_separators, NamesOnce, Advances, StopsWithin, texts_in, tokens_events, WroteText, WriterState}
+use Rattle.yaml_json.proofs.Common.{append_cancel_right, drop-drop, SentSoFar, StopsInPart, StopsPartAt, StopsSending, HasPlaceWithin, IsPositionAfter, Cut}
+use Rattle.yaml_json.proofs.Common.{StreamError, JsonError, Memory, Position, usable_by}
+use Rattle.yaml_writer.{specs.WasGiven.BeginsNext, proofs.OpenLevels.closed_then, proofs.GivenAndTaken.emits_taking_more}
+use Rattle.yaml_json.{proofs.TokenLemmas.texts_closed, proofs.TextsInTurn.begins_nothing, specs.Sent.FailsNext, specs.Sent.IsByReader, specs.Sent.LeavesLast}
 use Rattle.yaml_json.proofs.Sending.{sending_same, placed_nowhere, documents_so, stops_between, sending_goes_on, sending_fails, sending_unbegun}
-use Rattle.yaml_json.proofs.Common.{ℕ, ◌+◌, ◌-◌, ◌≤◌, flat_map, Option, drop, length, take, Bool, true, List, [], map, ◌++◌, ◌∷◌, refl, ◌≡◌, length-drop}
-use Rattle.yaml_json.proofs.Common.{take-append-drop, append_assoc, inr, ap, subst, sym, ◌∙◌, arith, Token, tokens, HasScanned, CutsAt, events_with_separators}
-use Rattle.yaml_json.proofs.Common.{NamesOnce, Advances, StopsWithin, texts_in, tokens_events, WroteText, WriterState, append_cancel_right}
-use Rattle.std.proofs.lemmas.List.{drop-drop}
 use Rattle.std.specs.Prelude.{IsUtf8}
-use Rattle.yaml_json.proofs.TextsInTurn.{begins_nothing}
-use Rattle.yaml_json.specs.Sent.{SentSoFar, FailsNext, IsByReader, StopsInPart, StopsPartAt, StopsSending, LeavesLast}
-use Rattle.yaml_json.specs.Places.{HasPlaceWithin, IsPositionAfter}
-use Rattle.yaml_json.specs.declared.{cuts.Cut.Cut, error.StreamError.StreamError, error.JsonError.JsonError}
-use Rattle.yaml_base.specs.declared.{errors.yaml_error_t.TheVariants.Memory, places.Position.Position}
-use Rattle.yaml_writer.proofs.{OpenLevels.closed_then, OpenLevels.usable_by, GivenAndTaken.emits_taking_more}
 use Rattle.yaml_json.specs.declared.error.JsonError.TheVariants as errors
 use Rattle.yaml_json.specs.declared.error.StreamError.TheVariants as faults
 
@@ -39,9 +34,8 @@ module _ (depth : ℕ) (in_flow unique : Bool) (text : List ℕ) (was : WriterSt
   pub stops_here : (error : StreamError) → ((next : List ℕ) (left : List Token) → StopsPartAt depth unique next [] left error)
       → ((front part : List ℕ) → HasPlaceWithin depth front part error) → StopsSending depth unique in_flow text was start error now held
   stops_here error why place =
-      stops_between depth in_flow unique text was start rest now held sending.parts sending.handed sending.cut sending.each sending.utf8 sending.names
-      sending.wrote error why place
-      (documents_so in_flow sending.parts was start sending.handed now.emitter sending.wrote.emits error held sending.sends sending.whole)
+      stops_between _ _ _ _ _ _ rest _ _ _ _ sending.cut sending.each sending.utf8 sending.names sending.wrote _ why place
+      (documents_so _ _ _ _ _ _ sending.wrote.emits _ _ sending.sends sending.whole)
 
   -- the next text stops the sending
   pub stops_next_text : (first : List ℕ) (later : List (List ℕ)) → texts_in rest ≡ first ∷ later → (error : StreamError) (after : WriterState)
@@ -127,8 +121,7 @@ module _ (depth : ℕ) (in_flow unique : Bool) (ahead : List ℕ) (before : Writ
           stops_next_text depth in_flow unique text was start (rest ++ more) now holds (advances text was start more sending) (take end rest)
           (texts_in (drop end rest ++ more)) (cuts.cut more) error after (front ++ done)
           (append_assoc front done (rest ++ more) ∙ ap (λ (t : List ℕ). front ++ t) (sym (append_assoc done rest more))
-          ∙ ap (λ (t : List ℕ). front ++ (t ++ more)) parts ∙ whole)
-          (stops front follows)
+          ∙ ap (λ (t : List ℕ). front ++ (t ++ more)) parts ∙ whole) (stops front follows)
 
       cut_off : (more : List ℕ) → take end rest ++ (drop end rest ++ more) ≡ rest ++ more
       cut_off more = sym (append_assoc (take end rest) (drop end rest) more) ∙ ap (λ (all : List ℕ). all ++ more) (take-append-drop end rest)
@@ -150,7 +143,6 @@ module _ (depth : ℕ) (in_flow unique : Bool) (ahead : List ℕ) (before : Writ
             sending_fails depth in_flow unique text was start (rest ++ more) now holds (advances text was start more sending) (take end rest)
             (drop end rest ++ more) (texts_in (drop end rest ++ more)) (cut_off more) (cuts.cut more) given named readable one after later fault refl fails
         stops_next place (faults.Refused (errors.Emitter code)) after later fails text was start more front follows whole sending =
-            sending_unbegun depth in_flow unique text was start (rest ++ more) now holds (advances text was start more sending) (take end rest)
-            (drop end rest ++ more) (texts_in (drop end rest ++ more)) (cut_off more) (cuts.cut more) given named readable one after later code refl
-            fails.0 fails.1
+            sending_unbegun _ _ _ _ _ _ _ _ _ (advances text was start more sending) _ (drop end rest ++ more) (texts_in (drop end rest ++ more)) (cut_off more)
+            (cuts.cut more) _ named readable one _ _ _ refl fails.0 fails.1
         stops_next place _ after later fails text was start more front follows whole sending = absurd fails

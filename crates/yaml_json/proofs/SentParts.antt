@@ -1,15 +1,13 @@
 -- The bytes of some texts that a sink was given, and why one of them stops the sending.
 use Rattle.yaml_json.proofs.Common.{ℕ, Option, Bool, List, [], ◌++◌, ◌∷◌, refl, ◌≡◌, append-nil, ap, subst, sym, ◌∙◌, inl, flat_map-append, Appends, Json}
-use Rattle.yaml_json.proofs.Common.{Event, Token, between, events_with_separators, json_events, WriterState}
+use Rattle.yaml_json.proofs.Common.{Event, Token, between, events_with_separators, json_events, WriterState, StopsInText, JsonError, HasPlaceWithin}
+use Rattle.yaml_json.proofs.Common.{StreamError, StopsInPart, StopsPartAt}
 use Rattle.std.specs.Prelude.{IsUtf8}
-use Rattle.yaml_json.proofs.TextStops.{given_by}
-use Rattle.yaml_json.specs.{Stopped.StopsInText, declared.error.JsonError.JsonError, Places.HasPlaceWithin, declared.error.StreamError.StreamError}
-use Rattle.yaml_json.specs.{Sent.GivesSink, Sent.StopsInPart, Sent.StopsPartAt}
+use Rattle.yaml_json.{proofs.TextStops.given_by, specs.Sent.GivesSink}
 use Rattle.yaml_json.specs.declared.error.StreamError.TheVariants as faults
 
 -- All bytes were given, whichever error there is.
-pub gives_all : (error : StreamError) (before after : Option (List ℕ)) (bytes : List ℕ) → Appends before after bytes
-    → GivesSink error before after bytes []
+pub gives_all : (error : StreamError) (before after : Option (List ℕ)) (bytes : List ℕ) → Appends before after bytes → GivesSink error before after bytes []
 gives_all (faults.WriteFailed error) before after bytes appends = (
   [],
   record { rest = []; parts = refl },

@@ -1,15 +1,12 @@
 -- No text has two of the faults of JSON: it breaks off, opens too many arrays and objects, or gives a name twice.
-use Rattle.std.proofs.Common.{ap, append-nil, append_assoc, ap₂, arith, drop, get_or, inl, inr, refl, subst, sym, ℕ, ◌∙◌, ◌≡◌, ◌≤◌}
-use Rattle.std.specs.Prelude.{Bool, List, [], ◌++◌, ◌∷◌, ◌⊎◌}
+use Rattle.yaml_json.proofs.Common.{ap, append-nil, append_assoc, ap₂, arith, drop, get_or, inl, inr, refl, subst, sym, ℕ, ◌∙◌, ◌≡◌, ◌≤◌, Bool, List, [], ◌++◌}
+use Rattle.yaml_json.proofs.Common.{◌∷◌, ◌⊎◌, IsPrefix, BeginsSome, NoneGoesOn, TokensBreakOff, OpensTooDeep, NamesTwice, Json, Token, key, json_tokens}
 use Rattle.yaml_base.proofs.Prefixes.{prefix_then}
-use Rattle.yaml_base.specs.Prefix.{IsPrefix}
-use Rattle.yaml_json.specs.Begins.{BeginsSome, IsAllowed, NoneGoesOn}
-use Rattle.yaml_json.specs.Refused.{TokensBreakOff, OpensTooDeep, NamesTwice}
-use Rattle.json.specs.{Json.Json, Token.Token, Token.key, Tree.json_tokens, Tree.depth as nesting}
+use Rattle.yaml_json.specs.Begins.{IsAllowed}
+use Rattle.json.specs.Tree.{depth as nesting}
 
 -- of two prefixes of a list one is a prefix of the other
-either_prefix : {A : Type 0} (a b c d : List A) → a ++ b ≡ c ++ d
-    → ((r : List A) × (c ≡ a ++ r) × (b ≡ r ++ d)) ⊎ ((r : List A) × (a ≡ c ++ r) × (d ≡ r ++ b))
+either_prefix : {A : Type 0} (a b c d : List A) → a ++ b ≡ c ++ d → ((r : List A) × (c ≡ a ++ r) × (b ≡ r ++ d)) ⊎ ((r : List A) × (a ≡ c ++ r) × (d ≡ r ++ b))
 either_prefix [] b c d is = inl (c, refl, is)
 either_prefix (x ∷ a) b [] d is = inr (x ∷ a, refl, sym is)
 either_prefix {A} (x ∷ a) b (y ∷ c) d is = one_more (either_prefix a b c d (ap (λ (l : List A). drop 1 l) is)) where
@@ -31,8 +28,7 @@ begins_too prefix r taken all is begins = prefix_then (record { rest = r; parts 
 module _ (depth : ℕ) (unique : Bool) (all prefix later : List Token) (parts : prefix ++ later ≡ all) (some : BeginsSome prefix)
     (none : (json : Json) → IsAllowed depth unique json → IsPrefix prefix (json_tokens json) → ⊥) (broken : TokensBreakOff depth unique all) where
   past : (r : List Token) → broken.taken ≡ prefix ++ r → ⊥
-  past r is =
-      none broken.begins.json broken.begins.allowed (begins_too prefix r broken.taken (json_tokens broken.begins.json) is broken.begins.begins)
+  past r is = none broken.begins.json broken.begins.allowed (begins_too prefix r broken.taken (json_tokens broken.begins.json) is broken.begins.begins)
 
   within : (r : List Token) → prefix ≡ broken.taken ++ r → broken.left ≡ r ++ later → ⊥
   within [] is left = past [] (sym (append-nil broken.taken) ∙ sym is ∙ sym (append-nil prefix))
@@ -87,10 +83,8 @@ module _ (depth : ℕ) (unique : Bool) (all : List Token) where
     named_after [] is left = named_before [] (sym (append-nil deep.taken) ∙ sym is ∙ sym (append-nil again))
     named_after (token ∷ r) is left =
         let same : deep.next ≡ token = ap (λ (l : List Token). get_or l 0 token) left in
-        too_deep deep named.some.json
-        (begins_too opened r again (json_tokens named.some.json)
-        (is ∙ sym (append_assoc deep.taken (token ∷ []) r) ∙ ap (λ (t : Token). (deep.taken ++ t ∷ []) ++ r) (sym same)) named.some.begins)
-        named.some.nested
+        too_deep deep named.some.json (begins_too opened r again (json_tokens named.some.json)
+        (is ∙ sym (append_assoc deep.taken (token ∷ []) r) ∙ ap (λ (t : Token). (deep.taken ++ t ∷ []) ++ r) (sym same)) named.some.begins) named.some.nested
 
     by_name : ((r : List Token) × (again ≡ deep.taken ++ r) × (deep.next ∷ deep.left ≡ r ++ named.left))
         ⊎ ((r : List Token) × (deep.taken ≡ again ++ r) × (named.left ≡ r ++ deep.next ∷ deep.left))
@@ -100,6 +94,5 @@ module _ (depth : ℕ) (unique : Bool) (all : List Token) where
 
     pub deep_not_twice : ⊥
     deep_not_twice =
-        by_name
-        (either_prefix deep.taken (deep.next ∷ deep.left) again named.left
+        by_name (either_prefix deep.taken (deep.next ∷ deep.left) again named.left
         (deep.parts ∙ sym named.parts ∙ sym (append_assoc named.taken (key named.name ∷ []) named.left)))

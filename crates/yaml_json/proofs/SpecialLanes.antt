@@ -1,13 +1,10 @@
 -- Bytes that may be special, 32 at a time.
-use Rattle.std.proofs.Common.{◌≡◌, ℕ, zero, ◌%◌, ◌^◌, ◌<◌, ltb, Bool, true, false, cond, eqb, ◌||◌, ◌&&◌, List, [], ◌∷◌, map, length, get_or, arith, replicate}
-use Rattle.std.proofs.Common.{refl, sym, ap, ap₂, ◌∙◌}
-use Rattle.std.specs.Int.{bit_at}
-use lib.Bits.{bit_and, bit_or}
-use lib.Lanes.{zip2, mask_l, top}
+use Rattle.yaml_json.proofs.Common.{◌≡◌, ℕ, zero, ◌%◌, ◌^◌, ◌<◌, ltb, Bool, true, false, cond, eqb, ◌||◌, ◌&&◌, List, [], ◌∷◌, map, length, get_or, arith}
+use Rattle.yaml_json.proofs.Common.{replicate, refl, sym, ap, ap₂, ◌∙◌, bit_at, bit_and, zip2, mask_l, top, true≢false, ne_eqb, length-map, zip2_splat}
+use Rattle.yaml_json.proofs.Common.{zip2_of_maps, map-map, mask_l-mod}
+use lib.Bits.{bit_or}
 use Rattle.yaml_json.specs.Specials.{may_change_scan}
-use Rattle.std.proofs.lemmas.Bool.{true≢false, ne_eqb}
-use Rattle.std.proofs.lemmas.List.{length-map, get_or-map}
-use Rattle.std.proofs.lemmas.Simd.{zip2_splat, zip2_of_maps, splat_is_map, map-map, mask_l-mod, mask_l-lt, bit_mask_l}
+use Rattle.std.proofs.{lemmas.List.get_or-map, lemmas.Simd.splat_is_map, lemmas.Simd.mask_l-lt, lemmas.Simd.bit_mask_l}
 
 abbrev equal : ℕ → ℕ → ℕ
 equal a b = cond (eqb a b) 255 0

@@ -1,15 +1,10 @@
 -- Lexemes of some tokens, and that they are read as those.
-use Rattle.std.proofs.Common.{◌≡◌, Bool, true, false, List, [], ◌∷◌, ◌++◌, refl, sym, ap, ◌∙◌}
-use Rattle.std.proofs.lemmas.Bool.{true≢false}
-use Rattle.json.specs.Json.{Json, Items, Members}
-use Rattle.json.specs.Tree.{items_tokens, json_tokens, members_tokens}
-use Rattle.json.specs.Lex.{Lexeme, Place, after_comma, after_key, after_value, begins_colon, colon, comma, fresh, may_begin, may_close, punctuate, token}
-use Rattle.json.specs.Token.{Token, begin_object, end_object, begin_array, end_array, key, string, number, boolean, null, bad}
-use Rattle.yaml_json.specs.Ahead.{place_of}
-use Rattle.yaml_json.specs.Walk.{IsBeginner}
+use Rattle.yaml_json.proofs.Common.{◌≡◌, Bool, true, false, List, [], ◌∷◌, ◌++◌, refl, sym, ap, ◌∙◌, true≢false, Json, Items, Members, items_tokens}
+use Rattle.yaml_json.proofs.Common.{json_tokens, members_tokens, Lexeme, after_comma, after_key, after_value, begins_colon, colon, comma, fresh, may_begin}
+use Rattle.yaml_json.proofs.Common.{may_close, token, Token, begin_object, end_object, begin_array, end_array, key, bad, place_of, Stage, Open, Owed, Over}
+use Rattle.json.specs.{Lex.Place, Lex.punctuate, Token.string, Token.number, Token.boolean, Token.null}
+use Rattle.yaml_json.{specs.Walk.IsBeginner, specs.declared.tokens.Stage.TheVariants.Behind, proofs.FirstLexemes.EndsValue}
 use Rattle.yaml_json.proofs.PunctuateSteps.{put-begin_array, put-begin_object, put-end_array, put-end_object, put-key, put-string, put-word}
-use Rattle.yaml_json.proofs.FirstLexemes.{EndsValue}
-use Rattle.yaml_json.specs.declared.tokens.Stage.{Stage, TheVariants.Open, TheVariants.Behind, TheVariants.Owed, TheVariants.Over}
 use Rattle.json.specs.Json as json
 
 -- ---- no token of a value is bad
@@ -32,12 +27,9 @@ good_back (t ∷ front) back all = good_back front back all.1
 
 mutual
   pub json_good : (j : Json) → AllGood (json_tokens j)
-  json_good json.null = ((λ e. cc), tt)
-  json_good (json.boolean v) = ((λ e. cc), tt)
-  json_good (json.number s) = ((λ e. cc), tt)
-  json_good (json.string s) = ((λ e. cc), tt)
   json_good (json.array inner) = ((λ e. cc), items_good inner)
   json_good (json.object inner) = ((λ e. cc), members_good inner)
+  json_good _ = ((λ e. cc), tt)
 
   items_good : (inner : Items) → AllGood (items_tokens inner)
   items_good json.no_items = ((λ e. cc), tt)
@@ -136,16 +128,13 @@ abbrev pub AreSpelled : List Token → Type 0
 AreSpelled ts = (punctuate fresh (spelled false ts) ≡ ts) × (punctuate after_value (spelled true ts) ≡ ts)
 
 -- Lexemes that begin a value or are a name.
-pub begun_so : (p : Place) → may_begin p ≡ true → (t : Token) → IsBeginner t → (ts : List Token) → AreSpelled ts
-    → punctuate p (spelled false (t ∷ ts)) ≡ t ∷ ts
+pub begun_so : (p : Place) → may_begin p ≡ true → (t : Token) → IsBeginner t → (ts : List Token) → AreSpelled ts → punctuate p (spelled false (t ∷ ts)) ≡ t ∷ ts
 begun_so p may begin_object is ts so = put-begin_object p (spelled false ts) may ∙ ap (λ (l : List Token). begin_object ∷ l) so.0
 begun_so p may begin_array is ts so = put-begin_array p (spelled false ts) may ∙ ap (λ (l : List Token). begin_array ∷ l) so.0
 begun_so p may (key s) is ts so = put-key p s (spelled false ts) may ∙ ap (λ (l : List Token). key s ∷ l) so.0
 begun_so p may (string s) is ts so = put-string p s (spelled true ts) may (spelled_colon true ts) ∙ ap (λ (l : List Token). string s ∷ l) so.1
-begun_so p may (number s) is ts so =
-    put-word p (number s) (spelled true ts) tt (λ e. cc) may ∙ ap (λ (l : List Token). number s ∷ l) so.1
-begun_so p may (boolean v) is ts so =
-    put-word p (boolean v) (spelled true ts) tt (λ e. cc) may ∙ ap (λ (l : List Token). boolean v ∷ l) so.1
+begun_so p may (number s) is ts so = put-word p (number s) (spelled true ts) tt (λ e. cc) may ∙ ap (λ (l : List Token). number s ∷ l) so.1
+begun_so p may (boolean v) is ts so = put-word p (boolean v) (spelled true ts) tt (λ e. cc) may ∙ ap (λ (l : List Token). boolean v ∷ l) so.1
 begun_so p may null is ts so = put-word p null (spelled true ts) tt (λ e. cc) may ∙ ap (λ (l : List Token). null ∷ l) so.1
 begun_so p may _ is ts so = absurd is
 
@@ -155,14 +144,10 @@ unfolding punctuate
 owed ls = refl
 
 begun_after : (t : Token) → IsBeginner t → (ts : List Token) → AreSpelled ts → punctuate after_value (spelled true (t ∷ ts)) ≡ t ∷ ts
-begun_after begin_object is ts so = owed (spelled false (begin_object ∷ ts)) ∙ begun_so after_comma refl begin_object tt ts so
-begun_after begin_array is ts so = owed (spelled false (begin_array ∷ ts)) ∙ begun_so after_comma refl begin_array tt ts so
-begun_after (key s) is ts so = owed (spelled false (key s ∷ ts)) ∙ begun_so after_comma refl (key s) tt ts so
-begun_after (string s) is ts so = owed (spelled false (string s ∷ ts)) ∙ begun_so after_comma refl (string s) tt ts so
-begun_after (number s) is ts so = owed (spelled false (number s ∷ ts)) ∙ begun_so after_comma refl (number s) tt ts so
-begun_after (boolean v) is ts so = owed (spelled false (boolean v ∷ ts)) ∙ begun_so after_comma refl (boolean v) tt ts so
-begun_after null is ts so = owed (spelled false (null ∷ ts)) ∙ begun_so after_comma refl null tt ts so
-begun_after _ is ts so = absurd is
+begun_after end_object is ts so = absurd is
+begun_after end_array is ts so = absurd is
+begun_after bad is ts so = absurd is
+begun_after t is ts so = owed (spelled false (t ∷ ts)) ∙ begun_so after_comma refl t is ts so
 
 begins : (t : Token) → IsBeginner t → (ts : List Token) → AreSpelled ts → AreSpelled (t ∷ ts)
 begins t is ts so = (begun_so fresh refl t is ts so, begun_after t is ts so)
@@ -175,24 +160,18 @@ nothing_left _ may = refl
 
 pub are_spelled : (ts : List Token) → AllGood ts → AreSpelled ts
 are_spelled [] good = (nothing_left fresh refl, nothing_left after_value refl)
-are_spelled (begin_object ∷ ts) good = begins begin_object tt ts (are_spelled ts good.1)
 are_spelled (end_object ∷ ts) good =
     let more = are_spelled ts good.1 in (
       put-end_object fresh (spelled true ts) refl ∙ ap (λ (l : List Token). end_object ∷ l) more.1,
       put-end_object after_value (spelled true ts) refl ∙ ap (λ (l : List Token). end_object ∷ l) more.1,
     )
-are_spelled (begin_array ∷ ts) good = begins begin_array tt ts (are_spelled ts good.1)
 are_spelled (end_array ∷ ts) good =
     let more = are_spelled ts good.1 in (
       put-end_array fresh (spelled true ts) refl ∙ ap (λ (l : List Token). end_array ∷ l) more.1,
       put-end_array after_value (spelled true ts) refl ∙ ap (λ (l : List Token). end_array ∷ l) more.1,
     )
-are_spelled (key s ∷ ts) good = begins (key s) tt ts (are_spelled ts good.1)
-are_spelled (string s ∷ ts) good = begins (string s) tt ts (are_spelled ts good.1)
-are_spelled (number s ∷ ts) good = begins (number s) tt ts (are_spelled ts good.1)
-are_spelled (boolean v ∷ ts) good = begins (boolean v) tt ts (are_spelled ts good.1)
-are_spelled (null ∷ ts) good = begins null tt ts (are_spelled ts good.1)
 are_spelled (bad ∷ ts) good = absurd (good.0 refl)
+are_spelled (t ∷ ts) good = begins t tt ts (are_spelled ts good.1)
 
 -- ---- from a stage
 

@@ -1,27 +1,21 @@
 -- A token and the text that it leaves, by its parts.
-use Rattle.std.proofs.Common.{◌≡◌, ℕ, ◌+◌, ◌-◌, ◌<◌, Bool, true, false, ◌⊎◌, inl, inr, List, [], ◌∷◌, ◌++◌, take, drop, get_or, length, Some, None, refl, sym}
-use Rattle.std.proofs.Common.{subst, ap, ◌∙◌, arith}
-use Rattle.std.proofs.lemmas.Bool.{true≢false, false_from_ne_true}
+use Rattle.yaml_json.proofs.Common.{◌≡◌, ℕ, ◌+◌, ◌-◌, ◌<◌, Bool, true, false, ◌⊎◌, inl, inr, List, [], ◌∷◌, ◌++◌, take, drop, get_or, length, Some, None, refl}
+use Rattle.yaml_json.proofs.Common.{sym, subst, ap, ◌∙◌, arith, true≢false, false_from_ne_true, IsTidy, IsTrimmed, StepsFrom, ahead, place_of, ArePlain, Lexeme}
+use Rattle.yaml_json.proofs.Common.{after_comma, after_value, begins_colon, class, colon, fresh, in_string, in_word, may_begin, may_close, other, string_token}
+use Rattle.yaml_json.proofs.Common.{token, token_of, content, Token, begin_array, begin_object, end_array, end_object, key, bad, head, word, Stage, Open, Owed}
+use Rattle.yaml_json.proofs.Common.{Over}
 use Rattle.json.proofs.Numbered.{ArePrintableOrBad-tokens_at}
-use Rattle.yaml_json.specs.Ahead.{Ends, FollowsAs, IsTidy, IsTrimmed, Opens, Passes, ReadsFirst, StepsFrom, ahead, begins_here, closes_here, place_of}
-use Rattle.yaml_json.specs.Lexemes.{ArePlain}
-use Rattle.yaml_json.specs.declared.tokens.Step.{Step}
-use Rattle.yaml_json.proofs.LexSteps.{plain_over, quote_at}
+use Rattle.json.specs.{Text.plain, Token.string, Print.ArePrintableOrBad, Print.IsPrintable, Print.IsPrintableOrBad, declared.reader.Place.TheVariants.Fresh}
+use Rattle.json.specs.{declared.reader.Place.TheVariants.AfterValue, declared.reader.Place.TheVariants.AfterComma}
+use Rattle.json.specs.Lex.{Place, between, lex, punctuate}
+use Rattle.yaml_json.{specs.declared.tokens.Step.Step, specs.declared.tokens.Stage.TheVariants.Behind, proofs.LexSteps.plain_over, proofs.LexSteps.quote_at}
+use Rattle.yaml_json.specs.Ahead.{Ends, FollowsAs, Opens, Passes, ReadsFirst, begins_here, closes_here}
 use Rattle.yaml_json.proofs.PunctuateSteps.{IsWord, IsWord-word, lex-begin_array, lex-begin_object, lex-colon, lex-end_array, lex-end_object, lex-string}
 use Rattle.yaml_json.proofs.PunctuateSteps.{lex-word, no_colon, put-bad, put-begin_array, put-begin_object, put-end_array, put-end_object, put-key, put-string}
 use Rattle.yaml_json.proofs.PunctuateSteps.{put-word, stray-behind}
-use Rattle.json.specs.Lex.{Lexeme, Place, after_comma, after_value, begins_colon, between, class, colon, fresh, in_string, in_word, lex, may_begin, may_close}
-use Rattle.json.specs.Lex.{other, punctuate, string_token, token}
-use Rattle.json.specs.Reads.{token_of}
-use Rattle.json.specs.Text.{content, plain}
-use Rattle.json.specs.Token.{Token, begin_array, begin_object, end_array, end_object, key, string, bad}
-use Rattle.json.specs.Print.{ArePrintableOrBad, IsPrintable, IsPrintableOrBad}
-use Rattle.json.specs.Word.{head, word}
-use Rattle.json.specs.declared.reader.Place.TheVariants.{Fresh, AfterValue, AfterComma}
-use Rattle.yaml_json.specs.declared.tokens.Stage.{Stage, TheVariants.Open, TheVariants.Behind, TheVariants.Owed, TheVariants.Over}
+use Rattle.yaml_json.proofs.ContentSteps.{closes_here as string_closes, prepend-nothing, run_more}
 use Rattle.json.specs.declared.token.Token as variants
 use Rattle.json.specs.declared.token.Token.TheVariants as tokens
-use Rattle.yaml_json.proofs.ContentSteps.{closes_here as string_closes, prepend-nothing, run_more}
 
 -- ---- a bad token
 
@@ -74,16 +68,14 @@ key_step s after rest step same colon_first opens = record {
 
 -- Lexemes begin with no colon if their text begins with none.
 no_colon_more : (rest : List ℕ) (more : List Lexeme) → IsTrimmed rest → (head rest ≡ 58 → ⊥) → FollowsAs more rest → begins_colon more ≡ false
-no_colon_more rest more trimmed apart follows =
-    false_from_ne_true (begins_colon more) (λ e. true≢false (sym (follows e) ∙ no_colon rest trimmed apart))
+no_colon_more rest more trimmed apart follows = false_from_ne_true (begins_colon more) (λ e. true≢false (sym (follows e) ∙ no_colon rest trimmed apart))
 
 pub text_step : (s after rest : List ℕ) (step : Step) → lex between rest ≡ lex between after → IsTrimmed rest → (head rest ≡ 58 → ⊥) → Ends (string s) rest step
     → StepsFrom may_begin (token (string s) ∷ lex between after) step
 text_step s after rest step same trimmed apart ends = record {
   first = λ p e. ap (λ ls. punctuate p (token (string s) ∷ ls)) (sym same) ∙ put-string p s (lex between rest) e (no_colon rest trimmed apart)
       ∙ (λ i. sym ends.same i ∷ sym ends.left i);
-  passes = λ p e. inr (passes_end p (token (string s) ∷ lex between after) (string s) (string s) rest step ends
-      (ap (λ ls. token (string s) ∷ ls) (sym same))
+  passes = λ p e. inr (passes_end p (token (string s) ∷ lex between after) (string s) (string s) rest step ends (ap (λ ls. token (string s) ∷ ls) (sym same))
       (λ more f. put-string p s more e (no_colon_more rest more trimmed apart f)));
   tidy = ends.tidy;
 }
@@ -116,8 +108,7 @@ good_word text rest w step kind is good left ends = record {
   first = λ p e. ap (punctuate p) (lex-word text kind ∙ ap (λ t. token t ∷ lex in_word (drop 1 text)) (sym is))
       ∙ put-word p w (lex in_word (drop 1 text)) (subst IsWord (sym is) (IsWord-word text)) good e
       ∙ (λ i. sym ends.same i ∷ (ap (punctuate after_value) (sym left) ∙ sym ends.left) i);
-  passes = λ p e. inr (passes_end p (lex between text) w w rest step ends
-      (lex-word text kind ∙ (λ i. token (sym is i) ∷ sym left i))
+  passes = λ p e. inr (passes_end p (lex between text) w w rest step ends (lex-word text kind ∙ (λ i. token (sym is i) ∷ sym left i))
       (λ more f. put-word p w more (subst IsWord (sym is) (IsWord-word text)) good e));
   tidy = ends.tidy;
 }
@@ -152,8 +143,7 @@ closes_object text rest step e left ends = record {
   first = λ p may. ap (punctuate p) (lex-end_object text e) ∙ put-end_object p (lex between (drop 1 text)) may
       ∙ (λ i. sym ends.same i ∷ (ap (punctuate after_value) (sym left) ∙ sym ends.left) i);
   passes = λ p may. inr (passes_end p (lex between text) end_object end_object rest step ends
-      (lex-end_object text e ∙ ap (λ ls. token end_object ∷ ls) (sym left))
-      (λ more f. put-end_object p more may));
+      (lex-end_object text e ∙ ap (λ ls. token end_object ∷ ls) (sym left)) (λ more f. put-end_object p more may));
   tidy = ends.tidy;
 }
 
@@ -162,8 +152,7 @@ pub closes_array : (text rest : List ℕ) (step : Step) → head text ≡ 93 →
 closes_array text rest step e left ends = record {
   first = λ p may. ap (punctuate p) (lex-end_array text e) ∙ put-end_array p (lex between (drop 1 text)) may
       ∙ (λ i. sym ends.same i ∷ (ap (punctuate after_value) (sym left) ∙ sym ends.left) i);
-  passes = λ p may. inr (passes_end p (lex between text) end_array end_array rest step ends
-      (lex-end_array text e ∙ ap (λ ls. token end_array ∷ ls) (sym left))
+  passes = λ p may. inr (passes_end p (lex between text) end_array end_array rest step ends (lex-end_array text e ∙ ap (λ ls. token end_array ∷ ls) (sym left))
       (λ more f. put-end_array p more may));
   tidy = ends.tidy;
 }
@@ -193,8 +182,7 @@ unclosed_array t e = ap (punctuate after_comma) (lex-end_array t e)
 -- A bad token from the place of the text.
 pub bad_here : (stage : Stage) (text : List ℕ) (step : Step) → ahead stage text ≡ bad ∷ [] → token_of step.token ≡ bad → step.stage ≡ Over
     → IsTidy step.stage step.rest.now → ReadsFirst stage text step
-bad_here stage text step is token_is over tidy =
-    record { first = is ∙ sym (over_is step token_is over); passes = inl (over, token_is); tidy = tidy }
+bad_here stage text step is token_is over tidy = record { first = is ∙ sym (over_is step token_is over); passes = inl (over, token_is); tidy = tidy }
 
 -- A step from the place of the text.
 pub closed_here : (stage : Stage) (text : List ℕ) (step : Step) → closes_here stage ≡ true → StepsFrom may_close (lex between text) step

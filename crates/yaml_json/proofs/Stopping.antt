@@ -1,10 +1,8 @@
 -- The answers of a writer to the walk, and the results of the walk.
 use Rattle.yaml_json.proofs.Common.{IfSome, OnErr, OnOk, Option, None, Some, Result, Ok, Err, List, ◌≡◌, refl, ap, subst, sym, failure_of, emitter_error_of}
-use Rattle.yaml_json.proofs.Common.{RefusesText, Token, Event, WriterState}
-use Rattle.yaml_base.specs.declared.errors.yaml_error_t.{yaml_error_t}
-use Rattle.yaml_writer.specs.Answering.{Answers, FailsAt, StaysUnlessFailed}
-use Rattle.yaml_writer.proofs.AnswerLemmas.{kept_memory, kept_same}
-use Rattle.yaml_json.specs.{Failing.IsStopOf, Failing.Kept, Refused.IsByText, Walk.ReadsNone, declared.values.Stop.Stop}
+use Rattle.yaml_json.proofs.Common.{RefusesText, Token, Event, WriterState, yaml_error_t, FailsAt, Kept, IsByText, ReadsNone, Stop}
+use Rattle.yaml_writer.{specs.Answering.Answers, specs.Answering.StaysUnlessFailed, proofs.AnswerLemmas.kept_memory, proofs.AnswerLemmas.kept_same}
+use Rattle.yaml_json.specs.Failing.{IsStopOf}
 use Rattle.yaml_json.specs.declared.values.Stop.TheVariants as stops
 
 -- A consequence for a value, if there is one.
@@ -23,13 +21,7 @@ pub record Answered (P : Type 0) (before : WriterState) (event : Event) (result 
 pub answered : (P : Type 0) (before after : WriterState) (event : Event) (answer : Result (Unit {0}) yaml_error_t) (result : Result (Unit {0}) Stop)
     → IsStopOf answer result → OnOk answer P → Answers before event answer after → Answered P before event result after
 answered P before after event (Ok done) (Ok same) is held answers =
-    record {
-      done = held;
-      never = λ refused. refused;
-      unmoved = tt;
-      kept = record { grows = answers.kept.grows; sound = answers.kept.sound };
-      failed = tt;
-    }
+    record { done = held; never = λ refused. refused; unmoved = tt; kept = record { grows = answers.kept.grows; sound = answers.kept.sound }; failed = tt }
 answered P before after event (Err error) (Err stop) is held answers =
     subst (λ (s : Stop). Answered P before event (Err s) after) (sym is)
     (record {

@@ -1,18 +1,13 @@
 -- The stops of the walk, turn by turn.
-use Rattle.yaml_writer.specs.WasGiven.{GaveEvents}
-use Rattle.yaml_json.proofs.Common.{ℕ, Bool, false, true, List, [], ◌++◌, ◌∷◌, ◌≡◌, ap, append-nil, subst, sym, ◌∙◌, Token, HoldsNames, AddsName, FitsNames}
-use Rattle.yaml_json.proofs.Common.{IfSome, failure_of, refl, WriterState, RefusesToken, RefusesFirst, WhyStopped, Refuses, tokens_events, IsScalar}
-use Rattle.yaml_json.proofs.Common.{LeavesOpen, KeepsNames}
-use Rattle.yaml_json.specs.Refused.{IsByText}
-use Rattle.yaml_json.specs.Walk.{GivesTaken, GaveTokens, ReadsNone, StopsInside, NoStringNext, TextStopsWriting, WereLeft, WhereStopped, spot_of}
-use Rattle.yaml_json.specs.declared.names.Names.{Names}
+use Rattle.yaml_json.proofs.Common.{GaveEvents, ℕ, Bool, false, true, List, [], ◌++◌, ◌∷◌, ◌≡◌, ap, append-nil, subst, sym, ◌∙◌, Token, HoldsNames, AddsName}
+use Rattle.yaml_json.proofs.Common.{FitsNames, IfSome, failure_of, refl, WriterState, RefusesToken, RefusesFirst, WhyStopped, Refuses, tokens_events, IsScalar}
+use Rattle.yaml_json.proofs.Common.{LeavesOpen, KeepsNames, IsByText, GaveTokens, ReadsNone, NoStringNext, TextStopsWriting, Memory, Stop, Spot, At, PastString}
+use Rattle.yaml_json.proofs.Common.{PastValue, CollectionKind, Mapping, Sequence}
+use Rattle.yaml_json.specs.{Walk.GivesTaken, Walk.StopsInside, Walk.WereLeft, Walk.WhereStopped, Walk.spot_of, declared.names.Names.Names}
 use Rattle.yaml_json.proofs.KeepingNames.{keeps_name, name_again, names_once}
 use Rattle.yaml_json.proofs.Refusing.{IsNoKey, first_placed, first_refused, key_could_stand, key_refused, member_goes_on, name_refused, no_member_left}
 use Rattle.yaml_json.proofs.Refusing.{no_string_stands}
 use Rattle.yaml_json.proofs.Walking.{Awaiting, awaiting_item, awaiting_named, awaiting_no_item, awaiting_whole}
-use Rattle.yaml_base.specs.declared.errors.yaml_error_t.TheVariants.{Memory}
-use Rattle.yaml_json.specs.declared.values.{Stop.Stop, Spot.Spot, Spot.TheVariants.At, Spot.TheVariants.PastString, Spot.TheVariants.PastValue}
-use Rattle.yaml_base.specs.declared.kinds.CollectionKind.{CollectionKind, TheVariants.Mapping, TheVariants.Sequence}
 use Rattle.yaml_json.specs.declared.values.Stop.TheVariants as stops
 
 -- no token is read
@@ -45,10 +40,8 @@ no_scalar_closes token scalar is = absurd (subst IsScalar is scalar)
 
 -- ---- the first token of a value
 
-pub first_unread : (depth : ℕ) (levels : List CollectionKind) (ahead : List Token) (stop : Stop) → ReadsNone ahead stop
-    → RefusesFirst depth levels ahead stop
-first_unread depth levels ahead (stops.NotJson spot) none =
-    subst (λ (all : List Token). RefusesFirst depth levels all (stops.NotJson spot)) (sym none.0) none.1
+pub first_unread : (depth : ℕ) (levels : List CollectionKind) (ahead : List Token) (stop : Stop) → ReadsNone ahead stop → RefusesFirst depth levels ahead stop
+first_unread depth levels ahead (stops.NotJson spot) none = subst (λ (all : List Token). RefusesFirst depth levels all (stops.NotJson spot)) (sym none.0) none.1
 first_unread depth levels [] (stops.Failed error) none = tt
 first_unread depth levels (token ∷ after) (stops.Failed error) none = tt
 first_unread depth levels ahead _ none = absurd none
@@ -94,8 +87,7 @@ module _ {A : Type 0} (depth : ℕ) (unique in_flow : Bool) (levels outer : List
       item_none none =
           at_once [] none (stops.NotJson At) tt
           (λ so stands kept. (
-            first_refused depth unique so levels [] (stops.NotJson At) (awaiting_no_item depth so levels outer is stands)
-                (names_once unique levels held so fits kept) refl,
+            first_refused _ unique so _ [] (stops.NotJson At) (awaiting_no_item _ so _ outer is stands) (names_once unique levels held so fits kept) refl,
             first_placed depth unique so levels (item_awaits so stands) (names_once unique levels held so fits kept) [] (stops.NotJson At) refl,
           ))
 
@@ -104,8 +96,7 @@ module _ {A : Type 0} (depth : ℕ) (unique in_flow : Bool) (levels outer : List
       item_stopped token after first isn't stop refuses =
           at_once (token ∷ after) first stop (inside_token depth levels token stop refuses)
           (λ so stands kept. (
-            first_refused depth unique so levels (token ∷ after) stop (awaiting_item depth so levels outer token after is stands isn't)
-                (names_once unique levels held so fits kept) refuses,
+            first_refused _ unique so _ _ stop (awaiting_item _ so _ outer _ _ is stands isn't) (names_once unique levels held so fits kept) refuses,
             first_placed depth unique so levels (item_awaits so stands) (names_once unique levels held so fits kept) (token ∷ after) stop refuses,
           ))
 
@@ -135,8 +126,7 @@ module _ {A : Type 0} (depth : ℕ) (unique in_flow : Bool) (levels outer : List
       string_stopped text after first =
           at_once (Token.string text ∷ after) first (stops.NotJson PastString) tt
           (λ so stands kept. (
-            key_refused depth unique so levels outer is stands (names_once unique levels held so fits kept) (Token.string text) after
-                ((λ key is. cc), (λ is. cc)),
+            key_refused _ _ so _ outer is stands (names_once unique levels held so fits kept) _ _ ((λ key is. cc), (λ is. cc)),
             key_could_stand depth unique so levels outer is stands (names_once unique levels held so fits kept) text after,
           ))
 
@@ -183,14 +173,11 @@ module _ {A : Type 0} (depth : ℕ) (unique in_flow : Bool) (levels outer : List
           taken = Token.key name ∷ [];
           inside = inside_first depth levels inner stop refuses;
           parts = ap (λ (l : List Token). Token.key name ∷ l) were ∙ sym first;
-          gave = λ was so stood.
-              subst (GaveEvents was (tokens_events was.canonical in_flow (so ++ Token.key name ∷ []))) (sym same) (gave was so stood).gave;
-          why = λ so stands kept. subst (λ (l : List Token). WhyStopped depth unique (so ++ Token.key name ∷ []) l stop) (sym were)
-              (first_refused depth unique (so ++ Token.key name ∷ []) levels inner stop
-              (awaiting_named depth so levels outer name is stands inner) (once so kept) refuses);
-          place = λ so stands kept. subst (λ (l : List Token). WhereStopped depth unique (so ++ Token.key name ∷ []) l stop) (sym were)
-              (first_placed depth unique (so ++ Token.key name ∷ []) levels
-              (λ token scalar. awaiting_named depth so levels outer name is stands (token ∷ [])) (once so kept) inner stop refuses);
+          gave = λ was so stood. subst (GaveEvents was (tokens_events was.canonical in_flow (so ++ Token.key name ∷ []))) (sym same) (gave was so stood).gave;
+          why = λ so stands kept. subst (λ (l : List Token). WhyStopped depth unique (so ++ Token.key name ∷ []) l stop) (sym were) (first_refused depth unique
+              (so ++ Token.key name ∷ []) levels inner stop (awaiting_named depth so levels outer name is stands inner) (once so kept) refuses);
+          place = λ so stands kept. subst (λ (l : List Token). WhereStopped depth unique (so ++ Token.key name ∷ []) l stop) (sym were) (first_placed depth
+              unique (so ++ Token.key name ∷ []) levels (λ token scalar. awaiting_named _ so _ outer name is stands _) (once so kept) inner stop refuses);
         }
 
 -- the first token of all

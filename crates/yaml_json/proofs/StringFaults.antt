@@ -1,8 +1,7 @@
 -- The characters of a string that has no fault so far.
-use Rattle.std.proofs.Common.{◌≡◌, ℕ, zero, suc, ◌+◌, ◌<◌, false, ◌==◌, if◌then◌else◌, List, [], ◌∷◌, drop, get_or, length}
-use Rattle.std.proofs.Common.{Ok, None, refl, sym, ap, ◌∙◌, arith}
-use Rattle.std.proofs.lemmas.List.{drop-drop, drop_more}
-use Rattle.yaml_json.specs.Faults.{content_fault, fault_or, size_after}
+use Rattle.yaml_json.proofs.Common.{◌≡◌, ℕ, zero, suc, ◌+◌, ◌<◌, false, ◌==◌, if◌then◌else◌, List, [], ◌∷◌, drop, get_or, length, Ok, None, refl, sym, ap, ◌∙◌}
+use Rattle.yaml_json.proofs.Common.{arith, drop-drop, drop_more, content_fault}
+use Rattle.yaml_json.specs.Faults.{fault_or, size_after}
 
 -- Bytes that belong to the character before are passed over.
 pub skipped_over : (size : ℕ) (text : List ℕ) → content_fault size text ≡ content_fault 0 (drop size text)
@@ -28,6 +27,5 @@ module _ (text : List ℕ) (at : ℕ) (within : at < length text) where
         → content_fault 0 (drop (at + (1 + size)) text) ≡ content_fault 0 (drop at text)
     character_passed size is =
         let sum : at + 1 + size ≡ at + (1 + size) = omega arith in
-        sym
-        (by_size ∙ ap (λ r. fault_or r (get_or text at 0 ∷ rest) (λ n. content_fault n rest)) is ∙ skipped_over size rest
+        sym (by_size ∙ ap (λ r. fault_or r (get_or text at 0 ∷ rest) (λ n. content_fault n rest)) is ∙ skipped_over size rest
         ∙ ap (content_fault 0) (drop-drop size (at + 1) text ∙ ap (λ n. drop n text) sum))

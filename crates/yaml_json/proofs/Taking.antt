@@ -2,18 +2,14 @@
 use Rattle.yaml_json.proofs.Common.{ℕ, ◌-◌, ◌<◌, length, take, Bool, List, [], ◌++◌, ◌∷◌, refl, ◌≡◌, append-nil, append_assoc, inl, inr, ap, subst, sym, ◌∙◌}
 use Rattle.yaml_json.proofs.Common.{arith, Token, Event, BeginsWithinDepth, FailedHaving, token_events, tokens_events, LeavesOpen, IsScalar, opener, closer}
 use Rattle.yaml_json.proofs.Common.{BeganValue, BeginFailed, BeganFirstValue, FirstFailed, IsBare, WroteEvent, start_event, IfSome, failure_of, WriterState}
-use Rattle.yaml_json.proofs.Common.{end_event, GaveEvent, with_collection, Ok, EndsInnermost}
+use Rattle.yaml_json.proofs.Common.{end_event, GaveEvent, with_collection, Ok, EndsInnermost, gave_same, yaml_error_t, Memory, CollectionKind, Mapping}
+use Rattle.yaml_json.proofs.Common.{Sequence, FailsAt, GaveEvents, levels_after, levels_after_event, Stop, ReadsNone, GaveTokens, StepFailed}
 use Rattle.std.proofs.Math.Seq.{take-append_seam}
-use Rattle.yaml_json.proofs.Stopping.{if_some}
-use Rattle.yaml_json.proofs.Stops.{unread_memory, gave_no_more}
-use Rattle.yaml_json.proofs.TokenLemmas.{some_then}
-use Rattle.yaml_writer.proofs.GivenLemmas.{ended}
+use Rattle.yaml_json.proofs.{Stopping.if_some, Stops.unread_memory, Stops.gave_no_more, TokenLemmas.some_then}
 use Rattle.yaml_json.proofs.Walking.{longer, closed_stands, closes_value, value_begins, awaiting_item, awaiting_named, next_stands}
-use Rattle.yaml_writer.proofs.OpenLevels.{gave_event, gave_events_then, gave_none, gave_same, levels_after-append, levels_after_end, levels_after_start}
-use Rattle.yaml_base.specs.declared.{errors.yaml_error_t.yaml_error_t, errors.yaml_error_t.TheVariants.Memory, kinds.CollectionKind.CollectionKind}
-use Rattle.yaml_base.specs.declared.{kinds.CollectionKind.TheVariants.Mapping, kinds.CollectionKind.TheVariants.Sequence}
-use Rattle.yaml_writer.specs.{Answering.FailsAt, WasGiven.GaveEvents, WasGiven.levels_after, WasGiven.levels_after_event}
-use Rattle.yaml_json.specs.{declared.values.Stop.Stop, Walk.ReadsNone, Walk.GaveTokens, Walk.GivesTaken, Walk.FailsGiving, Walk.WalkedOn, Walk.StepFailed}
+use Rattle.yaml_json.specs.Walk.{GivesTaken, FailsGiving, WalkedOn}
+use Rattle.yaml_writer.proofs.GivenLemmas.{ended}
+use Rattle.yaml_writer.proofs.OpenLevels.{gave_event, gave_events_then, gave_none, levels_after-append, levels_after_end, levels_after_start}
 
 -- ---- the writer
 
@@ -31,8 +27,7 @@ given_on : (in_flow : Bool) (was now later : WriterState) (so : List Token) (tok
     → GaveEvents now (event ∷ []) later → GaveEvents was (tokens_events was.canonical in_flow (so ++ token ∷ [])) later
 given_on in_flow was now later so token event one is other =
     gave_same was later (tokens_events was.canonical in_flow so ++ event ∷ []) (tokens_events was.canonical in_flow (so ++ token ∷ []))
-    (events_on was.canonical in_flow so token event is)
-    (gave_events_then was now later (tokens_events was.canonical in_flow so) (event ∷ []) one other)
+    (events_on was.canonical in_flow so token event is) (gave_events_then was now later (tokens_events was.canonical in_flow so) (event ∷ []) one other)
 
 open_on : (in_flow : Bool) (was : WriterState) (so : List Token) (token : Token) (event : Event) (levels opened : List CollectionKind)
     → levels_after (tokens_events was.canonical in_flow so) was.levels ≡ was.levels ++ levels → token_events was.canonical in_flow token ≡ event ∷ []
@@ -127,8 +122,7 @@ pub fails_event : (in_flow : Bool) (levels : List CollectionKind) (before after 
     → FailsAt before (event before.canonical) error after → FailsGiving in_flow levels before (token ∷ []) error after
 fails_event in_flow levels before after token event error is (inl memory) = inl memory
 fails_event in_flow levels before after token event error is (inr gave) =
-    inr
-    (λ was so stood. failed_on in_flow was before after so token (event before.canonical) error stood.gave
+    inr (λ was so stood. failed_on in_flow was before after so token (event before.canonical) error stood.gave
     (is was.canonical ∙ ap (λ c. event c ∷ []) (sym stood.gave.canonical)) gave)
 
 -- ---- one token
@@ -140,14 +134,9 @@ module _ (depth : ℕ) (in_flow : Bool) (levels : List CollectionKind) (before a
     pub scalar_began : WroteEvent before (event before.canonical) after → BeganValue depth in_flow token levels before levels after
     scalar_began wrote = record { begins = inl (is, refl); gives = gives_scalar in_flow levels before after token event (scalar_keeps token is) events wrote }
 
-    pub scalar_failed : (error : yaml_error_t) → FailsAt before (event before.canonical) error after
-        → BeginFailed depth in_flow token levels before error after
+    pub scalar_failed : (error : yaml_error_t) → FailsAt before (event before.canonical) error after → BeginFailed depth in_flow token levels before error after
     scalar_failed error failed =
-        record {
-          opened = levels;
-          begins = inl (is, refl);
-          fails = fails_event in_flow levels before after token event error events failed;
-        }
+        record { opened = levels; begins = inl (is, refl); fails = fails_event in_flow levels before after token event error events failed }
 
   -- a collection begins
   pub opener_began : (opened : List CollectionKind) (kind : CollectionKind) → length levels < depth → opened ≡ levels ++ kind ∷ []
@@ -171,8 +160,7 @@ module _ (depth : ℕ) (in_flow : Bool) (levels : List CollectionKind) (before a
 
   pub opener_without_memory : (kind : CollectionKind) → length levels < depth → after ≡ before
       → BeginFailed depth in_flow (opener kind) levels before Memory after
-  opener_without_memory kind fits same =
-      record { opened = levels ++ kind ∷ []; begins = inr (kind, refl, fits, refl); fails = inl (refl, same) }
+  opener_without_memory kind fits same = record { opened = levels ++ kind ∷ []; begins = inr (kind, refl, fits, refl); fails = inl (refl, same) }
 
 -- ---- one turn
 
@@ -236,10 +224,8 @@ step_unclosed depth in_flow ahead levels outer kind is before after error now fi
 pub step_unread : (depth : ℕ) (in_flow : Bool) (ahead : List Token) (levels : List CollectionKind) (before : WriterState) (stop : Stop)
     → ReadsNone ahead stop → IfSome (failure_of stop) (λ error. StepFailed depth in_flow ahead levels before error before)
 step_unread depth in_flow ahead levels before stop none =
-    if_some (failure_of stop)
-    (λ error memory. subst (λ (code : yaml_error_t). StepFailed depth in_flow ahead levels before code before) (sym memory)
-    (step_without_memory depth in_flow ahead levels before before refl))
-    (unread_memory ahead stop none)
+    if_some (failure_of stop) (λ error memory. subst (λ (code : yaml_error_t). StepFailed depth in_flow ahead levels before code before) (sym memory)
+    (step_without_memory depth in_flow ahead levels before before refl)) (unread_memory ahead stop none)
 
 -- an item begins
 module _ (depth : ℕ) (in_flow : Bool) (levels outer : List CollectionKind) (is : levels ≡ outer ++ Sequence ∷ []) (token : Token)
@@ -252,15 +238,13 @@ module _ (depth : ℕ) (in_flow : Bool) (levels outer : List CollectionKind) (is
         parts = first;
         shorter = omega (arith, ap length first);
         gives = began.gives;
-        moves = λ so stands. next_stands depth so levels opened token after (awaiting_item depth so levels outer token after is stands isn't)
-            began.begins;
+        moves = λ so stands. next_stands depth so levels opened token after (awaiting_item depth so levels outer token after is stands isn't) began.begins;
       }
 
   pub step_no_item : (error : yaml_error_t) (now : WriterState) → BeginFailed depth in_flow token levels before error now
       → StepFailed depth in_flow ahead levels before error now
   step_no_item error now failed =
-      step_at_first depth in_flow ahead levels before token after error now first failed.fails
-      (λ so stands. value_begins depth (so ++ token ∷ []) failed.opened
+      step_at_first depth in_flow ahead levels before token after error now first failed.fails (λ so stands. value_begins depth (so ++ token ∷ []) failed.opened
       (next_stands depth so levels failed.opened token after (awaiting_item depth so levels outer token after is stands isn't) failed.begins))
 
 -- two calls
@@ -319,8 +303,7 @@ module _ (depth : ℕ) (in_flow : Bool) (levels outer : List CollectionKind) (is
           taken = Token.key key ∷ token ∷ [];
           left = after;
           parts = sym (first ∙ ap (λ (all : List Token). Token.key key ∷ all) next);
-          fails = λ was so stood.
-              subst (λ (all : List Token). FailedHaving was (tokens_events was.canonical in_flow all) error now)
+          fails = λ was so stood. subst (λ (all : List Token). FailedHaving was (tokens_events was.canonical in_flow all) error now)
               (append_assoc so (Token.key key ∷ []) (token ∷ [])) (fails was (so ++ Token.key key ∷ []) (gave was so stood));
           begins = λ so stands. subst (BeginsWithinDepth depth) (append_assoc so (Token.key key ∷ []) (token ∷ [])) (begins so stands);
         }

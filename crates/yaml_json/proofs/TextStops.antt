@@ -1,19 +1,13 @@
 -- The meaning of an error for a text, and for the writer that was given its first tokens.
-use Rattle.yaml_writer.proofs.OpenLevels.{usable_by}
-use Rattle.yaml_json.proofs.Common.{ℕ, IfSome, Option, Some, Err, Bool, List, ◌≡◌, inl, inr, refl, subst, sym, failure_of, FailedInText, ap, ◌∙◌, ◌++◌, ◌⊎◌}
-use Rattle.yaml_json.proofs.Common.{WriterState, Token, ExplainsError, WhyStopped, ◌+◌, ◌<◌, ◌≤◌, [], arith, length}
+use Rattle.yaml_json.proofs.Common.{usable_by, ℕ, IfSome, Option, Some, Err, Bool, List, ◌≡◌, inl, inr, refl, subst, sym, failure_of, FailedInText, ap, ◌∙◌}
+use Rattle.yaml_json.proofs.Common.{◌++◌, ◌⊎◌, WriterState, Token, ExplainsError, WhyStopped, ◌+◌, ◌<◌, ◌≤◌, [], arith, length, tokens_events, Kept}
+use Rattle.yaml_json.proofs.Common.{writers_error, IsByText, StopsInText, JsonError, HasPlaceWithin, Stop, said_at, IsPositionAfter, Expected, yaml_error_t}
+use Rattle.yaml_json.proofs.Common.{Memory, Position, GaveEvents}
 use Rattle.yaml_base.specs.Positions.{IsPositionOf}
 use Rattle.std.specs.Str.{IsValidUpTo}
-use Rattle.yaml_json.specs.{TokenEvents.tokens_events, Failing.Kept, Failing.writers_error, Refused.IsByText, Refused.TokensStopAt, Stopped.StopsInText}
-use Rattle.yaml_json.specs.{Walk.MatchesStop, Walk.StopsText, declared.error.JsonError.JsonError, Offsets.StopsAtLexeme, Places.HasPlaceAfter}
-use Rattle.yaml_json.specs.{Places.HasPlace, Places.HasPlaceWithin, Places.IsAt, Places.IsAtIn, Places.IsPlacedAt, Places.SaysFault, Places.offset_by}
-use Rattle.yaml_json.specs.declared.values.Stop.{Stop}
-use Rattle.yaml_json.proofs.FaultPlaces.{said_within}
-use Rattle.yaml_json.specs.Faults.{said_at}
-use Rattle.yaml_json.specs.Places.{IsPositionAfter, many_bytes}
-use Rattle.yaml_json.specs.declared.expecting.Expected.{Expected}
-use Rattle.yaml_base.specs.declared.{errors.yaml_error_t.yaml_error_t, errors.yaml_error_t.TheVariants.Memory, places.Position.Position}
-use Rattle.yaml_writer.specs.{WasGiven.GaveEvents, Failing.HasErrorSaid}
+use Rattle.yaml_json.{specs.Refused.TokensStopAt, specs.Walk.MatchesStop, specs.Walk.StopsText, specs.Offsets.StopsAtLexeme, proofs.FaultPlaces.said_within}
+use Rattle.yaml_json.specs.Places.{HasPlaceAfter, HasPlace, IsAt, IsAtIn, IsPlacedAt, SaysFault, offset_by, many_bytes}
+use Rattle.yaml_writer.specs.Failing.{HasErrorSaid}
 use Rattle.yaml_json.specs.declared.error.StreamError.TheVariants as faults
 use Rattle.yaml_json.specs.declared.error.JsonError.TheVariants as errors
 use Rattle.yaml_json.specs.declared.values.Stop.TheVariants as stops
@@ -102,20 +96,14 @@ module _ (depth : ℕ) (unique in_flow : Bool) (text : List ℕ) (was now : Writ
 
   pub given_by : {error : JsonError} → (stops : StopsInText depth unique in_flow text was error now)
       → GaveEvents was (tokens_events was.canonical in_flow stops.taken) now
-  given_by stops =
-      record { emits = stops.emits; canonical = stops.usable.canonical; levels = stops.usable.levels; bare = stops.usable.bare }
+  given_by stops = record { emits = stops.emits; canonical = stops.usable.canonical; levels = stops.usable.levels; bare = stops.usable.bare }
 
   pub writer_failed : (error : JsonError) → StopsInText depth unique in_flow text was error now → HasErrorSaid was (writers_error error) now
       → IfSome (writers_error error) (λ code. FailedInText depth in_flow text was code now)
   writer_failed (errors.Emitter code) stops said = (
     stops.taken,
     (
-      record {
-        left = stops.left;
-        parts = stops.split;
-        gave = record { gave = given_by stops; is_error = code_said code said };
-        unchanged = stops.unchanged;
-      },
+      record { left = stops.left; parts = stops.split; gave = record { gave = given_by stops; is_error = code_said code said }; unchanged = stops.unchanged },
       stops.why,
     ),
   )
@@ -149,17 +137,13 @@ module _ (depth : ℕ) (text part front : List ℕ) (lexeme before : ℕ) (is_fr
       let at = offset_by part lexeme error in
       let less : at ≤ length part = offset_within part lexeme error within in (
         at,
-        (
-          subst (λ n. IsAt text (n + at) error) is_front (is (omega (arith, is_front, fits, less))),
-          placed_as depth part lexeme stop error same placed fault,
-        ),
+        (subst (λ n. IsAt text (n + at) error) is_front (is (omega (arith, is_front, fits, less))), placed_as depth part lexeme stop error same placed fault),
       )
 
   pub placed_after : (stop : Stop) (error : JsonError) → MatchesStop part stop error → (IsByText stop → StopsAtLexeme depth part lexeme stop)
       → IsAtIn text before part lexeme error → SaysFault part lexeme error → HasPlaceAfter depth text front part error
   placed_after stop (errors.Emitter returned) same placed is fault = (0, (tt, tt))
-  placed_after (stops.NotJson spot) error same placed is fault =
-      placed_there (stops.NotJson spot) error same placed is fault (placed tt).start.within
+  placed_after (stops.NotJson spot) error same placed is fault = placed_there (stops.NotJson spot) error same placed is fault (placed tt).start.within
   placed_after stops.TooDeep error same placed is fault = placed_there stops.TooDeep error same placed is fault (placed tt).start.within
   placed_after stops.NameAgain error same placed is fault = placed_there stops.NameAgain error same placed is fault (placed tt).start.within
   placed_after _ _ same placed is fault = absurd same

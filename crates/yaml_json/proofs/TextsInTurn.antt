@@ -1,23 +1,17 @@
 -- JSON texts, one after another.
-use Rattle.yaml_writer.proofs.OpenLevels.{gave_events_then, gave_passed, gave_same, usable_by}
-use Rattle.yaml_writer.specs.WasGiven.{GaveEvents, levels_after}
-use Rattle.yaml_json.proofs.TokenLemmas.{texts_closed}
-use Rattle.json.proofs.Unique.Spelling.{value-json_tokens_back}
-use Rattle.yaml_json.proofs.Common.{ℕ, ◌<◌, ◌==◌, flat_map, Some, Result, Err, length, Bool, false, true, List, [], map, ◌++◌, ◌∷◌, refl, ◌≡◌, eqb-true}
-use Rattle.yaml_json.proofs.Common.{append-nil, append_assoc, inl, inr, ap, subst, sym, ◌∙◌, false≢true, flat_map-append, map-append, Json, value, tokens}
-use Rattle.yaml_json.proofs.Common.{Option, None, json_tokens, Event, between, events_with_separators, json_events, NamesOnce, HaveNamesOnce, texts_in}
-use Rattle.yaml_json.proofs.Common.{after_byte, CutsFirstText, tokens_events, IsBare, WasGiven, WroteText, AreJson, BeginsWithinDepth, parts_events}
-use Rattle.yaml_json.proofs.Common.{ReadsTexts, WriterState, PassedEvents}
-use Rattle.std.proofs.lemmas.List.{nil_from_length}
-use Rattle.yaml_base.specs.declared.errors.yaml_error_t.{yaml_error_t}
-use Rattle.yaml_json.proofs.NameLemmas.{once_is_unique}
-use Rattle.yaml_json.proofs.Walking.{awaiting_whole, closes_value}
+use Rattle.yaml_json.proofs.Common.{gave_same, usable_by, GaveEvents, levels_after, value-json_tokens_back, ℕ, ◌<◌, ◌==◌, flat_map, Some, Result, Err, length}
+use Rattle.yaml_json.proofs.Common.{Bool, false, true, List, [], map, ◌++◌, ◌∷◌, refl, ◌≡◌, eqb-true, append-nil, append_assoc, inl, inr, ap, subst, sym, ◌∙◌}
+use Rattle.yaml_json.proofs.Common.{false≢true, flat_map-append, map-append, Json, value, tokens, Option, None, json_tokens, Event, between}
+use Rattle.yaml_json.proofs.Common.{events_with_separators, json_events, NamesOnce, HaveNamesOnce, texts_in, after_byte, CutsFirstText, tokens_events, IsBare}
+use Rattle.yaml_json.proofs.Common.{WasGiven, WroteText, AreJson, BeginsWithinDepth, parts_events, ReadsTexts, WriterState, PassedEvents, yaml_error_t, Scan}
+use Rattle.yaml_json.proofs.Common.{StopsInText, JsonError}
+use Rattle.yaml_writer.proofs.OpenLevels.{gave_events_then, gave_passed}
 use Rattle.yaml_writer.proofs.GivenLemmas.{leaves_same, wrote_nothing, wrote_then, wrote_same}
-use Rattle.yaml_json.proofs.TextStops.{given_by}
-use Rattle.yaml_json.proofs.YamlOf.{HaveScalarTexts, last_reads}
-use Rattle.yaml_json.specs.{Texts.texts_after, Texts.onto_first, Texts.cut_text_before, Texts.scan_first_byte, declared.cuts.Mode.TheVariants.Before}
-use Rattle.yaml_json.specs.{declared.cuts.Scan.Scan, Refused.HasNamesOnce, Stopped.StopsInText, Stopped.StopsInTexts, Places.HasPlaceAfter, Wrote.WroteTexts}
-use Rattle.yaml_json.specs.{declared.error.JsonError.JsonError}
+use Rattle.yaml_json.proofs.{TokenLemmas.texts_closed, NameLemmas.once_is_unique, TextStops.given_by, YamlOf.HaveScalarTexts, YamlOf.last_reads}
+use Rattle.yaml_json.proofs.Walking.{awaiting_whole, closes_value}
+use Rattle.yaml_json.specs.{declared.cuts.Mode.TheVariants.Before, Refused.HasNamesOnce, Stopped.StopsInTexts, Places.HasPlaceAfter, Wrote.WroteTexts}
+use Rattle.yaml_json.specs.Texts.{texts_after, onto_first, cut_text_before, scan_first_byte}
+use Rattle.std.proofs.lemmas.List.{nil_from_length}
 use Rattle.yaml_json.specs.declared.error.JsonError.TheVariants as errors
 
 -- the events of some texts, after each of which a document begins, and then those of one more, the last
@@ -50,8 +44,7 @@ joined_more parts last rest =
 -- names that come once in each of some texts
 pub text_names : (unique : Bool) (text : List ℕ) → (unique ≡ true → NamesOnce [] (tokens text)) → HasNamesOnce unique text
 text_names unique text once is depth json read =
-    once_is_unique json []
-    (subst (NamesOnce []) (value-json_tokens_back depth (tokens text) [] json read ∙ append-nil (json_tokens json)) (once is))
+    once_is_unique json [] (subst (NamesOnce []) (value-json_tokens_back depth (tokens text) [] json read ∙ append-nil (json_tokens json)) (once is))
 
 pub more_names : (unique : Bool) (parts : List (List ℕ × Json)) (last : List ℕ × Json) → HaveNamesOnce unique (map (λ part. part.0) parts)
     → HasNamesOnce unique last.0 → HaveNamesOnce unique (map (λ part. part.0) (parts ++ last ∷ []))
@@ -125,8 +118,7 @@ module _ (depth : ℕ) (in_flow unique : Bool) (text : List ℕ) (was : WriterSt
       ∙ ap (λ (t : List ℕ). flat_map (λ part. part.0) so_far.parts ++ (first ++ t)) is
       ∙ ap (λ (t : List ℕ). flat_map (λ part. part.0) so_far.parts ++ t) cuts.0 ∙ so_far.joined
 
-  cut_now : (later : List (List ℕ)) → texts_in rest ≡ first ∷ later
-      → map (λ part. part.0) (so_far.parts ++ (first, one.json) ∷ []) ++ later ≡ texts_in text
+  cut_now : (later : List (List ℕ)) → texts_in rest ≡ first ∷ later → map (λ part. part.0) (so_far.parts ++ (first, one.json) ∷ []) ++ later ≡ texts_in text
   cut_now later is =
       ap (λ (texts : List (List ℕ)). texts ++ later) (map-append (λ (part : List ℕ × Json). part.0) so_far.parts ((first, one.json) ∷ []))
       ∙ append_assoc (map (λ part. part.0) so_far.parts) (first ∷ []) later
@@ -156,10 +148,8 @@ module _ (depth : ℕ) (in_flow unique : Bool) (text : List ℕ) (was : WriterSt
         cut = cut_now (texts_in more) (cut_more cuts some);
         each = each_done;
         names = names_done;
-        wrote = wrote_same was after (events_with_separators was.canonical in_flow so_far.parts ++ (events ++ between))
-            (events_with_separators was.canonical in_flow (so_far.parts ++ (first, one.json) ∷ [])) started_more
-            (wrote_then was now after (events_with_separators was.canonical in_flow so_far.parts) (events ++ between) so_far.wrote
-            (wrote_then now given after events between events_given next));
+        wrote = wrote_same was after _ _ started_more (wrote_then was now after (events_with_separators was.canonical in_flow so_far.parts) (events ++ between)
+            so_far.wrote (wrote_then now given after events between events_given next));
       }
 
   -- or the writer fails
@@ -192,10 +182,8 @@ module _ (depth : ℕ) (in_flow unique : Bool) (text : List ℕ) (was : WriterSt
 
   wrote_done : WasGiven was (parts_events was.canonical in_flow (so_far.parts ++ (first, one.json) ∷ [])) given
   wrote_done =
-      wrote_same was given (events_with_separators was.canonical in_flow so_far.parts ++ json_events was.canonical in_flow one.json)
-      (parts_events was.canonical in_flow (so_far.parts ++ (first, one.json) ∷ [])) (ends_with was.canonical in_flow so_far.parts (first, one.json))
-      (wrote_then was now given (events_with_separators was.canonical in_flow so_far.parts)
-      (json_events was.canonical in_flow one.json) so_far.wrote events_given)
+      wrote_same was given _ _ (ends_with was.canonical in_flow so_far.parts (first, one.json)) (wrote_then was now given
+      (events_with_separators was.canonical in_flow so_far.parts) (json_events was.canonical in_flow one.json) so_far.wrote events_given)
 
   pub texts_done : more ≡ [] → WroteTexts depth in_flow text was given
   texts_done none =
@@ -242,8 +230,7 @@ texts_stopped depth in_flow unique text was rest first more now later cuts so_fa
     let before = events_with_separators was.canonical in_flow so_far.parts in
     let events = tokens_events was.canonical in_flow stops.taken in
     let gave = gave_events_then was now later before events (gave_texts in_flow was now so_far.parts so_far.wrote)
-    (subst (λ (canonical : Bool). GaveEvents now (tokens_events canonical in_flow stops.taken) later) so_far.wrote.canonical
-    (given_by depth unique in_flow first now later stops)) in
+    (subst (λ (canonical : Bool). GaveEvents now (tokens_events canonical in_flow stops.taken) later) so_far.wrote.canonical (given_by _ _ _ _ _ _ stops)) in
     record {
       parts = so_far.parts;
       next = first;

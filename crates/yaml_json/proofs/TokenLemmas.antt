@@ -1,12 +1,10 @@
 -- The events of the tokens of a value are those of the value.
-use Rattle.yaml_json.specs.Failing.{events_with_separators}
+use Rattle.yaml_json.proofs.Common.{events_with_separators, between, levels_after, levels_after_event, ℕ, Bool, List, [], ◌++◌, ◌∷◌, refl, ◌≡◌, append_assoc}
+use Rattle.yaml_json.proofs.Common.{ap, ap₂, sym, ◌∙◌, flat_map-append, chars, Json, Items, array, Members, object, no_items, item, no_members, member, Token}
+use Rattle.yaml_json.proofs.Common.{json_tokens, items_tokens, members_tokens, Event, scalar, sequence_start, sequence_end, mapping_start, mapping_end}
+use Rattle.yaml_json.proofs.Common.{text_content, collection_in, json_events, items_events, members_events, token_events, tokens_events, CollectionKind}
+use Rattle.yaml_json.proofs.Common.{Mapping, Sequence}
 use Rattle.yaml_writer.proofs.OpenLevels.{levels_after-append, levels_after_end}
-use Rattle.yaml_writer.specs.WasGiven.{between, levels_after, levels_after_event}
-use Rattle.yaml_json.proofs.Common.{ℕ, Bool, List, [], ◌++◌, ◌∷◌, refl, ◌≡◌, append_assoc, ap, ap₂, sym, ◌∙◌, flat_map-append, chars, Json, Items, array}
-use Rattle.yaml_json.proofs.Common.{Members, object, no_items, item, no_members, member, Token, json_tokens, items_tokens, members_tokens, Event, scalar}
-use Rattle.yaml_json.proofs.Common.{sequence_start, sequence_end, mapping_start, mapping_end, text_content, collection_in, json_events, items_events}
-use Rattle.yaml_json.proofs.Common.{members_events, token_events, tokens_events}
-use Rattle.yaml_base.specs.declared.kinds.CollectionKind.{CollectionKind, TheVariants.Mapping, TheVariants.Sequence}
 
 pub some_then : (canonical in_flow : Bool) (first second : List Token)
     → tokens_events canonical in_flow (first ++ second) ≡ tokens_events canonical in_flow first ++ tokens_events canonical in_flow second

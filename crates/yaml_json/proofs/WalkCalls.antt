@@ -1,28 +1,23 @@
 -- The calls of a walk over the tokens of a text, by the calls of its writer and its lists.
 use Rattle.yaml_json.proofs.Common.{suc, ℕ, ◌-◌, ◌<◌, IfSome, OnOk, Result, Ok, Err, length, take, Bool, true, List, [], ◌++◌, ◌∷◌, refl, ◌≡◌, inl, inr, ap}
 use Rattle.yaml_json.proofs.Common.{sym, ◌∙◌, arith, chars, Event, scalar, Token, token_events, HoldsNames, AddsName, text_content, failure_of, IsScalar}
-use Rattle.yaml_json.proofs.Common.{opener, closer, KeepsNamesAfter, BeganValue, BeginFailed, RefusesToken, Refuses, append-nil, subst, Some, NamesOnce}
-use Rattle.yaml_json.proofs.Common.{IsBare, WroteEvent, start_event, WriterState, text_event, with_collection, GaveEvent, EndsInnermost, end_event}
-use Rattle.yaml_json.proofs.Reaching.{one_read}
-use Rattle.yaml_json.proofs.Refusing.{unrefused}
+use Rattle.yaml_json.proofs.Common.{opener, closer, KeepsNamesAfter, BeganValue, BeginFailed, RefusesToken, Refuses, append-nil, subst, Some, NamesOnce, IsBare}
+use Rattle.yaml_json.proofs.Common.{WroteEvent, start_event, WriterState, text_event, with_collection, GaveEvent, EndsInnermost, end_event, kept_then, Kept}
+use Rattle.yaml_json.proofs.Common.{Reader, IsByText, Spot, Stop, at, FailsAt, levels_after_event, Memory, yaml_error_t, CollectionKind, Mapping, Sequence}
+use Rattle.yaml_json.proofs.Common.{ReadsNone, StepFailed}
+use Rattle.yaml_json.proofs.{Reaching.one_read, Refusing.unrefused, Walking.longer}
 use Rattle.yaml_json.proofs.Stopping.{Answered, answered, if_some, kept_by_text, kept_unread}
-use Rattle.yaml_writer.proofs.AnswerLemmas.{answers_end, answers_event, answers_start, kept_memory, kept_then}
-use Rattle.yaml_json.proofs.Walking.{longer}
 use Rattle.yaml_json.proofs.KeepingNames.{keeps_closer, keeps_name, keeps_scalar, keeps_then}
 use Rattle.yaml_json.proofs.Stops.{first_stopped, first_unread, item_stopped, named_stopped, unread, unread_memory}
 use Rattle.yaml_json.proofs.Taking.{event_keeps, fails_event, gives_scalar, innermost_gone, opener_began, opener_failed, opener_without_memory, scalar_began}
-use Rattle.yaml_json.proofs.Taking.{scalar_failed, scalar_keeps, step_closes, step_item, step_member, step_no_item, step_no_member, step_unclosed}
-use Rattle.yaml_json.proofs.Taking.{step_unnamed, step_unread, step_without_memory}
-use Rattle.yaml_writer.proofs.Taken.{begins_ok, gives_ok}
-use Rattle.yaml_writer.proofs.GivenLemmas.{on_ok, text_is, wrote_event}
-use Rattle.yaml_json.specs.{Walk.IsInnermost, Failing.IsStopOf, Failing.Kept, Nests.IsNesting, Reached.Reader, Refused.IsByText, declared.names.Names.Names}
-use Rattle.yaml_json.specs.{declared.settings.JsonSettings.JsonSettings, declared.values.Nesting.Nesting, declared.values.Spot.Spot, declared.values.Stop.Stop}
-use Rattle.yaml_json.specs.{WalkSteps.FirstStep, WalkSteps.OnlyGiven, WalkSteps.TokenStep, WalkSteps.ValueGiven, WalkSteps.JsonWalk, WalkSteps.WalkStep}
-use Rattle.yaml_json.specs.{WalkSteps.at}
-use Rattle.yaml_writer.specs.{Answering.FailsAt, WasGiven.levels_after_event, Writing.Begins, Writing.Gives}
-use Rattle.yaml_base.specs.declared.{errors.yaml_error_t.TheVariants.Memory, errors.yaml_error_t.yaml_error_t, kinds.CollectionKind.CollectionKind}
-use Rattle.yaml_base.specs.declared.{kinds.CollectionKind.TheVariants.Mapping, kinds.CollectionKind.TheVariants.Sequence}
-use Rattle.yaml_json.specs.Walk.{GivesTaken as GivesTokens, LeavesNames, ReadsNone, StepFailed}
+use Rattle.yaml_json.proofs.Taking.{scalar_failed, scalar_keeps, step_closes, step_item, step_member, step_no_item, step_no_member, step_unclosed, step_unnamed}
+use Rattle.yaml_json.proofs.Taking.{step_unread, step_without_memory}
+use Rattle.yaml_json.specs.{Walk.IsInnermost, Walk.GivesTaken as GivesTokens, Walk.LeavesNames, Failing.IsStopOf, Nests.IsNesting, declared.names.Names.Names}
+use Rattle.yaml_json.specs.{declared.settings.JsonSettings.JsonSettings, declared.values.Nesting.Nesting}
+use Rattle.yaml_json.specs.WalkSteps.{FirstStep, OnlyGiven, TokenStep, ValueGiven, JsonWalk, WalkStep}
+use Rattle.yaml_writer.proofs.{Taken.begins_ok, Taken.gives_ok, GivenLemmas.on_ok, GivenLemmas.text_is, GivenLemmas.wrote_event}
+use Rattle.yaml_writer.proofs.AnswerLemmas.{answers_end, answers_event, answers_start, kept_memory}
+use Rattle.yaml_writer.specs.Writing.{Begins, Gives}
 use Rattle.yaml_json.specs.declared.values.Stop.TheVariants as stops
 
 -- ---- by their results
@@ -53,9 +48,7 @@ pub answered_scalar : (before after : WriterState) (given event : Event) → giv
     → (answer : Result (Unit {0}) yaml_error_t) (result : Result (Unit {0}) Stop) → IsStopOf answer result → Gives before given answer after
     → Answered (WroteEvent before event after) before event result after
 answered_scalar before after given event same keeps answer result answers gives =
-    answered (WroteEvent before event after) before after event answer result answers
-    (on_ok answer (wrote_event before after given event same) (gives_ok before after given answer gives))
-    (answers_event before after given event answer same keeps gives)
+    answered _ _ _ _ _ _ answers (on_ok _ (wrote_event before after _ _ same) (gives_ok _ _ _ _ gives)) (answers_event _ _ _ _ _ same keeps gives)
 
 pub scalar_step : {A : Type 0} (settings : JsonSettings) (token : Token) (event : Bool → Event) → IsScalar token
     → ((canonical : Bool) → token_events canonical settings.values.flow token ≡ event canonical ∷ []) → (nest : Nesting A)
@@ -63,12 +56,10 @@ pub scalar_step : {A : Type 0} (settings : JsonSettings) (token : Token) (event 
     → (answer : Result (Unit {0}) yaml_error_t) (result : Result (Unit {0}) Stop) → IsStopOf answer result → Gives before given answer after
     → TokenStep settings token (at nest before) result (at nest after)
 scalar_step settings token event is events nest fits before after given same answer result answers gives =
-    answered_step settings token (event before.canonical) (at nest before) (at nest after) result
-    (answered_scalar before after given (event before.canonical) same
-    (event_keeps settings.values.flow token event (scalar_keeps token is) events before.canonical before.levels) answer result answers gives)
+    answered_step settings token (event before.canonical) (at nest before) (at nest after) result (answered_scalar before after given (event before.canonical)
+    same (event_keeps settings.values.flow token event (scalar_keeps token is) events before.canonical before.levels) answer result answers gives)
     (scalar_began settings.values.depth settings.values.flow nest.kinds.items before after token event is events)
-    (scalar_failed settings.values.depth settings.values.flow nest.kinds.items before after token event is events) fits
-    (keeps_scalar token nest.names is)
+    (scalar_failed settings.values.depth settings.values.flow nest.kinds.items before after token event is events) fits (keeps_scalar token nest.names is)
 
 -- a collection begins, for which there is room
 pub opener_step : {A : Type 0} (settings : JsonSettings) (kind : CollectionKind) (before after : JsonWalk A)
@@ -79,12 +70,9 @@ pub opener_step : {A : Type 0} (settings : JsonSettings) (kind : CollectionKind)
 opener_step settings kind before after room opened fits names answer result answers begins =
     let event = start_event settings.values.flow kind in
     let levels = before.nest.kinds.items in
-    answered_step settings (opener kind) event before after result
-    (answered (GaveEvent (with_collection before.writer kind) event (Ok tt) after.writer) before.writer after.writer event answer result answers
-    (begins_ok kind before.writer after.writer event answer begins)
-    (answers_start settings.values.flow kind before.writer after.writer answer begins))
-    (opener_began settings.values.depth settings.values.flow levels before.writer after.writer after.nest.kinds.items kind room opened)
-    (opener_failed settings.values.depth settings.values.flow levels before.writer after.writer kind room) fits names
+    answered_step settings (opener kind) event before after result (answered _ _ _ _ _ _ answers (begins_ok kind before.writer _ _ _ begins)
+    (answers_start settings.values.flow kind _ _ _ begins)) (opener_began settings.values.depth settings.values.flow levels before.writer after.writer _ kind
+    room opened) (opener_failed settings.values.depth settings.values.flow levels before.writer after.writer kind room) fits names
 
 -- for which there is no memory
 pub opener_without_room : {A : Type 0} (settings : JsonSettings) (kind : CollectionKind) (nest later : Nesting A) (writer : WriterState)
@@ -103,13 +91,7 @@ pub refused_step : {A : Type 0} (settings : JsonSettings) (token : Token) (nest 
     → RefusesToken settings.values.depth nest.kinds.items token (stops.NotJson spot)
     → TokenStep settings token (at nest writer) (Err (stops.NotJson spot)) (at nest writer)
 refused_step settings token nest writer spot refused =
-    record {
-      refused = refused;
-      same = λ by_text. refl;
-      unmoved = λ sound. refl;
-      kept = kept_by_text writer (stops.NotJson spot) tt;
-      failed = tt;
-    }
+    record { refused = refused; same = λ by_text. refl; unmoved = λ sound. refl; kept = kept_by_text writer (stops.NotJson spot) tt; failed = tt }
 
 -- ---- the first token of a reader
 
@@ -129,8 +111,7 @@ module _ {A : Type 0} (settings : JsonSettings) (reader left : Reader) where
         same = step.same;
         unmoved = step.unmoved;
         kept = step.kept;
-        failed = if_some (failure_of stop)
-            (λ error failed. inr (record { token = token; after = left.ahead; first = first; failed = failed })) step.failed;
+        failed = if_some (failure_of stop) (λ error failed. inr (record { token = token; after = left.ahead; first = first; failed = failed })) step.failed;
       }
 
   -- there is none
@@ -156,12 +137,7 @@ module _ {A : Type 0} (settings : JsonSettings) (reader left : Reader) (before :
       (λ error. StepFailed settings.values.depth settings.values.flow reader.ahead before.nest.kinds.items before.writer error before.writer)
       → WalkStep settings reader before (Err stop) left (at nest before.writer)
   walk_refused stop by_text refuses failed =
-      record {
-        refused = λ also. refuses;
-        level = λ sound. refl;
-        kept = kept_by_text before.writer stop by_text;
-        failed = failed;
-      }
+      record { refused = λ also. refuses; level = λ sound. refl; kept = kept_by_text before.writer stop by_text; failed = failed }
 
   pub walk_without_memory : WalkStep settings reader before (Err (stops.Failed Memory)) left (at nest before.writer)
   walk_without_memory =
@@ -191,8 +167,7 @@ module _ {A : Type 0} (settings : JsonSettings) (reader left : Reader) (before a
       → after.nest.kinds.items ≡ take (length before.nest.kinds.items - 1) before.nest.kinds.items → LeavesNames before.nest.names after.nest.names
       → IsNesting settings.values.depth settings.unique_names after.nest
   left_fits kind is rest leaves =
-      let gone : length after.nest.kinds.items ≡ length outer =
-      ap length (innermost_gone before.nest.kinds.items outer after.nest.kinds.items kind is rest) in
+      let gone : length after.nest.kinds.items ≡ length outer = ap length (innermost_gone before.nest.kinds.items outer after.nest.kinds.items kind is rest) in
       let more : length before.nest.kinds.items ≡ suc (length outer) = ap length is ∙ longer outer kind in
       let deep = fits.0 in
       let as_many : after.nest.names.are_kept ≡ true → length after.nest.names.levels.items ≡ length after.nest.kinds.items =
@@ -208,8 +183,7 @@ module _ {A : Type 0} (settings : JsonSettings) (reader left : Reader) (before a
       → WalkStep settings reader before result left after
   walk_closed kind is first were rest leaves (Ok done) all =
       record {
-        stepped = step_closes settings.values.depth settings.values.flow reader.ahead before.nest.kinds.items outer kind is before.writer left.ahead
-            after.nest.kinds.items after.writer first rest all.done;
+        stepped = step_closes _ _ _ _ outer kind is _ _ _ _ first rest all.done;
         fits = left_fits kind is rest leaves;
         names = record { taken = closer kind ∷ []; parts = first; keeps = keeps_closer kind before.nest.names after.nest.names leaves };
         last = one_read reader left (closer kind) were first;
@@ -220,10 +194,8 @@ module _ {A : Type 0} (settings : JsonSettings) (reader left : Reader) (before a
         refused = λ by_text. absurd (all.never by_text);
         level = λ sound. ap (λ (w : WriterState). w.levels) (all.unmoved sound);
         kept = all.kept;
-        failed = if_some (failure_of stop)
-            (λ error. step_unclosed settings.values.depth settings.values.flow reader.ahead before.nest.kinds.items outer kind is before.writer left.ahead error
-            after.writer first)
-            all.failed;
+        failed = if_some (failure_of stop) (λ error. step_unclosed settings.values.depth settings.values.flow reader.ahead before.nest.kinds.items outer kind is
+            before.writer left.ahead error after.writer first) all.failed;
       }
 
   -- an item
@@ -232,8 +204,7 @@ module _ {A : Type 0} (settings : JsonSettings) (reader left : Reader) (before a
       → WalkStep settings reader before result left after
   walk_item is token isn't first were (Ok done) step =
       record {
-        stepped = step_item settings.values.depth settings.values.flow before.nest.kinds.items outer is token isn't before.writer reader.ahead left.ahead first
-            after.nest.kinds.items after.writer step.began;
+        stepped = step_item _ _ _ outer is _ isn't _ _ _ first _ _ step.began;
         fits = step.fits;
         names = record { taken = token ∷ []; parts = first; keeps = step.names };
         last = one_read reader left token were first;
@@ -241,14 +212,11 @@ module _ {A : Type 0} (settings : JsonSettings) (reader left : Reader) (before a
       }
   walk_item is token isn't first were (Err stop) step =
       record {
-        refused = λ by_text. item_stopped settings.values.depth settings.unique_names settings.values.flow before.nest.kinds.items outer before.nest.names fits.1
-            reader.ahead before.writer after.writer (step.same by_text) left.before were is token left.ahead first isn't stop step.refused;
+        refused = λ by_text. item_stopped _ _ _ _ outer _ fits.1 _ _ _ (step.same by_text) _ were is token left.ahead first isn't _ step.refused;
         level = λ sound. ap (λ (w : WriterState). w.levels) (step.unmoved sound);
         kept = step.kept;
-        failed = if_some (failure_of stop)
-            (λ error. step_no_item settings.values.depth settings.values.flow before.nest.kinds.items outer is token isn't before.writer reader.ahead left.ahead first
-            error after.writer)
-            step.failed;
+        failed = if_some (failure_of stop) (λ error. step_no_item settings.values.depth settings.values.flow before.nest.kinds.items outer is token isn't
+            before.writer reader.ahead left.ahead first error after.writer) step.failed;
       }
 
 -- the end of a collection
@@ -283,16 +251,12 @@ module _ {A : Type 0} (settings : JsonSettings) (reader middle left : Reader) (b
         refused = λ by_text. absurd (all.never by_text);
         level = λ sound. ap (λ (w : WriterState). w.levels) (all.unmoved sound);
         kept = all.kept;
-        failed = if_some (failure_of stop)
-            (λ error failed. step_unnamed settings.values.depth settings.values.flow before.nest.kinds.items outer is key before.writer reader.ahead middle.ahead
-            first error named
-            (fails_event settings.values.flow before.nest.kinds.items before.writer named (Token.key key) (λ k. key_event key) error (λ k. refl) failed))
-            all.failed;
+        failed = if_some _ (λ error failed. step_unnamed _ _ _ outer is key _ _ middle.ahead first _ _ (fails_event settings.values.flow before.nest.kinds.items
+            before.writer named (Token.key key) (λ k. key_event key) error (λ k. refl) failed)) all.failed;
       }
 
   -- and the value after it begins
-  module _ (same : later.are_kept ≡ before.nest.names.are_kept) (new : Bool)
-      (adds :
+  module _ (same : later.are_kept ≡ before.nest.names.are_kept) (new : Bool) (adds :
       (names : List (List ℕ)) → (more : List (List (List ℕ))) → HoldsNames (names ∷ more) before.nest.names → AddsName names more key new later)
       (fresh : new ≡ true) (wrote : WroteEvent before.writer (key_event key) named) (kept : Kept before.writer (Ok tt) named)
       (were : left.before ≡ middle.ahead) where
@@ -303,15 +267,13 @@ module _ {A : Type 0} (settings : JsonSettings) (reader middle left : Reader) (b
         → FirstStep settings middle (at (record before.nest { names = later }) named) result left after → WalkStep settings reader before result left after
     walk_member (Ok done) step =
         record {
-          stepped = step_member settings.values.depth settings.values.flow before.nest.kinds.items outer is key before.writer reader.ahead middle.ahead first named gave
-              left.ahead after.nest.kinds.items after.writer step.began;
+          stepped = step_member _ _ _ outer is key _ _ _ first _ gave _ _ _ step.began;
           fits = step.fits;
           names = record {
             taken = Token.key key ∷ step.names.taken;
             parts = first ∙ ap (λ (all : List Token). Token.key key ∷ all) step.names.parts;
-            keeps = keeps_then before.nest.names later after.nest.names (Token.key key ∷ []) step.names.taken
-                (keeps_name before.nest.kinds.items outer Mapping is settings.unique_names key before.nest.names later fits.1 same new adds fresh)
-                step.names.keeps;
+            keeps = keeps_then before.nest.names later after.nest.names (Token.key key ∷ []) step.names.taken (keeps_name before.nest.kinds.items outer Mapping
+                is settings.unique_names key before.nest.names later fits.1 same new adds fresh) step.names.keeps;
           };
           last = record {
             front = Token.key key ∷ [];
@@ -323,15 +285,12 @@ module _ {A : Type 0} (settings : JsonSettings) (reader middle left : Reader) (b
         }
     walk_member (Err stop) step =
         record {
-          refused = λ by_text. named_stopped settings.values.depth settings.unique_names settings.values.flow before.nest.kinds.items outer before.nest.names fits.1
-              reader.ahead before.writer after.writer is key middle.ahead first later same new adds named gave left.before were fresh (step.same by_text)
-              stop step.refused;
+          refused = λ by_text. named_stopped _ _ _ _ outer _ fits.1 _ _ _ is key _ first later same _ adds named gave _ were fresh (step.same by_text) _
+              step.refused;
           level = λ sound. ap (λ (w : WriterState). w.levels) (step.unmoved sound) ∙ wrote.levels;
           kept = kept_then before.writer named after.writer (Err stop) kept step.kept;
-          failed = if_some (failure_of stop)
-              (λ error. step_no_member settings.values.depth settings.values.flow before.nest.kinds.items outer is key before.writer reader.ahead middle.ahead first
-              named gave error after.writer)
-              step.failed;
+          failed = if_some (failure_of stop) (λ error. step_no_member settings.values.depth settings.values.flow before.nest.kinds.items outer is key
+              before.writer reader.ahead middle.ahead first named gave error after.writer) step.failed;
         }
 
 -- ---- a value
@@ -348,7 +307,6 @@ only_value settings reader left before after none given =
         wrote = given.written.wrote;
       };
       names = λ wanted. let once = given.names wanted in
-          subst (NamesOnce [])
-          (sym (append-nil once.0) ∙ ap (λ (rest : List Token). once.0 ++ rest) (sym none) ∙ once.1) once.2;
+          subst (NamesOnce []) (sym (append-nil once.0) ∙ ap (λ (rest : List Token). once.0 ++ rest) (sym none) ∙ once.1) once.2;
       kept = given.kept;
     }

@@ -1,15 +1,14 @@
 -- The walk over the tokens of a value: the grammar, with the collections that are open in a list.
-use Rattle.json.proofs.Unique.Spelling.{value-json_tokens_back}
-use Rattle.yaml_json.proofs.Common.{suc, zero, ℕ, ◌-◌, ◌<◌, ◌≤◌, option_and_then, Option, None, Some, length, Bool, true, List, [], ◌++◌, ◌∷◌, refl, ◌≡◌}
-use Rattle.yaml_json.proofs.Common.{append-nil, append_assoc, inl, inr, ap, subst, sym, ◌∙◌, arith, left, value_is, members_no_key, left_some, value-depth}
-use Rattle.yaml_json.proofs.Common.{Json, array, object, item, member, parse_map, after_end_array, read_key, value, skip_value, Token, json_tokens}
+use Rattle.yaml_json.proofs.Common.{value-json_tokens_back, suc, zero, ℕ, ◌-◌, ◌<◌, ◌≤◌, option_and_then, Option, None, Some, length, Bool, true, List, []}
+use Rattle.yaml_json.proofs.Common.{◌++◌, ◌∷◌, refl, ◌≡◌, append-nil, append_assoc, inl, inr, ap, subst, sym, ◌∙◌, arith, left, value_is, members_no_key}
+use Rattle.yaml_json.proofs.Common.{left_some, value-depth, Json, array, object, item, member, parse_map, after_end_array, read_key, value, skip_value, Token}
+use Rattle.yaml_json.proofs.Common.{json_tokens, CollectionKind, Mapping, Sequence, BeginsWithinDepth, NamesOnce, all_names_after, unwind, LeavesOpen, IsScalar}
+use Rattle.yaml_json.proofs.Common.{opener, closer}
 use Rattle.json.proofs.Grammar.{left-parse_map, value-begin_array, value-begin_object, read_key-shorter, items_end, items_fail, items_more, members_end}
 use Rattle.json.proofs.Grammar.{members_fail, members_more, skip_value-shorter}
-use Rattle.yaml_json.proofs.NameLemmas.{once_both, once_is_unique}
-use Rattle.yaml_base.specs.declared.kinds.CollectionKind.{CollectionKind, TheVariants.Mapping, TheVariants.Sequence}
-use Rattle.yaml_json.specs.{Begins.BeginsAllowed, Walk.skip_rest, Walk.LeavesOpenAt, Walk.BeginsValueBy}
 use Rattle.json.specs.{Json.items, Json.members, Reads.skip_items, Reads.skip_members}
-use Rattle.yaml_json.proofs.Common.{depth as nesting, BeginsWithinDepth, NamesOnce, all_names_after, unwind, LeavesOpen, IsScalar, opener, closer}
+use Rattle.yaml_json.proofs.{NameLemmas.once_both, NameLemmas.once_is_unique, Common.depth as nesting}
+use Rattle.yaml_json.specs.{Begins.BeginsAllowed, Walk.skip_rest, Walk.LeavesOpenAt, Walk.BeginsValueBy}
 
 -- ---- the number that bounds the turns plays no part
 
@@ -56,8 +55,7 @@ module _ (d : ℕ) where
         ∙ sym (members_more (value d) n key ts s r j (omega arith) e f)
 
   members_enough : (k m n : ℕ) (ts : List Token) → length ts ≤ m → length ts ≤ n → length ts ≤ k → members (value d) m ts ≡ members (value d) n ts
-  members_enough zero m n ts a b c =
-      members_turn zero m n ts a b c (λ k' r is x y z. let never : ⊥ = omega arith in absurd never) (read_key ts) refl
+  members_enough zero m n ts a b c = members_turn zero m n ts a b c (λ k' r is x y z. let never : ⊥ = omega arith in absurd never) (read_key ts) refl
   members_enough (suc k) m n ts a b c =
       members_turn (suc k) m n ts a b c
       (λ k' r is x y z. let same : k' ≡ k = omega arith in members_enough k (m - 1) (n - 1) r x y (omega arith))
@@ -102,8 +100,7 @@ unwind_inner depth [] kind found =
     let e : depth - 1 ≡ depth - 0 - 1 = omega arith in ap (λ d. option_and_then (skip_rest kind d) found) e
 unwind_inner depth (outer ∷ inner) kind found =
     let e : depth - 1 - length inner - 1 ≡ depth - length (outer ∷ inner) - 1 = omega arith in
-    ap (option_and_then (skip_rest outer (depth - 1)))
-    (unwind_inner (depth - 1) inner kind found
+    ap (option_and_then (skip_rest outer (depth - 1))) (unwind_inner (depth - 1) inner kind found
     ∙ ap (λ d. unwind (depth - 1) inner (option_and_then (skip_rest kind d) found)) e)
 
 pub longer : (levels : List CollectionKind) (kind : CollectionKind) → length (levels ++ kind ∷ []) ≡ suc (length levels)
@@ -148,10 +145,8 @@ scalar_taken d Token.null more is = ap left (value_is d (Token.null ∷ more))
 scalar_taken d _ more is = absurd is
 
 opener_taken : (kind : CollectionKind) (d : ℕ) (more : List Token) → 0 < d → skip_value d (opener kind ∷ more) ≡ skip_rest kind (d - 1) more
-opener_taken Sequence d more deep =
-    ap left (value-begin_array d more deep) ∙ left-parse_map array (items (value (d - 1)) (length more) more)
-opener_taken Mapping d more deep =
-    ap left (value-begin_object d more deep) ∙ left-parse_map object (members (value (d - 1)) (length more) more)
+opener_taken Sequence d more deep = ap left (value-begin_array d more deep) ∙ left-parse_map array (items (value (d - 1)) (length more) more)
+opener_taken Mapping d more deep = ap left (value-begin_object d more deep) ∙ left-parse_map object (members (value (d - 1)) (length more) more)
 
 -- a collection is too deep
 pub opener_too_deep : (kind : CollectionKind) (d : ℕ) (more : List Token) → d ≡ 0 → skip_value d (opener kind ∷ more) ≡ None
@@ -181,10 +176,8 @@ next_stands_at depth taken levels token now few awaits (inr (kind, is, deep, ope
 
 -- a collection closes
 closer_taken : (kind : CollectionKind) (d : ℕ) (more : List Token) → skip_rest kind d (closer kind ∷ more) ≡ Some more
-closer_taken Sequence d more =
-    ap left (items_end (value d) (length (Token.end_array ∷ more)) (Token.end_array ∷ more) more (omega arith) refl)
-closer_taken Mapping d more =
-    ap left (members_end (value d) (length (Token.end_object ∷ more)) (Token.end_object ∷ more) more (omega arith) refl)
+closer_taken Sequence d more = ap left (items_end (value d) (length (Token.end_array ∷ more)) (Token.end_array ∷ more) more (omega arith) refl)
+closer_taken Mapping d more = ap left (members_end (value d) (length (Token.end_object ∷ more)) (Token.end_object ∷ more) more (omega arith) refl)
 
 closed_at : (depth : ℕ) (taken : List Token) (levels : List CollectionKind) (kind : CollectionKind) → LeavesOpenAt depth taken (levels ++ kind ∷ [])
     → LeavesOpenAt depth (taken ++ closer kind ∷ []) levels
@@ -232,8 +225,7 @@ pub record Closes (depth : ℕ) (taken : List Token) : Type 0 where
   pub nameless : (names : List (List (List ℕ))) → NamesOnce names rest
 
 pub closes_value : (depth : ℕ) (taken : List Token) → Closes depth taken → BeginsWithinDepth depth taken
-closes_value depth taken closes =
-    record { json = closes.json; nested = closes.nested; begins = record { rest = closes.rest; parts = closes.parts } }
+closes_value depth taken closes = record { json = closes.json; nested = closes.nested; begins = record { rest = closes.rest; parts = closes.parts } }
 
 pub closes_allowed : (depth : ℕ) (unique : Bool) (taken : List Token) → Closes depth taken → (unique ≡ true → NamesOnce [] taken)
     → BeginsAllowed depth unique taken
@@ -242,8 +234,7 @@ closes_allowed depth unique taken closes once =
       json = closes.json;
       allowed = record {
         nested = closes.nested;
-        names = λ is. once_is_unique closes.json []
-            (subst (NamesOnce []) closes.parts
+        names = λ is. once_is_unique closes.json [] (subst (NamesOnce []) closes.parts
             (once_both [] taken closes.rest (once is) (closes.nameless (all_names_after [] taken))));
       };
       begins = record { rest = closes.rest; parts = closes.parts };
@@ -283,8 +274,7 @@ pub record Awaiting (depth : ℕ) (taken : List Token) (levels : List Collection
 
 -- the first value
 begins_nothing : (depth : ℕ) → Closes depth []
-begins_nothing depth =
-    record { json = Json.null; nested = omega arith; rest = Token.null ∷ []; parts = refl; nameless = λ names. (tt, tt) }
+begins_nothing depth = record { json = Json.null; nested = omega arith; rest = Token.null ∷ []; parts = refl; nameless = λ names. (tt, tt) }
 
 pub awaiting_whole : (depth : ℕ) (ahead : List Token) → Awaiting depth [] [] ahead
 awaiting_whole depth ahead =
@@ -361,5 +351,4 @@ pub next_stands : (depth : ℕ) (taken : List Token) (levels now : List Collecti
     → Awaiting depth taken levels (token ∷ after) → BeginsValueBy depth levels token now → LeavesOpen depth (taken ++ token ∷ []) now
 next_stands depth taken levels now token after place begins deep more =
     let few = place.few in
-    next_stands_at deep taken levels token now (omega (arith, few, more)) (place.awaits deep more)
-    (deeper_begins depth deep levels now token more begins)
+    next_stands_at deep taken levels token now (omega (arith, few, more)) (place.awaits deep more) (deeper_begins depth deep levels now token more begins)

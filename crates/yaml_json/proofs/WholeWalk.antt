@@ -1,18 +1,13 @@
 -- The whole walk over the tokens of a value.
-use Rattle.json.proofs.Unique.Spelling.{value-json_tokens_back}
-use Rattle.yaml_json.proofs.Taking.{open_levels, stood_nothing}
-use Rattle.yaml_json.proofs.KeepingNames.{NamesSoFar}
-use Rattle.yaml_json.proofs.Common.{ℕ, Bool, List, [], ◌++◌, ◌∷◌, refl, ◌≡◌, append-nil, append_assoc, inl, inr, ap, subst, sym, ◌∙◌, arith, ◌+◌, ◌≤◌, length}
-use Rattle.yaml_json.proofs.Common.{length-append, append_cancel_right, left_some, value, skip_value, Token, json_tokens, BeginsWithinDepth, tokens_events}
-use Rattle.yaml_json.proofs.Common.{LeavesOpen, KeepsNames, BeganFirstValue, FirstFailed, Refuses, WalkProgress, IsBare, WriterState, json_events}
-use Rattle.yaml_json.proofs.Stops.{gave_no_more, all_left}
-use Rattle.yaml_json.proofs.TokenLemmas.{value_given}
-use Rattle.yaml_writer.proofs.GivenLemmas.{leaves_same, wrote_same}
-use Rattle.yaml_writer.specs.WasGiven.{levels_after}
+use Rattle.yaml_json.proofs.Common.{value-json_tokens_back, ℕ, Bool, List, [], ◌++◌, ◌∷◌, refl, ◌≡◌, append-nil, append_assoc, inl, inr, ap, subst, sym, ◌∙◌}
+use Rattle.yaml_json.proofs.Common.{arith, ◌+◌, ◌≤◌, length, length-append, append_cancel_right, left_some, value, skip_value, Token, json_tokens}
+use Rattle.yaml_json.proofs.Common.{BeginsWithinDepth, tokens_events, LeavesOpen, KeepsNames, BeganFirstValue, FirstFailed, Refuses, WalkProgress, IsBare}
+use Rattle.yaml_json.proofs.Common.{WriterState, json_events, levels_after, GaveTokens, TextStopsWriting, StepFailed, Stop, yaml_error_t, Memory}
+use Rattle.yaml_json.proofs.Common.{CollectionKind}
+use Rattle.yaml_json.proofs.{Taking.open_levels, Taking.stood_nothing, KeepingNames.NamesSoFar, Stops.gave_no_more, Stops.all_left, TokenLemmas.value_given}
 use Rattle.yaml_json.proofs.Walking.{closes_value, value_begins, awaiting_whole, next_stands}
-use Rattle.yaml_json.specs.{Walk.IsInnermost, Walk.GaveTokens, Walk.TextStopsWriting, Walk.FailsGiving, Walk.WalkedOn, Walk.StepFailed, Failing.FailedInValue}
-use Rattle.yaml_json.specs.{Wrote.WroteValue, declared.names.Names.Names, declared.values.Stop.Stop}
-use Rattle.yaml_base.specs.declared.{errors.yaml_error_t.yaml_error_t, errors.yaml_error_t.TheVariants.Memory, kinds.CollectionKind.CollectionKind}
+use Rattle.yaml_json.specs.{Walk.IsInnermost, Walk.FailsGiving, Walk.WalkedOn, Failing.FailedInValue, Wrote.WroteValue, declared.names.Names.Names}
+use Rattle.yaml_writer.proofs.GivenLemmas.{leaves_same, wrote_same}
 
 no_first : (first more : List Token) → first ++ more ≡ [] → first ≡ []
 no_first [] more none = refl
@@ -50,18 +45,14 @@ module _ (depth : ℕ) (in_flow : Bool) (start : List Token) (was : WriterState)
   first_given error now bare token after first (inl memory) begins = nothing_given error now bare memory.0 memory.1
   first_given error now bare token after first (inr fails) begins = (
     token ∷ [],
-    (
-      record { left = after; parts = sym first; gave = fails was [] (stood_nothing in_flow was bare); unchanged = λ none. absurd (cc none) },
-      begins,
-    ),
+    (record { left = after; parts = sym first; gave = fails was [] (stood_nothing in_flow was bare); unchanged = λ none. absurd (cc none) }, begins),
   )
 
   pub first_failed : (error : yaml_error_t) (now : WriterState) → IsBare was → FirstFailed depth in_flow start [] was error now
       → FailedInValue depth in_flow start was error now
   first_failed error now bare (inl memory) = nothing_given error now bare memory.0 memory.1
   first_failed error now bare (inr failed) =
-      first_given error now bare failed.token failed.after failed.first failed.failed.fails
-      (value_begins depth (failed.token ∷ []) failed.failed.opened
+      first_given error now bare failed.token failed.after failed.first failed.failed.fails (value_begins depth (failed.token ∷ []) failed.failed.opened
       (next_stands depth [] [] failed.failed.opened failed.token failed.after (awaiting_whole depth (failed.token ∷ failed.after)) failed.failed.begins))
 
   module _ (ahead : List Token) (levels : List CollectionKind) (now : WriterState) (so_far : WalkProgress depth in_flow start was ahead levels now) where
@@ -77,8 +68,7 @@ module _ (depth : ℕ) (in_flow : Bool) (start : List Token) (was : WriterState)
         }
 
     -- within an open collection a token was taken
-    taken_within : (outer : List CollectionKind) (kind : CollectionKind) → levels ≡ outer ++ kind ∷ [] → (more : List Token)
-        → so_far.taken ++ more ≡ [] → ⊥
+    taken_within : (outer : List CollectionKind) (kind : CollectionKind) → levels ≡ outer ++ kind ∷ [] → (more : List Token) → so_far.taken ++ more ≡ [] → ⊥
     taken_within outer kind is more none =
         let first = no_first so_far.taken more none in
         let count : length was.levels ≡ length was.levels + length levels =
@@ -124,8 +114,7 @@ module _ (depth : ℕ) (in_flow : Bool) (start : List Token) (was : WriterState)
     innermost_open kind inner =
         record {
           outer = was.levels ++ inner.outer;
-          is = open_levels in_flow was now so_far.taken inner.outer kind
-              (subst (λ (all : List CollectionKind). GaveTokens in_flow was so_far.taken all now) inner.is so_far.stood);
+          is = open_levels _ _ _ _ _ _ (subst (λ (all : List CollectionKind). GaveTokens in_flow was so_far.taken all now) inner.is so_far.stood);
         }
 
     -- within an open collection more are open than before
@@ -149,7 +138,6 @@ module _ (depth : ℕ) (in_flow : Bool) (start : List Token) (was : WriterState)
         record {
           json = found.0;
           read = found.1;
-          wrote = wrote_same was now events (json_events was.canonical in_flow found.0)
-              (ap (tokens_events was.canonical in_flow) same ∙ value_given found.0 was.canonical in_flow)
-              (leaves_same was now events (levels_after events was.levels) was.levels (stood.opened ∙ append-nil was.levels) stood.gave);
+          wrote = wrote_same was now events (json_events was.canonical in_flow found.0) (ap (tokens_events was.canonical in_flow) same ∙ value_given found.0
+              was.canonical in_flow) (leaves_same _ _ _ _ _ (stood.opened ∙ append-nil was.levels) stood.gave);
         }

@@ -1,20 +1,17 @@
 -- Why a writer failed that was given the events of a text.
+use Rattle.yaml_json.proofs.Common.{value-json_tokens_back, ℕ, ◌<◌, Option, None, Some, Bool, List, [], ◌++◌, ◌⊎◌, refl, ◌≡◌, append-nil, append_assoc, inl}
+use Rattle.yaml_json.proofs.Common.{inr, ap, subst, most_open, Settings, RefusedAt, State, BeginsWithinDepth, FailedInText, json_events, tokens_events}
+use Rattle.yaml_json.proofs.Common.{WroteText, WriterState, opening, closing, IsNewWriter, Result, yaml_error_t, Memory, sym, ◌∙◌, arith, unwrap_or}
+use Rattle.yaml_json.proofs.Common.{value-depth, Json, value, tokens, Token, json_tokens, Event, IsPrefix}
 use Rattle.std.proofs.Math.Path.{subst₂}
-use Rattle.json.proofs.Unique.Spelling.{value-json_tokens_back}
-use Rattle.yaml_json.proofs.Common.{ℕ, ◌<◌, Option, None, Some, Bool, List, [], ◌++◌, ◌⊎◌, refl, ◌≡◌, append-nil, append_assoc, inl, inr, ap, subst, most_open}
-use Rattle.yaml_json.proofs.Common.{Settings, RefusedAt, State, BeginsWithinDepth, FailedInText, json_events, tokens_events, WroteText, WriterState, opening}
-use Rattle.yaml_json.proofs.Common.{closing, IsNewWriter, Result}
+use Rattle.yaml_json.proofs.{TokenLemmas.some_then, TokenLemmas.value_given, YamlOf.opened_events, Common.depth as nesting}
 use Rattle.yaml_json.proofs.Accepting.{json_accepted, never_passes, stream_of, stream_sound, tree_flat, tree_of}
-use Rattle.yaml_json.proofs.TokenLemmas.{some_then, value_given}
 use Rattle.yaml_json.specs.Failing.{JsonFailsBy, NestsPastMost, OverLimit}
-use Rattle.yaml_json.proofs.YamlOf.{opened_events}
 use Rattle.yaml_pen.specs.Page.{result_of_error}
-use Rattle.yaml_emitter.specs.Emits.{Emits}
+use Rattle.yaml_emitter.{specs.Emits.Emits, proofs.Common.IsRefusal, proofs.Common.StandsAfter, proofs.standing.StandingPromises.promises_refusal}
 use Rattle.yaml_writer.proofs.WhyFailed.{fails_by, first_passes, overflowed_more, refused_deeper, refused_depth, unfinished_deeper, unfinished_depth}
 use Rattle.yaml_writer.specs.Unfinished.{IsNoStream, IsUnfinished, PassesLimit}
-use Rattle.yaml_base.specs.declared.errors.yaml_error_t.{yaml_error_t, TheVariants.Memory, TheVariants.WriteError, TheVariants.TooDeep}
-use Rattle.yaml_emitter.proofs.{Common.IsRefusal, Common.StandsAfter, standing.StandingPromises.promises_refusal}
-use Rattle.yaml_json.proofs.Common.{sym, ◌∙◌, arith, unwrap_or, value-depth, Json, value, depth as nesting, tokens, Token, json_tokens, Event, IsPrefix}
+use Rattle.yaml_base.specs.declared.errors.yaml_error_t.TheVariants.{WriteError, TooDeep}
 
 -- a text is one value
 same_json : (a b : Json) → ◌≡◌ {A = Option (Json × List Token)} (Some (a, [])) (Some (b, [])) → a ≡ b
@@ -35,8 +32,7 @@ module _ (given : Settings) (in_flow : Bool) (depth : ℕ) (text : List ℕ) whe
   over_limit passes =
       record {
         passes = passes;
-        cut = λ json read fits uncut.
-            (subst (λ (events : List Event). PassesLimit given (opening ++ events ++ closing)) (text_given json read) passes).whole
+        cut = λ json read fits uncut. (subst (λ (events : List Event). PassesLimit given (opening ++ events ++ closing)) (text_given json read) passes).whole
             (json_accepted given.canonical in_flow json fits) uncut;
       }
 
@@ -46,8 +42,7 @@ module _ (given : Settings) (in_flow : Bool) (depth : ℕ) (text : List ℕ) whe
       (error : yaml_error_t) (is : state.error ≡ Some error) where
     all_events_given : (opening ++ events_of taken) ++ (events_of left ++ closing) ≡ opening ++ events_of (tokens text) ++ closing
     all_events_given =
-        ap (λ (events : List Event). opening ++ events)
-        (sym (append_assoc (events_of taken) (events_of left) closing)
+        ap (λ (events : List Event). opening ++ events) (sym (append_assoc (events_of taken) (events_of left) closing)
         ∙ ap (λ (events : List Event). events ++ closing)
         (sym (some_then given.canonical in_flow taken left) ∙ ap (tokens_events given.canonical in_flow) parts))
 
@@ -55,8 +50,7 @@ module _ (given : Settings) (in_flow : Bool) (depth : ℕ) (text : List ℕ) whe
     stream_begins json begins =
         record {
           rest = events_of begins.rest ++ closing;
-          parts = ap (λ (events : List Event). opening ++ events)
-              (sym (append_assoc (events_of taken) (events_of begins.rest) closing)
+          parts = ap (λ (events : List Event). opening ++ events) (sym (append_assoc (events_of taken) (events_of begins.rest) closing)
               ∙ ap (λ (events : List Event). events ++ closing)
               (sym (some_then given.canonical in_flow taken begins.rest) ∙ ap (tokens_events given.canonical in_flow) begins.parts
               ∙ value_given json given.canonical in_flow));
@@ -67,8 +61,7 @@ module _ (given : Settings) (in_flow : Bool) (depth : ℕ) (text : List ℕ) whe
 
     full : error ≡ WriteError → OverLimit given in_flow depth text
     full same =
-        over_limit
-        (subst (PassesLimit given) all_events_given
+        over_limit (subst (PassesLimit given) all_events_given
         (overflowed_more given (events_of left ++ closing) (opening ++ events_of taken) state stands.so (is ∙ ap (λ (e : yaml_error_t). Some e) same)))
 
     refused : IsRefusal error → RefusedAt given (opening ++ events_of taken) error state
@@ -86,10 +79,9 @@ module _ (given : Settings) (in_flow : Bool) (depth : ℕ) (text : List ℕ) whe
       deeper : most_open < nesting json
       deeper =
           let most = nesting json in
-          refused_deeper given (stream_of given.canonical in_flow json) (tree_of given.canonical in_flow json) (tree_flat given.canonical in_flow json)
-          (stream_sound given.canonical in_flow json) (opening ++ events_of taken) stream.rest stream.parts state error (refused refusal) most
-          (first_passes most (opening ++ events_of taken) stream.rest (stream_of given.canonical in_flow json) stream.parts
-          (never_passes given.canonical in_flow json most (omega arith)))
+          refused_deeper _ _ (tree_of given.canonical in_flow json) (tree_flat given.canonical in_flow json) (stream_sound given.canonical in_flow json) _
+          stream.rest stream.parts _ _ (refused refusal) most
+          (first_passes most (opening ++ events_of taken) stream.rest _ stream.parts (never_passes given.canonical in_flow json most (omega arith)))
 
     too_deep : BeginsWithinDepth depth taken → IsRefusal error → (error ≡ TooDeep) × ((most_open < depth) × NestsPastMost depth text)
     too_deep found refusal =
@@ -138,8 +130,7 @@ module _ (given : Settings) (in_flow : Bool) (depth : ℕ) (text : List ℕ) whe
 
       full_unfinished : error ≡ WriteError → OverLimit given in_flow depth text
       full_unfinished same =
-          over_limit
-          (subst (λ (events : List Event). PassesLimit given (opening ++ events ++ closing)) (sym (text_given wrote.json wrote.read))
+          over_limit (subst (λ (events : List Event). PassesLimit given (opening ++ events ++ closing)) (sym (text_given wrote.json wrote.read))
           (by_json (λ g all. PassesLimit g (all ++ closing)) (unfinished.full same)))
 
       not_accepted : IsRefusal error → (error ≡ TooDeep) × ((most_open < depth) × NestsPastMost depth text)
@@ -153,19 +144,15 @@ module _ (given : Settings) (in_flow : Bool) (depth : ℕ) (text : List ℕ) whe
           let deep = unfinished_deeper given all tree flat in_order error none most (never_passes given.canonical in_flow wrote.json most (omega arith)) in
           let fits = value-depth depth (tokens text) [] wrote.json wrote.read in (
             unfinished_depth given all tree flat in_order error none,
-            (
-              omega (arith, fits, deep),
-              λ json read. subst (λ (j : Json). most_open < nesting j) (same_json wrote.json json (sym wrote.read ∙ read)) deep,
-            ),
+            (omega (arith, fits, deep), λ json read. subst (λ (j : Json). most_open < nesting j) (same_json wrote.json json (sym wrote.read ∙ read)) deep),
           )
 
       by_error : (found : Option yaml_error_t) → now.emitter.error ≡ found → JsonFailsBy given in_flow depth text error
       by_error None none = fails_by depth (OverLimit given in_flow depth text) (NestsPastMost depth text) error full_unfinished not_accepted
       by_error (Some earlier) some =
-          failed_after (tokens text) [] (append-nil (tokens text)) now.emitter
-          (subst (λ (events : List Event). StandsAfter given (opening ++ events) now.emitter) (sym (text_given wrote.json wrote.read))
-          (by_json (λ g all. StandsAfter g all now.emitter) stands))
-          error (some ∙ ap (λ (e : yaml_error_t). Some e) (sym (unfinished.first earlier some))) whole
+          failed_after (tokens text) [] (append-nil (tokens text)) now.emitter (subst (λ (events : List Event). StandsAfter given (opening ++ events)
+          now.emitter) (sym (text_given wrote.json wrote.read)) (by_json (λ g all. StandsAfter g all now.emitter) stands)) error (some ∙ ap
+          (λ (e : yaml_error_t). Some e) (sym (unfinished.first earlier some))) whole
 
       pub finish_failed : JsonFailsBy given in_flow depth text error
       finish_failed = by_error now.emitter.error refl

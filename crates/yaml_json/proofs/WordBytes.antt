@@ -1,12 +1,10 @@
 -- A word that is a token has no quote.
-use Rattle.std.proofs.Common.{◌≡◌, ℕ, suc, ◌+◌, ◌-◌, Bool, true, false, cond, ◌||◌, ◌&&◌, ◌==◌, List, [], ◌∷◌, ◌++◌, drop, length, take, Option, Some, None}
-use Rattle.std.proofs.Common.{option_and_then, refl, sym, ap, ◌∙◌, subst, arith, nat_eq, append_assoc}
-use Rattle.json.specs.Token.{Token, bad, boolean, null, number}
-use Rattle.json.specs.Word.{after_digits, after_exponent, after_fraction, after_minus, after_number, after_sign, after_whole, ends_word, head, is_operator}
-use Rattle.json.specs.Word.{is_space, literal, number_before, word}
-use Rattle.std.proofs.lemmas.Bool.{true≢false, eqb-true, and_parts, Decides.nat_tests}
+use Rattle.yaml_json.proofs.Common.{◌≡◌, ℕ, suc, ◌+◌, ◌-◌, Bool, true, false, cond, ◌||◌, ◌&&◌, ◌==◌, List, [], ◌∷◌, ◌++◌, drop, length, take, Option, Some}
+use Rattle.yaml_json.proofs.Common.{None, option_and_then, refl, sym, ap, ◌∙◌, subst, arith, nat_eq, append_assoc, Token, bad, after_digits, after_exponent}
+use Rattle.yaml_json.proofs.Common.{after_fraction, after_minus, after_sign, after_whole, ends_word, head, is_operator, is_space, literal, number_before}
+use Rattle.yaml_json.proofs.Common.{true≢false, eqb-true, and_parts, nat_tests, is_ascii_digit, prefix_len, starts_with}
+use Rattle.json.specs.{Token.boolean, Token.null, Token.number, Word.after_number, Word.word}
 use Rattle.yaml_json.proofs.{LexSteps.value_is, WordSteps.chained, WordSteps.pick}
-use Rattle.std.specs.{Char.is_ascii_digit, List.prefix_len, List.starts_with}
 use Rattle.json.specs.Ascii as ascii
 
 abbrev NoQuote : ℕ → Type 0
@@ -93,20 +91,17 @@ fraction t rest =
 
 exponent : (t rest : List ℕ) → after_exponent t ≡ Some rest → Plainly t rest
 exponent t rest =
-    pick ((head t == 101) || (head t == 69)) (after_digits (after_sign (drop 1 t))) (Some t) rest
-    (λ letter e. goes_on t (drop 1 t) rest (one_byte t (letter_none (head t) letter))
-    (goes_on (drop 1 t) (after_sign (drop 1 t)) rest
-    (one_if ((head (drop 1 t) == 45) || (head (drop 1 t) == 43)) (drop 1 t) (sign_none (head (drop 1 t)))) (digits (after_sign (drop 1 t)) rest e)))
-    (λ e. left_is t t rest e (nowhere t))
+    pick ((head t == 101) || (head t == 69)) (after_digits (after_sign (drop 1 t))) (Some t) rest (λ letter e. goes_on t (drop 1 t) rest
+    (one_byte t (letter_none (head t) letter)) (goes_on (drop 1 t) (after_sign (drop 1 t)) rest (one_if ((head (drop 1 t) == 45) || (head (drop 1 t) == 43))
+    (drop 1 t) (sign_none (head (drop 1 t)))) (digits (after_sign (drop 1 t)) rest e))) (λ e. left_is t t rest e (nowhere t))
 
 number_plain : (t rest : List ℕ) → after_number t ≡ Some rest → Plainly t rest
 unfolding after_number
 number_plain t rest =
-    chained after_exponent (option_and_then after_fraction (after_whole (after_minus t))) rest
-    (λ power found last. chained after_fraction (after_whole (after_minus t)) power
-    (λ point first next. goes_on t (after_minus t) rest (one_if (head t == 45) t (value_is NoQuote (head t) 45 refl))
-    (goes_on (after_minus t) point rest (whole (after_minus t) point first)
-    (goes_on point power rest (fraction point power next) (exponent power rest last)))) found)
+    chained after_exponent (option_and_then after_fraction (after_whole (after_minus t))) rest (λ power found last. chained after_fraction
+    (after_whole (after_minus t)) power (λ point first next. goes_on t (after_minus t) rest (one_if (head t == 45) t (value_is NoQuote (head t) 45 refl))
+    (goes_on (after_minus t) point rest (whole (after_minus t) point first) (goes_on point power rest (fraction point power next) (exponent power rest last))))
+    found)
 
 -- ---- a word
 
@@ -156,9 +151,7 @@ good_word t good =
     let assent = literal ascii.true_text (boolean true) t in
     let later = cond (head t == ascii.lower_n) nothing numeric in
     let others = cond (head t == ascii.lower_f) denial later in
-    by_bit (head t == ascii.lower_t) assent others good
-    (λ is so. literal_free ascii.true_text t (boolean true) (refl, (refl, (refl, (refl, tt)))) so)
-    (λ so. by_bit (head t == ascii.lower_f) denial later so
-    (λ is then. literal_free ascii.false_text t (boolean false) (refl, (refl, (refl, (refl, (refl, tt))))) then)
-    (λ then. by_bit (head t == ascii.lower_n) nothing numeric then
-    (λ is now. literal_free ascii.null_text t null (refl, (refl, (refl, (refl, tt)))) now) (λ now. number_free t (after_number t) refl now)))
+    by_bit (head t == ascii.lower_t) assent others good (λ is so. literal_free ascii.true_text t (boolean true) (refl, (refl, (refl, (refl, tt)))) so) (λ so.
+    by_bit (head t == ascii.lower_f) denial later so (λ is then. literal_free ascii.false_text t (boolean false) (refl, (refl, (refl, (refl, (refl, tt)))))
+    then) (λ then. by_bit (head t == ascii.lower_n) nothing numeric then (λ is now. literal_free ascii.null_text t null (refl, (refl, (refl, (refl, tt)))) now)
+    (λ now. number_free t (after_number t) refl now)))

@@ -1,15 +1,11 @@
 -- The lexer's mode over a word: a number, or the name of a value.
-use Rattle.std.proofs.Common.{◌≡◌, ℕ, suc, ◌+◌, Bool, true, false, cond, ◌||◌, ◌==◌, List, [], ◌∷◌, ◌++◌, drop, length, Some, None, option_and_then, refl, sym}
-use Rattle.std.proofs.Common.{inl, inr, ap, ◌∙◌, subst, arith, nat_eq}
-use Rattle.std.proofs.lemmas.Bool.{true≢false, eqb-true, or_parts, and_parts}
-use Rattle.json.specs.Lex.{backslash, between, class, in_word, operator, other, quote, space}
-use Rattle.json.specs.Word.{after_digits, after_exponent, after_fraction, after_minus, after_number, after_sign, after_whole, ends_word, head, is_operator}
-use Rattle.json.specs.Word.{is_space}
-use Rattle.yaml_json.proofs.LexSteps.{value_is}
-use Rattle.yaml_json.proofs.ModeSteps.{goes_nowhere, goes_on}
+use Rattle.yaml_json.proofs.Common.{◌≡◌, ℕ, suc, ◌+◌, Bool, true, false, cond, ◌||◌, ◌==◌, List, [], ◌∷◌, ◌++◌, drop, length, Some, None, option_and_then, refl}
+use Rattle.yaml_json.proofs.Common.{sym, inl, inr, ap, ◌∙◌, subst, arith, nat_eq, true≢false, eqb-true, or_parts, and_parts, backslash, class, in_word}
+use Rattle.yaml_json.proofs.Common.{operator, other, quote, space, after_digits, after_exponent, after_fraction, after_minus, after_sign, after_whole}
+use Rattle.yaml_json.proofs.Common.{ends_word, head, is_operator, is_space, is_ascii_digit, prefix_len, starts_with, Leads, mode_after, mode_over}
+use Rattle.json.specs.{Lex.between, Word.after_number}
+use Rattle.yaml_json.{proofs.LexSteps.value_is, proofs.ModeSteps.goes_nowhere, proofs.ModeSteps.goes_on, specs.Lexemes.IsInWord, specs.Lexing.GoesOver}
 use Rattle.yaml_json.proofs.WordSteps.{Inner, chained, digit_inner, letter_inner, other_inner, pick, sign_inner}
-use Rattle.std.specs.{Char.is_ascii_digit, List.prefix_len, List.starts_with}
-use Rattle.yaml_json.specs.{Lexemes.IsInWord, Lexing.GoesOver, Lexing.Leads, Lexing.mode_after, Lexing.mode_over}
 use Rattle.json.specs.Ascii as ascii
 
 abbrev pub InWord : (text rest : List ℕ) → Type 0
@@ -69,30 +65,25 @@ digits t rest =
 
 whole : (t rest : List ℕ) → after_whole t ≡ Some rest → InWord t rest
 whole t rest =
-    pick (head t == 48) (Some (drop 1 t)) (after_digits t) rest
-    (λ zero e. left_goes t (drop 1 t) rest e (one_goes t (value_is Inner (head t) 48 refl zero)))
+    pick (head t == 48) (Some (drop 1 t)) (after_digits t) rest (λ zero e. left_goes t (drop 1 t) rest e (one_goes t (value_is Inner (head t) 48 refl zero)))
     (digits t rest)
 
 fraction : (t rest : List ℕ) → after_fraction t ≡ Some rest → InWord t rest
 fraction t rest =
     pick (head t == 46) (after_digits (drop 1 t)) (Some t) rest
-    (λ dot e. then_goes t (drop 1 t) rest (one_goes t (value_is Inner (head t) 46 refl dot)) (digits (drop 1 t) rest e))
-    (λ e. left_goes t t rest e (goes_nowhere in_word t))
+    (λ dot e. then_goes t (drop 1 t) rest (one_goes t (value_is Inner _ 46 refl dot)) (digits (drop 1 t) rest e)) (λ e. left_goes t t rest e (goes_nowhere _ t))
 
 exponent : (t rest : List ℕ) → after_exponent t ≡ Some rest → InWord t rest
 exponent t rest =
-    pick ((head t == 101) || (head t == 69)) (after_digits (after_sign (drop 1 t))) (Some t) rest
-    (λ letter e. then_goes t (drop 1 t) rest (one_goes t (letter_inner (head t) letter))
-    (then_goes (drop 1 t) (after_sign (drop 1 t)) rest
-    (goes_if ((head (drop 1 t) == 45) || (head (drop 1 t) == 43)) (drop 1 t) (sign_inner (head (drop 1 t)))) (digits (after_sign (drop 1 t)) rest e)))
-    (λ e. left_goes t t rest e (goes_nowhere in_word t))
+    pick ((head t == 101) || (head t == 69)) (after_digits (after_sign (drop 1 t))) (Some t) rest (λ letter e. then_goes t (drop 1 t) rest
+    (one_goes t (letter_inner (head t) letter)) (then_goes (drop 1 t) (after_sign (drop 1 t)) rest (goes_if ((head (drop 1 t) == 45) || (head (drop 1 t) == 43))
+    (drop 1 t) (sign_inner (head (drop 1 t)))) (digits (after_sign (drop 1 t)) rest e))) (λ e. left_goes t t rest e (goes_nowhere _ t))
 
 pub number_goes : (t rest : List ℕ) → after_number t ≡ Some rest → InWord t rest
 unfolding after_number
 number_goes t rest =
-    chained after_exponent (option_and_then after_fraction (after_whole (after_minus t))) rest
-    (λ power found last. chained after_fraction (after_whole (after_minus t)) power
-    (λ point first next. then_goes t (after_minus t) rest (goes_if (head t == 45) t (value_is Inner (head t) 45 refl))
+    chained after_exponent (option_and_then after_fraction (after_whole (after_minus t))) rest (λ power found last. chained after_fraction
+    (after_whole (after_minus t)) power (λ point first next. then_goes t (after_minus t) rest (goes_if (head t == 45) t (value_is Inner (head t) 45 refl))
     (then_goes (after_minus t) point rest (whole (after_minus t) point first)
     (then_goes point power rest (fraction point power next) (exponent power rest last)))) found)
 

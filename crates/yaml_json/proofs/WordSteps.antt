@@ -1,14 +1,12 @@
 -- The lexer over a word: a number, or the name of a value.
-use Rattle.std.proofs.Common.{◌≡◌, ℕ, suc, ◌+◌, Bool, true, false, cond, ◌||◌, ◌==◌, List, [], ◌∷◌, drop, length, Option, Some, None, option_and_then, refl}
-use Rattle.std.proofs.Common.{ap, sym, ◌∙◌, ◌&&◌, ◌-◌, subst, arith, nat_eq, take, length-drop}
-use Rattle.json.specs.Lex.{backslash, between, class, in_word, lex, operator, other, quote, space}
-use Rattle.json.specs.Word.{after_digits, after_exponent, after_fraction, after_minus, after_number, after_sign, after_whole, ends_word, head, is_operator}
-use Rattle.json.specs.Word.{is_space, literal, number_before, word}
-use Rattle.json.specs.Token.{Token, bad, boolean, null, number}
+use Rattle.yaml_json.proofs.Common.{◌≡◌, ℕ, suc, ◌+◌, Bool, true, false, cond, ◌||◌, ◌==◌, List, [], ◌∷◌, drop, length, Option, Some, None, option_and_then}
+use Rattle.yaml_json.proofs.Common.{refl, ap, sym, ◌∙◌, ◌&&◌, ◌-◌, subst, arith, nat_eq, take, length-drop, backslash, class, in_word, lex, operator, other}
+use Rattle.yaml_json.proofs.Common.{quote, space, after_digits, after_exponent, after_fraction, after_minus, after_sign, after_whole, ends_word, head}
+use Rattle.yaml_json.proofs.Common.{is_operator, is_space, literal, number_before, Token, bad, true≢false, eqb-true, ne_eqb, or_parts, and_parts, nat_tests}
+use Rattle.yaml_json.proofs.Common.{is_ascii_digit, prefix_len, starts_with}
+use Rattle.json.specs.{Lex.between, Word.after_number, Word.word, Token.boolean, Token.null, Token.number}
 use Rattle.yaml_json.specs.Lexemes.{IsInWord, LeavesAt}
 use Rattle.yaml_json.proofs.LexSteps.{lex-delimiter, lex-in_word, lex-none, value_is}
-use Rattle.std.proofs.lemmas.Bool.{true≢false, eqb-true, ne_eqb, or_parts, and_parts, Decides.nat_tests}
-use Rattle.std.specs.{Char.is_ascii_digit, List.prefix_len, List.starts_with}
 use Rattle.json.specs.Ascii as ascii
 
 -- a word goes on over the byte
@@ -93,13 +91,11 @@ whole t rest =
 
 fraction : (t rest : List ℕ) → after_fraction t ≡ Some rest → lex in_word rest ≡ lex in_word t
 fraction t rest =
-    pick (head t == 46) (after_digits (drop 1 t)) (Some t) rest (λ dot e. digits (drop 1 t) rest e ∙ one_over t (value_is Inner (head t) 46 refl dot))
-    (left_is t rest)
+    pick (head t == 46) (after_digits (drop 1 t)) (Some t) rest (λ dot e. digits (drop 1 t) rest e ∙ one_over t (value_is Inner _ 46 refl dot)) (left_is t rest)
 
 exponent : (t rest : List ℕ) → after_exponent t ≡ Some rest → lex in_word rest ≡ lex in_word t
 exponent t rest =
-    pick ((head t == 101) || (head t == 69)) (after_digits (after_sign (drop 1 t))) (Some t) rest
-    (λ letter e. digits (after_sign (drop 1 t)) rest e
+    pick ((head t == 101) || (head t == 69)) (after_digits (after_sign (drop 1 t))) (Some t) rest (λ letter e. digits (after_sign (drop 1 t)) rest e
     ∙ over_if ((head (drop 1 t) == 45) || (head (drop 1 t) == 43)) (drop 1 t) (sign_inner (head (drop 1 t))) ∙ one_over t (letter_inner (head t) letter))
     (left_is t rest)
 
@@ -135,7 +131,6 @@ number_read t run left end leaves ends same is =
 -- A word that names no value is a number, or no token.
 pub number_word : (t : List ℕ) → (head t ≡ 116 → ⊥) → (head t ≡ 102 → ⊥) → (head t ≡ 110 → ⊥) → word t ≡ number_before t (after_number t)
 unfolding word
-number_word t no_true no_false no_null = λ i.
-    cond (ne_eqb (head t) 116 no_true i) (literal ascii.true_text (boolean true) t)
-    (cond (ne_eqb (head t) 102 no_false i) (literal ascii.false_text (boolean false) t)
+number_word t no_true no_false no_null = λ i. cond (ne_eqb (head t) 116 no_true i) (literal ascii.true_text (boolean true) t) (cond
+    (ne_eqb (head t) 102 no_false i) (literal ascii.false_text (boolean false) t)
     (cond (ne_eqb (head t) 110 no_null i) (literal ascii.null_text null t) (number_before t (after_number t))))

@@ -3,8 +3,7 @@ use Rattle.yaml_json.proofs.Common.{ℕ, flat_map, Some, Bool, true, List, [], �
 use Rattle.yaml_json.proofs.Common.{list_all, Json, value, tokens, HasNumbers, Event, has_scalar_texts, Settings, json_events, WasGiven, WroteText, AreJson}
 use Rattle.yaml_json.proofs.Common.{parts_events, ReadsTexts, WriterState, opening, closing, IsNewWriter}
 use Rattle.json.proofs.Numbered.{ArePrintableOrBad-tokens, value-HasNumbers}
-use Rattle.yaml_json.proofs.JsonReads.{HaveNumbers, reads_as_values, reads_as_json}
-use Rattle.yaml_json.proofs.Trees.{values_of}
+use Rattle.yaml_json.proofs.{JsonReads.HaveNumbers, JsonReads.reads_as_values, JsonReads.reads_as_json, Trees.values_of}
 use Rattle.yaml_json.specs.Wrote.{IsYamlOfTexts, IsYamlOf}
 use Rattle.yaml_emitter.specs.State.{bytes_taken}
 use Rattle.yaml_writer.specs.{WasGiven.EmitsTaking, Writing.Finishes}
@@ -47,8 +46,7 @@ yaml_of given in_flow depth text bytes first filled new wrote scalars finishes =
       stream = stream;
       reads = reads_as_json given in_flow text wrote.json bytes numbers texts stream.accepted whole;
       reads_with_either_breaks = λ portable breaks12. reads_as_json (record given { breaks12 = breaks12 }) in_flow text wrote.json bytes
-          numbers texts stream.accepted
-          (whole_by_either given breaks12 (events ++ closing) bytes portable whole);
+          numbers texts stream.accepted (whole_by_either given breaks12 (events ++ closing) bytes portable whole);
     }
 
 -- Several texts

@@ -7,14 +7,6 @@ returns-in-None c =
     let less : c.pass_bytes-next.result.scanned < length text = grind arith in
     one_cut text c.pass_bytes-next.result c.pass_bytes-next.ensures.scanned less (grind arith)
 
-pub bytes-smaller : goal.bytes-smaller
-bytes-smaller c =
-    let text = c.args.text.now in
-    let less : c.pass_bytes-next.result.scanned < length text = grind arith in
-    let vectors = c.pass_vectors.ensures.further in
-    let further = c.pass_bytes-next.ensures.further in
-    omega (arith, less, vectors, further)
-
 pub bytes-preserved : goal.bytes-preserved
 bytes-preserved c =
     let text = c.args.text.now in

@@ -2,10 +2,6 @@ use Rattle.yaml_json.proofs.Common.{ℕ, length, take, List, ◌≡◌, subst, s
 use Rattle.yaml_json.proofs.Cutting.{cuts_first, may_cut, whole_first}
 use Rattle.yaml_json.proofs.cuts.first_cut.Goals as goal
 
-pub split_at-requires : goal.split_at-requires
-split_at-requires c =
-    may_cut c.args.text.now c.in-Some.end (subst (λ (t : List ℕ). CutsAt t c.in-Some.end) c.as_bytes.ensures.value c.in-Some.ensures)
-
 pub returns-in-Some : goal.returns-in-Some
 returns-in-Some c =
     let text = c.args.text.now in

@@ -13,20 +13,12 @@ bounds-text-at c =
 pub returns-then-not-is_inside-clause-scanned : goal.returns-then-not-is_inside-clause-scanned
 returns-then-not-is_inside-clause-scanned c =
     let some : 0 < c.specials.left = omega arith in
-    special_passed c.args.text.now c.args.cut.scanned c.specials.scan c.specials.left c.specials.invariant c.requires.room some
-    c.inside-scan.result c.inside-scan.ensures
-
-pub specials-smaller : goal.specials-smaller
-specials-smaller c =
-    let some : 0 < c.specials.left = omega arith in
-    others_fewer c.args.text.now c.args.cut.scanned c.specials.scan c.specials.left c.specials.invariant c.requires.room some
+    special_passed _ _ _ _ c.specials.invariant c.requires.room some _ c.inside-scan.ensures
 
 pub specials-preserved : goal.specials-preserved
 specials-preserved c =
     let some : 0 < c.specials.left = omega arith in
-    left_others c.args.text.now c.args.cut.scanned c.specials.scan c.specials.left c.specials.invariant c.requires.room some
-    c.inside-scan.result c.inside-scan.ensures (c.is_inside.ensures.0 c.if-not-is_inside.false)
+    left_others _ _ _ _ c.specials.invariant c.requires.room some _ c.inside-scan.ensures (c.is_inside.ensures.0 c.if-not-is_inside.false)
 
 pub returns-clause-scanned : goal.returns-clause-scanned
-returns-clause-scanned c =
-    left_none c.args.text.now c.args.cut.scanned c.specials.scan c.specials.left c.specials.invariant c.requires.room (omega arith)
+returns-clause-scanned c = left_none c.args.text.now c.args.cut.scanned c.specials.scan c.specials.left c.specials.invariant c.requires.room (omega arith)

@@ -19,6 +19,5 @@ returns-clause-value c =
     let t = c.args.text.now in
     let high = c.in_ok-high.ensures.value in
     let low = c.in_ok-low.ensures.value in
-    sym
-    (unit_of_four t (omega arith)
+    sym (unit_of_four t (omega arith)
     ∙ unit_of_bytes (get_or t 0 0) (get_or t 1 0) (get_or t 2 0) (get_or t 3 0) c.in_ok-high.high c.in_ok-low.low high.0 high.1 low.0 low.1 high.2 low.2)

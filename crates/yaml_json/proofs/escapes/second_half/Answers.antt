@@ -1,6 +1,5 @@
-use Rattle.std.proofs.Common.{◌<◌, drop, get_or, List, ℕ, ap, subst, sym, ◌∙◌, arith}
-use Rattle.std.proofs.lemmas.List.{get_or-drop}
-use Rattle.yaml_json.specs.Lexemes.{IsSecondHalf, first_unit}
+use Rattle.yaml_json.proofs.Common.{◌<◌, drop, get_or, List, ℕ, ap, subst, sym, ◌∙◌, arith, get_or-drop, first_unit}
+use Rattle.yaml_json.specs.Lexemes.{IsSecondHalf}
 use Rattle.yaml_json.proofs.ContentSteps.{is_low, low_bounds, low_half, no_escape, no_half, no_half_unit, no_low, no_low_half, rest_is}
 use Rattle.yaml_json.proofs.escapes.second_half.Goals as goal
 

@@ -13,9 +13,8 @@ returns-in_err-unit c =
 pub returns-in_err-character : goal.returns-in_err-character
 returns-in_err-character c =
     let unit = c.in_ok-unit.unit in
-    subst (Unescapes after_u c.args.text.now) (sym c.from_residual-in_err-character.ensures)
-    (low_spelled c.args.text.now unit (sym c.in_ok-unit.ensures.value) (no_high unit c.if-unit.true)
-    (low_alone unit c.if-unit.true c.in_ok-unit.ensures.bounds.0 c.in_err-character.ensures.cases))
+    subst (Unescapes after_u c.args.text.now) (sym c.from_residual-in_err-character.ensures) (low_spelled c.args.text.now unit (sym c.in_ok-unit.ensures.value)
+    (no_high unit c.if-unit.true) (low_alone unit c.if-unit.true c.in_ok-unit.ensures.bounds.0 c.in_err-character.ensures.cases))
 
 pub returns-then-unit : goal.returns-then-unit
 returns-then-unit c =
@@ -44,5 +43,4 @@ returns c =
     let low = c.in_ok-low.low in
     let half = (subst (λ (rest : List ℕ). IsSecondHalf rest (Some low)) (rest_is t 4) c.in_ok-low.ensures.half).0 unit in
     let high = high_spelled t unit (sym c.in_ok-unit.ensures.value) (is_high unit c.if-unit.false) in
-    subst (λ character. Unescapes after_u t (Some (character, 10))) (sym c.in_ok-character-2.ensures.value.1)
-    (escape_later after_u (after_high unit) t 4 (65536 + (unit - 55296) * 1024 + (low - 56320)) 6 high half)
+    subst (λ character. Unescapes after_u t (Some (character, 10))) (sym c.in_ok-character-2.ensures.value.1) (escape_later _ _ t 4 _ 6 high half)

@@ -1,9 +1,8 @@
-use Rattle.std.proofs.Common.{◌≡◌, ◌+◌, ◌-◌, ◌<◌, ◌++◌, None, Some, drop, get_or, length, List, ℕ, subst, sym, ap, ◌∙◌, arith}
-use Rattle.json.specs.Text.{after_backslash, content, plain, prepend}
-use Rattle.yaml_json.specs.Lexemes.{ArePlain, Unescapes}
+use Rattle.yaml_json.proofs.Common.{◌≡◌, ◌+◌, ◌-◌, ◌<◌, ◌++◌, None, Some, drop, get_or, length, List, ℕ, subst, sym, ap, ◌∙◌, arith, after_backslash, content}
+use Rattle.yaml_json.proofs.Common.{prepend, ArePlain, Unescapes, IsCharBoundary, string_bytes, encode_utf8, get_or-drop, length-drop}
+use Rattle.yaml_json.proofs.Common.{IsCharBoundary-after_ascii}
+use Rattle.json.specs.Text.{plain}
 use Rattle.yaml_json.proofs.ContentSteps.{closes_here, content-control, escape_more, none_at_end, none_more, past_backslash, rest_is, run_more}
-use Rattle.std.specs.{Str.IsCharBoundary, String.string_bytes, Char.encode_utf8}
-use Rattle.std.proofs.lemmas.{List.get_or-drop, List.length-drop, Str.IsCharBoundary-after_ascii}
 use Rattle.yaml_json.proofs.escapes.unescape.Goals as goal
 
 pub returns-then-stop-bytes : goal.returns-then-stop-bytes

@@ -1,6 +1,5 @@
-use Rattle.std.proofs.Common.{◌≡◌, ◌-◌, drop, length}
-use Rattle.json.specs.Text.{content, plain, prepend}
-use Rattle.std.specs.{Str.IsCharBoundary, String.string_bytes}
+use Rattle.yaml_json.proofs.Common.{◌≡◌, ◌-◌, drop, length, content, prepend, IsCharBoundary, string_bytes}
+use Rattle.json.specs.Text.{plain}
 use Rattle.yaml_json.proofs.escapes.unescape.Given as goal
 
 abbrev pub invariant-runs : goal.invariant-runs

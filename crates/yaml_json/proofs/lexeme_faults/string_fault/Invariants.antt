@@ -1,5 +1,4 @@
-use Rattle.std.proofs.Common.{◌≡◌, ◌-◌, ◌≤◌, drop, length}
-use Rattle.yaml_json.specs.Faults.{content_fault}
+use Rattle.yaml_json.proofs.Common.{◌≡◌, ◌-◌, ◌≤◌, drop, length, content_fault}
 use Rattle.yaml_json.proofs.lexeme_faults.string_fault.Given as goal
 
 abbrev pub invariant-characters : goal.invariant-characters

@@ -1,7 +1,5 @@
-use Rattle.std.proofs.Common.{◌≡◌, ◌+◌, ◌==◌, if◌then◌else◌, Option, None, drop, subst, sym, ap, ◌∙◌}
-use Rattle.std.proofs.lemmas.List.{drop-drop}
-use Rattle.json.specs.Word.{head}
-use Rattle.yaml_json.specs.Faults.{Fault, FaultsAt, begins_number, content_fault, number_fault, value_fault}
+use Rattle.yaml_json.proofs.Common.{◌≡◌, ◌+◌, ◌==◌, if◌then◌else◌, Option, None, drop, subst, sym, ap, ◌∙◌, drop-drop, head, Fault, FaultsAt, content_fault}
+use Rattle.yaml_json.specs.Faults.{begins_number, number_fault, value_fault}
 use Rattle.yaml_json.proofs.lexeme_faults.value_fault.Goals as goal
 
 pub returns-then-byte-eq34 : goal.returns-then-byte-eq34

@@ -1,10 +1,9 @@
-use Rattle.std.proofs.Common.{◌≡◌, refl, subst, ◌+◌, ◌<◌, drop, eqb, get_or, length, sym, ap, ◌∙◌, arith}
-use Rattle.json.specs.Lex.{between, in_string, lex}
-use Rattle.yaml_json.specs.Lexing.{LeadsFrom}
+use Rattle.yaml_json.proofs.Common.{◌≡◌, refl, subst, ◌+◌, ◌<◌, drop, eqb, get_or, length, sym, ap, ◌∙◌, arith, in_string, lex, LeadsFrom, ne_eqb, drop_all}
+use Rattle.yaml_json.proofs.Common.{IsCharBoundary-after_ascii}
+use Rattle.json.specs.Lex.{between}
 use Rattle.yaml_json.proofs.ModeSteps.{WithinString, string_begins, string_closed, string_cut, plain_passed, escape_passed}
 use Rattle.yaml_json.proofs.LexSteps.{quote_at, string_at, escape_at, lex-none}
 use Rattle.yaml_json.proofs.lexemes.after_string.Goals.{then-byte-eq92, else-byte-eq92}
-use Rattle.std.proofs.lemmas.{Bool.ne_eqb, List.drop_all, Str.IsCharBoundary-after_ascii}
 use Rattle.yaml_json.proofs.lexemes.after_string.Goals as goal
 
 pub range_from-requires : goal.range_from-requires
@@ -31,9 +30,6 @@ returns-then-byte-eq34-clause-over c =
     let quote : get_or d at 0 ≡ 34 = ap (λ t. get_or t at 0) (sym same) ∙ c.if-byte-eq34.true in
     subst (LeadsFrom in_string (drop c.args.from d)) (sym c.range_from.ensures.value)
     (string_closed d c.args.from at (omega (arith, ap length same)) quote c.bytes.invariant.1)
-
-pub bytes-init : goal.bytes-init
-bytes-init c = (refl, string_begins c.args.text.now c.args.from)
 
 pub bytes-preserved : goal.bytes-preserved
 bytes-preserved c =
@@ -64,12 +60,3 @@ returns-clause-same c =
     ap (lex between) c.range_from-2.ensures.value
     ∙ ap (lex between) (drop_all (length c.as_bytes-bytes.result.now) d (omega (arith, ap length same))) ∙ lex-none between
     ∙ sym (ap (lex in_string) (drop_all at d (omega (arith, ap length same))) ∙ lex-none in_string) ∙ c.bytes.invariant.0
-
-pub returns-clause-over : goal.returns-clause-over
-returns-clause-over c =
-    let d = c.args.text.now in
-    let at = c.bytes.at in
-    let same = c.as_bytes-bytes.ensures.value in
-    string_cut d c.range_from-2.result.now c.args.from at (omega (arith, ap length same))
-    (c.range_from-2.ensures.value ∙ drop_all (length c.as_bytes-bytes.result.now) d (omega (arith, ap length same)))
-    c.bytes.invariant.1

@@ -1,5 +1,4 @@
-use Rattle.std.proofs.Common.{◌≡◌, ◌-◌, drop, length}
-use Rattle.json.specs.Lex.{in_string, lex}
+use Rattle.yaml_json.proofs.Common.{◌≡◌, ◌-◌, drop, length, in_string, lex}
 use Rattle.yaml_json.proofs.ModeSteps.{WithinString}
 use Rattle.yaml_json.proofs.lexemes.after_string.Given as goal
 

@@ -3,9 +3,7 @@ use Rattle.yaml_json.proofs.Lanes.{vector_plain, vector_stops}
 use Rattle.yaml_json.proofs.lexemes.plain_end.Goals as goal
 
 pub returns-then-found-ne0 : goal.returns-then-found-ne0
-returns-then-found-ne0 c =
-    vector_stops c.args.text.now c.args.from c.vectors.at c.stops-found.result (omega arith) (omega arith)
-    c.vectors.invariant.2 c.stops-found.ensures (omega arith)
+returns-then-found-ne0 c = vector_stops _ _ _ _ (omega arith) (omega arith) c.vectors.invariant.2 c.stops-found.ensures (omega arith)
 
 pub vectors-preserved : goal.vectors-preserved
 vectors-preserved c = (

@@ -1,5 +1,4 @@
-use Rattle.std.proofs.Common.{◌≡◌, ℕ, ◌-◌, ◌<◌, ◌≤◌, false, get_or, length}
-use Rattle.yaml_json.specs.Lexemes.{is_stop}
+use Rattle.yaml_json.proofs.Common.{◌≡◌, ℕ, ◌-◌, ◌<◌, ◌≤◌, false, get_or, length, is_stop}
 use Rattle.yaml_json.proofs.lexemes.plain_end.Given as goal
 
 abbrev pub invariant-vectors : goal.invariant-vectors

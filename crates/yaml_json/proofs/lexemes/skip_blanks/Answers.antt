@@ -1,9 +1,7 @@
-use Rattle.std.proofs.Common.{List, ℕ, subst, ◌≡◌, ◌<◌, drop, ◌+◌, true, get_or, length, refl, sym, ap, ◌∙◌, arith}
-use Rattle.std.proofs.lemmas.Str.{IsCharBoundary-start, IsCharBoundary-after_ascii}
-use Rattle.json.specs.Word.{is_space}
-use Rattle.yaml_json.specs.Lexing.{Leads}
-use Rattle.yaml_json.proofs.LexSteps.{each_space, blank_at}
-use Rattle.yaml_json.proofs.ModeSteps.{leads_nowhere, leads_on, leads_past_blank}
+use Rattle.yaml_json.proofs.Common.{List, ℕ, subst, ◌≡◌, ◌<◌, drop, ◌+◌, true, get_or, length, refl, sym, ap, ◌∙◌, arith, IsCharBoundary-after_ascii, is_space}
+use Rattle.yaml_json.proofs.Common.{Leads}
+use Rattle.std.proofs.lemmas.Str.{IsCharBoundary-start}
+use Rattle.yaml_json.proofs.{LexSteps.each_space, LexSteps.blank_at, ModeSteps.leads_nowhere, ModeSteps.leads_on, ModeSteps.leads_past_blank}
 use Rattle.yaml_json.proofs.lexemes.skip_blanks.Goals as goal
 
 pub blanks-init : goal.blanks-init
@@ -21,7 +19,3 @@ blanks-preserved c =
       blank_at d at within blank ∙ c.blanks.invariant.1,
       leads_on d (drop at d) (drop (at + 1) d) c.blanks.invariant.2 (leads_past_blank d at within blank),
     )
-
-pub returns-clause-over : goal.returns-clause-over
-returns-clause-over c =
-    subst (λ (t : List ℕ). Leads c.args.text.now t) (sym c.range_from.ensures.value) c.blanks.invariant.2

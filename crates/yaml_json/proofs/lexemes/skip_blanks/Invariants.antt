@@ -1,7 +1,5 @@
-use Rattle.std.proofs.Common.{◌≡◌, ◌-◌, drop, length}
-use Rattle.std.specs.Str.{IsCharBoundary}
-use Rattle.json.specs.Lex.{between, lex}
-use Rattle.yaml_json.specs.Lexing.{Leads}
+use Rattle.yaml_json.proofs.Common.{◌≡◌, ◌-◌, drop, length, IsCharBoundary, lex, Leads}
+use Rattle.json.specs.Lex.{between}
 use Rattle.yaml_json.proofs.lexemes.skip_blanks.Given as goal
 
 abbrev pub invariant-blanks : goal.invariant-blanks

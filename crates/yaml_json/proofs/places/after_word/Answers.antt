@@ -1,11 +1,7 @@
-use Rattle.std.proofs.Common.{◌≡◌, ◌||◌, true, false, get_or, length, sym, ap, ◌∙◌, arith}
-use Rattle.json.specs.Word.{is_operator, is_space}
+use Rattle.yaml_json.proofs.Common.{◌≡◌, ◌||◌, true, false, get_or, length, sym, ap, ◌∙◌, arith, is_operator, is_space, drop_all}
 use Rattle.yaml_json.proofs.PassingLexemes.{delimiter_small, word_begins, word_cut, word_ends, word_on}
-use Rattle.std.proofs.lemmas.{List.drop_all, Str.IsCharBoundary-before_ascii}
+use Rattle.std.proofs.lemmas.Str.{IsCharBoundary-before_ascii}
 use Rattle.yaml_json.proofs.places.after_word.Goals as goal
-
-pub bytes-init : goal.bytes-init
-bytes-init c = word_begins c.args.text.now c.args.from
 
 pub bytes-preserved : goal.bytes-preserved
 bytes-preserved c =
@@ -15,15 +11,6 @@ bytes-preserved c =
     let inner : (is_operator (get_or d at 0) || is_space (get_or d at 0)) ≡ false =
     ap (λ t. is_operator (get_or t at 0) || is_space (get_or t at 0)) (sym same) ∙ sym c.is_delimiter.ensures ∙ c.if-is_delimiter.false in
     word_on d c.args.from at (omega (arith, ap length same)) inner c.bytes.invariant
-
-pub range_from-requires : goal.range_from-requires
-range_from-requires c positive =
-    let d = c.args.text.now in
-    let at = c.bytes.at in
-    let same = c.as_bytes-bytes.ensures.value in
-    let ends : (is_operator (get_or d at 0) || is_space (get_or d at 0)) ≡ true =
-    ap (λ t. is_operator (get_or t at 0) || is_space (get_or t at 0)) (sym same) ∙ sym c.is_delimiter.ensures ∙ c.if-is_delimiter.true in
-    IsCharBoundary-before_ascii d at (omega (arith, ap length same)) (delimiter_small (get_or d at 0) ends)
 
 pub returns-then-is_delimiter : goal.returns-then-is_delimiter
 returns-then-is_delimiter c =

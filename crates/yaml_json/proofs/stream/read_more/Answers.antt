@@ -1,7 +1,5 @@
-use Rattle.yaml_json.proofs.Common.{ℕ, List, [], append-nil, false≢true, refl, subst, sym, take, HasScanned}
-use Rattle.std.proofs.Common.{rules}
-use Rattle.yaml_json.proofs.Coming.{none_came}
-use Rattle.yaml_json.proofs.Cutting.{still_scanned}
+use Rattle.yaml_json.proofs.Common.{ℕ, List, [], append-nil, false≢true, refl, subst, sym, take, HasScanned, rules}
+use Rattle.yaml_json.proofs.{Coming.none_came, Cutting.still_scanned}
 use Rattle.std.specs.Io.KnownBytes.{Consumes}
 use Rattle.yaml_json.proofs.stream.read_more.Goals as goal
 
@@ -17,16 +15,6 @@ returns-in-Ok-eq0 g c =
       incoming = c.requires.0;
       place = refl;
       end = λ none. (c.in-Ok-eq0.ensures.bytes.1 c.in-Ok-eq0.field-0-test (search rules), refl);
-    }
-
-pub returns-in-Ok-extend_from_slice : goal.returns-in-Ok-extend_from_slice
-returns-in-Ok-extend_from_slice g c =
-    record {
-      come = (take c.in-Ok.count c.read.new.buf, c.in-Ok-extend_from_slice.ensures.items, c.in-Ok.ensures.bytes.0);
-      incoming = subst (λ (held : List ℕ). HasScanned held c.args.incoming.now.reading.cut) (sym c.in-Ok-extend_from_slice.ensures.items)
-          (still_scanned c.args.incoming.now.held.items (take c.in-Ok.count c.read.new.buf) c.args.incoming.now.reading.cut c.requires.0);
-      place = refl;
-      end = λ none. absurd (false≢true (sym none));
     }
 
 pub returns-in-Interrupted : goal.returns-in-Interrupted

@@ -1,8 +1,7 @@
-use Rattle.yaml_json.proofs.Common.{None, refl, subst, sym, IsScanned}
-use Rattle.yaml_json.proofs.Growing.{grew_itself, grew_reading, grew_then}
+use Rattle.yaml_json.proofs.Common.{None, refl, subst, sym, IsScanned, emitter_error}
+use Rattle.yaml_json.proofs.{Growing.grew_itself, Growing.grew_reading, Growing.grew_then, SendingSteps.nowhere_by_reader, SendingSteps.stops_by_reader}
 use Rattle.yaml_json.proofs.Coming.{comes_first, more_came, complete_given, comes_kept, complete_stopped, comes_stopped, ends_sending}
-use Rattle.yaml_json.proofs.SendingSteps.{nowhere_by_reader, stops_by_reader}
-use Rattle.yaml_json.specs.{declared.stream.Incoming.Incoming, Sent.emitter_error}
+use Rattle.yaml_json.specs.declared.stream.Incoming.{Incoming}
 use Rattle.yaml_json.specs.declared.error.StreamError.TheVariants as faults
 use Rattle.yaml_json.proofs.stream.send_json_texts.Goals as goal
 
@@ -11,8 +10,7 @@ parts-init g c =
     let a = c.args in (
       c.requires,
       c.new-incoming.ensures.scanned,
-      comes_first a.settings.values.depth a.settings.values.flow a.settings.unique_names a.writer.now (g.W.Write.contents a.sink.now) (g.R.Read.remaining a.reader.now)
-          c.new-incoming.result.held.items c.new-incoming.result.reading.position c.new-incoming.ensures.nothing c.new-incoming.ensures.place c.requires,
+      comes_first _ _ _ _ _ _ _ _ c.new-incoming.ensures.nothing c.new-incoming.ensures.place c.requires,
       grew_itself a.writer.now,
     )
 
@@ -49,9 +47,7 @@ parts-preserved g c =
     c.in_default.ensures.place comes in (
       c.in_default.ensures.bare,
       c.in_default.ensures.scanned,
-      comes_kept s.values.depth s.values.flow s.unique_names a.writer.now start first c.write_complete.new.incoming.held.items
-          c.write_complete.new.incoming.reading.position later c.write_complete.new.writer (g.W.Write.contents c.write_complete.new.sink)
-          (g.W.Write.contents c.flush.new.self) c.flush.ensures.bytes done,
+      comes_kept _ _ _ _ _ _ _ _ _ _ _ _ c.flush.ensures.bytes done,
       grew_then a.writer.now l.writer c.write_complete.new.writer None l.invariant.3 c.in_default.ensures.grew,
     )
 
@@ -63,14 +59,11 @@ returns-in-Ok-false g c =
     let start = g.W.Write.contents a.sink.now in
     let first = g.R.Read.remaining a.reader.now in
     let later = g.R.Read.remaining c.read_more.new.reader in
-    let held = c.read_more.new.incoming.held.items in
     let end = c.in-Ok-false.ensures.end c.in-Ok-false.field-0-test in
     let scanned = subst (λ (i : Incoming g.row.A.Denot). IsScanned i) (sym end.1) l.invariant.1 in
     let comes = more_came s.values.depth s.values.flow s.unique_names a.writer.now start first l.incoming c.read_more.new.incoming (g.R.Read.remaining l.reader) later
     l.writer (g.W.Write.contents l.sink) c.in-Ok-false.ensures.come c.in-Ok-false.ensures.place l.invariant.2 in
-    ends_sending s a.writer.now start held c.read_more.new.incoming.reading.position later l.writer (g.W.Write.contents l.sink) end.0
-    c.read_more.new.incoming.reading.cut scanned.0 scanned.1 c.write_last-answer.result c.write_last-answer.new.writer first l.invariant.3
-    c.write_last-answer.ensures c.promised.ensures.stands.texts comes
+    ends_sending s _ _ _ _ _ _ _ end.0 _ scanned.0 scanned.1 _ _ _ l.invariant.3 c.write_last-answer.ensures c.promised.ensures.stands.texts comes
 
 pub returns-in-Err-write_complete : goal.returns-in-Err-write_complete
 returns-in-Err-write_complete g c =
@@ -87,10 +80,7 @@ returns-in-Err-write_complete g c =
     record {
       grows = grew.grows;
       sound = grew.sound;
-      stopped = complete_stopped s.values.depth s.values.flow s.unique_names a.writer.now start first c.read_more.new.incoming.held.items
-          c.read_more.new.incoming.reading.position later l.writer
-          (g.W.Write.contents l.sink) (g.W.Write.contents c.write_complete.new.sink) error c.write_complete.new.writer
-          c.in-Err-write_complete.ensures.stops comes;
+      stopped = complete_stopped _ _ _ _ _ _ _ _ _ _ _ _ _ _ c.in-Err-write_complete.ensures.stops comes;
     }
 
 pub returns-in-Err-flush : goal.returns-in-Err-flush
@@ -112,24 +102,17 @@ returns-in-Err-flush g c =
     record {
       grows = grew.grows;
       sound = grew.sound;
-      stopped = comes_stopped s.values.depth s.values.flow s.unique_names a.writer.now start first held c.write_complete.new.incoming.reading.position later writer
-          (g.W.Write.contents c.flush.new.self) (faults.WriteFailed c.in-Err-flush.error) (λ next left. refl) (λ front part. tt)
-          (comes_kept s.values.depth s.values.flow s.unique_names a.writer.now start first held c.write_complete.new.incoming.reading.position later writer
-          (g.W.Write.contents c.write_complete.new.sink) (g.W.Write.contents c.flush.new.self) c.flush.ensures.bytes done);
+      stopped = comes_stopped _ _ _ _ _ _ _ _ _ _ _ _ (λ next left. refl) (λ front part. tt) (comes_kept _ _ _ _ _ _ _ _ _ _ _ _ c.flush.ensures.bytes done);
     }
 
 pub returns : goal.returns
 returns g c =
-    let a = c.args in
     let l = c.parts in
-    let s = a.settings in
     let grew = l.invariant.3 in
     record {
       grows = grew.grows;
       sound = grew.sound;
-      stopped = comes_stopped s.values.depth s.values.flow s.unique_names a.writer.now (g.W.Write.contents a.sink.now) (g.R.Read.remaining a.reader.now)
-          l.incoming.held.items l.incoming.reading.position (g.R.Read.remaining l.reader) l.writer (g.W.Write.contents l.sink)
-          (faults.ReadFailed c.from.result) (λ next left. refl) (λ front part. tt) l.invariant.2;
+      stopped = comes_stopped _ _ _ _ _ _ _ _ _ _ _ _ (λ next left. refl) (λ front part. tt) l.invariant.2;
     }
 
 pub read_more-requires : goal.read_more-requires

@@ -1,8 +1,5 @@
-use Rattle.std.proofs.Common.{◌≡◌, [], ap, subst, ◌∙◌}
-use Rattle.yaml_json.proofs.TextStops.{fault_shifted}
-use Rattle.yaml_json.specs.Places.{HasPlaceWithin}
-use Rattle.yaml_json.specs.declared.error.JsonError.TheVariants.{NotJson}
-use Rattle.yaml_json.specs.declared.error.StreamError.TheVariants.{Refused}
+use Rattle.yaml_json.proofs.Common.{◌≡◌, [], ap, subst, ◌∙◌, HasPlaceWithin}
+use Rattle.yaml_json.{proofs.TextStops.fault_shifted, specs.declared.error.JsonError.TheVariants.NotJson, specs.declared.error.StreamError.TheVariants.Refused}
 use Rattle.yaml_json.proofs.stream.shifted_by.Goals as goal
 
 pub returns-in-Refused-NotJson-clause-place : goal.returns-in-Refused-NotJson-clause-place

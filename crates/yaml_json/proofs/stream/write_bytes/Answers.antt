@@ -1,9 +1,7 @@
+use Rattle.yaml_json.proofs.Common.{List, ℕ, [], refl, subst, sym, tokens, writers_error, StopsInPart}
 use Rattle.yaml_writer.proofs.GivenLemmas.{wrote_nothing}
-use Rattle.yaml_json.proofs.Common.{List, ℕ, [], refl, subst, sym, tokens}
-use Rattle.yaml_json.proofs.Growing.{grew_itself, grew_said}
+use Rattle.yaml_json.{proofs.Growing.grew_itself, proofs.Growing.grew_said, proofs.SentParts.part_stopped, specs.WalkSteps.TextGiven}
 use Rattle.yaml_json.proofs.TextStops.{placed_first, placed_no_text, placed_whole, text_stopped}
-use Rattle.yaml_json.proofs.SentParts.{part_stopped}
-use Rattle.yaml_json.specs.{Failing.writers_error, Sent.StopsInPart, WalkSteps.TextGiven}
 use Rattle.std.specs.{Prelude.IsUtf8, Str.IsValidUpTo}
 use Rattle.yaml_json.specs.declared.error.StreamError.TheVariants as faults
 use Rattle.yaml_json.proofs.stream.write_bytes.Goals as goal
@@ -34,10 +32,7 @@ returns-in-Ok-write_text_in g c =
     let same = c.in-Ok.ensures.cases.0 in
     record {
       ready = c.in-Ok-write_text_in.ensures.ready;
-      gives = record {
-        utf8 = c.in-Ok.ensures.cases.1;
-        given = subst (λ (t : List ℕ). TextGiven s t c.args.writer.now c.write_text_in.new.writer) same given;
-      };
+      gives = record { utf8 = c.in-Ok.ensures.cases.1; given = subst (λ (t : List ℕ). TextGiven s t c.args.writer.now c.write_text_in.new.writer) same given };
     }
 
 pub returns-in-Err-write_text_in : goal.returns-in-Err-write_text_in
@@ -51,13 +46,9 @@ returns-in-Err-write_text_in g c =
       ready = tt;
       gives = record {
         stopped = subst (λ (t : List ℕ). StopsInPart s.values.depth s.unique_names s.values.flow [] t was (faults.Refused error) now) c.in-Ok.ensures.cases.0
-            (part_stopped s.values.depth s.unique_names s.values.flow c.in-Ok.text.now was error now
-            (subst IsUtf8 (sym c.in-Ok.ensures.cases.0) c.in-Ok.ensures.cases.1)
-            (text_stopped s.values.depth s.unique_names s.values.flow c.in-Ok.text.now was now c.in-Err-write_text_in.stopped.0 error c.error_of.ensures.says failed.refused
-            failed.failed)
-            (placed_first s.values.depth c.in-Ok.text.now error
-            (placed_whole s.values.depth c.in-Ok.text.now c.in-Err-write_text_in.stopped.1 c.in-Err-write_text_in.stopped.0 error c.error_of.ensures.says
-            failed.place c.error_of.ensures.place c.error_of.ensures.fault)));
+            (part_stopped _ _ _ _ _ _ _ (subst IsUtf8 (sym c.in-Ok.ensures.cases.0) c.in-Ok.ensures.cases.1)
+            (text_stopped _ _ _ _ _ _ _ _ c.error_of.ensures.says failed.refused failed.failed)
+            (placed_first _ _ _ (placed_whole _ _ _ _ _ c.error_of.ensures.says failed.place c.error_of.ensures.place c.error_of.ensures.fault)));
         grew = grew_said was now c.in-Err-write_text_in.stopped.0 (writers_error error) c.error_of.ensures.by_writer failed.kept;
       };
     }

@@ -1,7 +1,5 @@
-use Rattle.yaml_json.proofs.Common.{ℕ, ◌-◌, drop, length, List, refl, subst, sym, HasScanned, StopsWithin}
+use Rattle.yaml_json.proofs.Common.{ℕ, ◌-◌, drop, length, List, refl, subst, sym, HasScanned, StopsWithin, Position, MovesPosition}
 use Rattle.yaml_json.proofs.SendingSteps.{left_scanned, left_within, advances_left}
-use Rattle.yaml_base.specs.declared.places.Position.{Position}
-use Rattle.yaml_json.specs.Places.{MovesPosition}
 use Rattle.yaml_json.proofs.stream.write_complete.Goals as goal
 
 pub write_texts-requires : goal.write_texts-requires
@@ -12,25 +10,19 @@ write_texts-requires g c =
     }
 
 pub keep_last-requires : goal.keep_last-requires
-keep_last-requires g c =
-    left_within c.as_slice-held.result.now c.args.incoming.now.held.items c.in-Ok.count c.write_texts.new.reading.cut c.as_slice-held.ensures.value
-    c.in-Ok.ensures.gives.left
+keep_last-requires g c = left_within _ _ _ _ c.as_slice-held.ensures.value c.in-Ok.ensures.gives.left
 
 pub returns-in-Ok : goal.returns-in-Ok
 returns-in-Ok g c =
     let a = c.args in
     let held = a.incoming.now.held.items in
-    let slice = c.as_slice-held.result.now in
     let left = c.keep_last.new.incoming in
     let gave = c.in-Ok.ensures.gives in
     record {
       bare = gave.bare;
-      scanned = left_scanned slice held left.held.items c.in-Ok.count c.write_texts.new.reading.cut left.reading.cut c.as_slice-held.ensures.value
-          c.keep_last.ensures.kept c.keep_last.ensures.cut gave.left;
+      scanned = left_scanned _ _ _ _ _ _ c.as_slice-held.ensures.value c.keep_last.ensures.kept c.keep_last.ensures.cut gave.left;
       place = subst (λ (place : Position). MovesPosition held left.held.items place left.reading.position) c.in-Ok.ensures.place c.keep_last.ensures.place;
-      advances = advances_left a.settings.now.values.depth a.settings.now.values.flow a.settings.now.unique_names slice a.writer.now (g.W.Write.contents a.sink.now)
-          (drop (length slice - c.in-Ok.count) slice) c.write_texts.new.writer (g.W.Write.contents c.write_texts.new.sink) gave.advances
-          held left.held.items c.in-Ok.count refl c.as_slice-held.ensures.value c.keep_last.ensures.kept;
+      advances = advances_left _ _ _ _ _ _ _ _ _ gave.advances _ _ _ refl c.as_slice-held.ensures.value c.keep_last.ensures.kept;
       grew = gave.grew;
     }
 

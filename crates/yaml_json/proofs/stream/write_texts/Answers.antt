@@ -1,11 +1,8 @@
 use Rattle.yaml_json.proofs.Common.{ℕ, ◌-◌, Option, None, drop, length, take, true, List, [], refl, ◌≡◌, ◌++◌, length-drop, take-append-drop, ap, subst, sym}
-use Rattle.yaml_json.proofs.Common.{◌∙◌, arith, tokens, NamesOnce, HasScanned, WroteText}
+use Rattle.yaml_json.proofs.Common.{◌∙◌, arith, tokens, NamesOnce, HasScanned, WroteText, yaml_error_t, Grew, StopsInPart, emitter_error, IsPositionAfter}
 use Rattle.std.specs.Prelude.{IsUtf8}
-use Rattle.yaml_base.specs.declared.errors.yaml_error_t.{yaml_error_t}
-use Rattle.yaml_json.proofs.SentParts.{part_placed}
-use Rattle.yaml_json.proofs.Growing.{grew_itself, grew_then, grew_kept}
+use Rattle.yaml_json.proofs.{SentParts.part_placed, Growing.grew_itself, Growing.grew_then, Growing.grew_kept}
 use Rattle.yaml_json.proofs.SendingSteps.{whole_suffix, suffix_on, advances_none, advances_same, stops_at_first, advances_on, stops_next}
-use Rattle.yaml_json.specs.{Failing.Grew, Sent.StopsInPart, Sent.emitter_error, Places.IsPositionAfter}
 use Rattle.yaml_json.proofs.stream.write_texts.Goals as goal
 
 pub texts-init : goal.texts-init
@@ -16,8 +13,7 @@ texts-init g c =
       c.requires.scanned,
       suffix.0,
       suffix.1,
-      advances_none a.settings.now.values.depth a.settings.now.values.flow a.settings.now.unique_names a.held.now a.writer.now (g.W.Write.contents a.sink.now)
-          a.held.now refl,
+      advances_none _ _ _ _ _ _ _ refl,
       c.new-room.ensures,
       grew_itself a.writer.now,
       refl,
@@ -50,16 +46,9 @@ texts-preserved g c =
       c.new_cut-reading.ensures c.split_at.result.1.now,
       suffix.0,
       suffix.1,
-      advances_same a.settings.now.values.depth a.settings.now.values.flow a.settings.now.unique_names a.held.now a.writer.now (g.W.Write.contents a.sink.now)
-          (drop c.in-Some.end l.rest.now) c.begin_next.new.writer (g.W.Write.contents c.begin_next.new.sink)
-          (advances_on a.settings.now.values.depth a.settings.now.values.flow a.settings.now.unique_names a.held.now a.writer.now (g.W.Write.contents a.sink.now)
-          l.rest.now l.writer (g.W.Write.contents l.sink) l.invariant.4 c.in-Some.end cuts c.write_bytes.new.writer named readable wrote c.begin_next.new.writer
-          (g.W.Write.contents c.begin_next.new.sink) next)
-          c.split_at.result.1.now (sym c.split_at.ensures.back),
+      advances_same _ _ _ _ _ _ _ _ _ (advances_on _ _ _ _ _ _ _ _ _ l.invariant.4 _ cuts _ named readable wrote _ _ next) _ (sym c.split_at.ensures.back),
       c.in_default-write_bytes.ensures.ready,
-      grew_then a.writer.now l.writer c.begin_next.new.writer None l.invariant.6
-          (grew_then l.writer c.write_bytes.new.writer c.begin_next.new.writer None
-          (grew_kept l.writer c.write_bytes.new.writer gave.given.kept) c.in_default-begin_next.ensures.grew),
+      grew_then _ _ _ None l.invariant.6 (grew_then _ _ _ None (grew_kept _ _ gave.given.kept) c.in_default-begin_next.ensures.grew),
       l.invariant.7,
     )
 
@@ -78,12 +67,10 @@ returns-in-Err g c =
     record {
       place = l.invariant.7;
       gives = record {
-        stops = stops_at_first s.values.depth s.values.flow s.unique_names a.held.now a.writer.now (g.W.Write.contents a.sink.now) l.rest.now l.writer
-            (g.W.Write.contents l.sink) l.invariant.4 c.in-Some.end c.in-Some.ensures a.reading.now.position error now done parts
-            (λ front follows. part_placed s.values.depth s.unique_names s.values.flow (front ++ done) first l.writer c.in-Err.error error now c.shifted_by.ensures.says
-            (c.shifted_by.ensures.place s.values.depth (front ++ done) first (c.position_after.ensures front (subst (IsPositionAfter front) (sym l.invariant.7) follows)))
-            (subst (λ (t : List ℕ). StopsInPart s.values.depth s.unique_names s.values.flow [] t l.writer c.in-Err.error now) c.split_at.ensures.front
-            c.in-Err.ensures.gives.stopped));
+        stops = stops_at_first _ _ _ _ _ _ _ _ _ l.invariant.4 _ c.in-Some.ensures _ _ _ _ parts (λ front follows. part_placed _ _ _ _ _ _ _ _ _
+            c.shifted_by.ensures.says (c.shifted_by.ensures.place s.values.depth (front ++ done) first (c.position_after.ensures front
+            (subst (IsPositionAfter front) (sym l.invariant.7) follows))) (subst (λ (t : List ℕ). StopsInPart s.values.depth s.unique_names s.values.flow [] t
+            l.writer c.in-Err.error now) c.split_at.ensures.front c.in-Err.ensures.gives.stopped));
         grew = grew_then a.writer.now l.writer now (emitter_error error) l.invariant.6
             (subst (λ (found : Option yaml_error_t). Grew l.writer found now) (sym c.shifted_by.ensures.by_emitter) c.in-Err.ensures.gives.grew);
       };
@@ -95,7 +82,6 @@ returns-in-Err-begin_next g c =
     let l = c.texts in
     let s = a.settings.now in
     let given = c.write_bytes.new.writer in
-    let error = c.in-Err-begin_next.error in
     let gave = c.in_default-write_bytes.ensures.gives in
     let named = subst (λ (t : List ℕ). s.unique_names ≡ true → NamesOnce [] (tokens t)) c.split_at.ensures.front gave.given.names in
     let readable = subst IsUtf8 c.split_at.ensures.front gave.utf8 in
@@ -103,20 +89,14 @@ returns-in-Err-begin_next g c =
     record {
       place = l.invariant.7;
       gives = record {
-        stops = stops_next s.values.depth s.values.flow s.unique_names a.held.now a.writer.now (g.W.Write.contents a.sink.now) l.rest.now l.writer
-            (g.W.Write.contents l.sink) l.invariant.4 c.in-Some.end c.in-Some.ensures given named readable wrote a.reading.now.position error
-            c.begin_next.new.writer (g.W.Write.contents c.begin_next.new.sink) c.in-Err-begin_next.ensures.failed;
-        grew = grew_then a.writer.now l.writer c.begin_next.new.writer (emitter_error error) l.invariant.6
-            (grew_then l.writer given c.begin_next.new.writer (emitter_error error) (grew_kept l.writer given gave.given.kept)
-            c.in-Err-begin_next.ensures.grew);
+        stops = stops_next _ _ _ _ _ _ _ _ _ l.invariant.4 _ c.in-Some.ensures _ named readable wrote _ _ _ _ c.in-Err-begin_next.ensures.failed;
+        grew = grew_then _ _ _ _ l.invariant.6 (grew_then _ _ _ _ (grew_kept _ _ gave.given.kept) c.in-Err-begin_next.ensures.grew);
       };
     }
 
 pub returns-clause-gives : goal.returns-clause-gives
 returns-clause-gives g c =
-    let a = c.args in
     let l = c.texts in
-    let rest = drop (length a.held.now - length l.rest.now) a.held.now in
     record {
       bare = l.invariant.0;
       left = record {
@@ -124,8 +104,7 @@ returns-clause-gives g c =
         scanned = subst (λ (t : List ℕ). HasScanned t c.find_end.new.cut) (sym l.invariant.3) c.in_default.ensures.0;
         all = c.in_default.ensures.1 ∙ ap length (sym l.invariant.3);
       };
-      advances = advances_same a.settings.now.values.depth a.settings.now.values.flow a.settings.now.unique_names a.held.now a.writer.now
-          (g.W.Write.contents a.sink.now) l.rest.now l.writer (g.W.Write.contents l.sink) l.invariant.4 rest (sym l.invariant.3);
+      advances = advances_same _ _ _ _ _ _ _ _ _ l.invariant.4 _ (sym l.invariant.3);
       grew = l.invariant.6;
     }
 

@@ -1,7 +1,6 @@
-use Rattle.yaml_base.specs.declared.errors.yaml_error_t.{yaml_error_t}
-use Rattle.yaml_json.specs.Failing.{writers_error}
-use Rattle.yaml_json.proofs.{Common.IsSome, Common.Option, Common.subst, Refusing.why_no_json, TextStops.explained, TextStops.placed_whole, TextStops.said_as}
-use Rattle.yaml_json.proofs.{TextStops.text_stopped, TextsInTurn.text_names}
+use Rattle.yaml_json.proofs.Common.{yaml_error_t, writers_error, IsSome, Option, subst}
+use Rattle.yaml_json.proofs.{Refusing.why_no_json, TextsInTurn.text_names}
+use Rattle.yaml_json.proofs.TextStops.{explained, placed_whole, said_as, text_stopped}
 use Rattle.yaml_json.proofs.texts.write_json.Goals as goal
 
 pub returns-in-Err : goal.returns-in-Err
@@ -15,11 +14,9 @@ returns-in-Err g c =
     record {
       grows = failed.kept.grows;
       sound = said_as c.args.writer.now c.write_text_by.new.writer c.in-Err.stopped.0 (writers_error error) c.error_of.ensures.by_writer failed.kept;
-      refused = why_no_json s.values.depth s.unique_names text error
-          (explained s.values.depth s.unique_names s.values.flow text c.args.writer.now c.write_text_by.new.writer error stopped);
+      refused = why_no_json _ _ _ _ (explained _ _ _ _ _ _ _ stopped);
       stopped = stopped;
-      place = placed_whole s.values.depth text c.in-Err.stopped.1 c.in-Err.stopped.0 error c.error_of.ensures.says failed.place c.error_of.ensures.place
-          c.error_of.ensures.fault;
+      place = placed_whole _ _ _ _ _ c.error_of.ensures.says failed.place c.error_of.ensures.place c.error_of.ensures.fault;
       unopened = λ some. failed.unopened (subst (λ (e : Option yaml_error_t). IsSome e) c.error_of.ensures.by_writer some);
     }
 

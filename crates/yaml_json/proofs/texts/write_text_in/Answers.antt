@@ -7,11 +7,7 @@ returns-in-Ok g c =
     let wrote = c.in-Ok.ensures.steps in
     record {
       ready = wrote.none;
-      gives = record {
-        written = rw c.new-tokens.ensures.ahead at wrote.written;
-        names = rw c.new-tokens.ensures.ahead at wrote.names;
-        kept = wrote.kept;
-      };
+      gives = record { written = rw c.new-tokens.ensures.ahead at wrote.written; names = rw c.new-tokens.ensures.ahead at wrote.names; kept = wrote.kept };
     }
 
 pub returns-in-Err : goal.returns-in-Err
@@ -31,8 +27,7 @@ returns-in-Err g c =
       ready = tt;
       gives = record {
         refused = λ by_text. (reader.before, stopped by_text);
-        place = λ by_text. stops_at_lexeme s.values.depth s.unique_names s.values.flow text reader.before c.args.writer.now now c.last_offset.result
-            c.offset_of-at.result from stop (stopped by_text) c.offset_of-at.ensures;
+        place = λ by_text. stops_at_lexeme _ _ _ _ _ _ _ _ _ from _ (stopped by_text) c.offset_of-at.ensures;
         unopened = failed.unopened;
         kept = failed.kept;
         failed = rw c.new-tokens.ensures.ahead at failed.failed;

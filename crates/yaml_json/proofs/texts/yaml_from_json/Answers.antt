@@ -1,8 +1,6 @@
-use Rattle.yaml_writer.proofs.GivenLemmas.{bare_awaits_none}
-use Rattle.yaml_json.specs.Failing.{writers_error}
+use Rattle.yaml_json.proofs.Common.{bare_awaits_none, writers_error, refl, inl}
 use Rattle.yaml_emitter.specs.Given.{seen_settings}
-use Rattle.yaml_json.proofs.{Common.refl, Common.inl, Stopping.if_some, TextStops.explained, TextStops.writer_failed, WhyFailed.text_failed}
-use Rattle.yaml_json.proofs.{WhyFailed.finish_failed, YamlOf.yaml_of}
+use Rattle.yaml_json.proofs.{Stopping.if_some, TextStops.explained, TextStops.writer_failed, WhyFailed.text_failed, WhyFailed.finish_failed, YamlOf.yaml_of}
 use Rattle.yaml_json.proofs.texts.yaml_from_json.Goals as goal
 
 pub returns-in_default : goal.returns-in_default
@@ -19,20 +17,17 @@ returns-in-Err g c =
     record {
       refused = unwritten.refused;
       why = explained s.values.depth s.unique_names s.values.flow text first.writer now error unwritten.stopped;
-      failed = if_some (writers_error error)
-          (λ code. text_failed (seen_settings s.values.emitter) s.values.flow s.values.depth text first.writer now code first.ensures.made c.promised.ensures.stands)
-          (writer_failed s.values.depth s.unique_names s.values.flow text first.writer now error unwritten.stopped unwritten.sound);
+      failed = if_some _ (λ code. text_failed _ _ _ _ _ _ _ first.ensures.made c.promised.ensures.stands)
+          (writer_failed _ _ _ _ _ _ _ unwritten.stopped unwritten.sound);
       place = unwritten.place;
     }
 
 pub returns-in-Ok-finish : goal.returns-in-Ok-finish
 returns-in-Ok-finish g c =
-    let s = c.args.settings in
     let first = c.in-Ok in
     let wrote = c.in_default-write_json.ensures in
     record {
-      stream = yaml_of (seen_settings s.values.emitter) s.values.flow s.values.depth c.args.text.now c.in-Ok-finish.bytes.items first.writer c.write_json.new.writer
-          first.ensures.made wrote.written c.promised-2.ensures.stands.texts c.in-Ok-finish.ensures.finishes;
+      stream = yaml_of _ _ _ _ _ _ _ first.ensures.made wrote.written c.promised-2.ensures.stands.texts c.in-Ok-finish.ensures.finishes;
       names = wrote.names;
     }
 

@@ -1,6 +1,4 @@
-use Rattle.std.proofs.Common.{◌≡◌, List, ℕ, [], ◌∷◌, subst, sym, ◌∙◌}
-use Rattle.json.specs.Token.{bad}
-use Rattle.yaml_json.specs.Ahead.{ahead}
+use Rattle.yaml_json.proofs.Common.{◌≡◌, List, ℕ, [], ◌∷◌, subst, sym, ◌∙◌, bad, ahead}
 use Rattle.yaml_json.proofs.Stepping.{at_end_closed, at_end_owed, bad_here}
 use Rattle.yaml_json.proofs.tokens.at_end.Goals as goal
 
@@ -13,9 +11,7 @@ returns-then-may_close c = record {
 pub returns-else-may_close : goal.returns-else-may_close
 returns-else-may_close c = record {
   reads =
-      bad_here c.args.stage c.args.text.now c.bad.result
-      (subst (λ (t : List ℕ). ahead c.args.stage t ≡ bad ∷ []) (sym c.requires.none)
-      (at_end_owed c.args.stage c.requires.over (sym c.may_close.ensures ∙ c.if-may_close.false)))
-      c.bad.ensures.token c.bad.ensures.over c.bad.ensures.tidy;
+      bad_here c.args.stage c.args.text.now c.bad.result (subst (λ (t : List ℕ). ahead c.args.stage t ≡ bad ∷ []) (sym c.requires.none)
+      (at_end_owed c.args.stage c.requires.over (sym c.may_close.ensures ∙ c.if-may_close.false))) c.bad.ensures.token c.bad.ensures.over c.bad.ensures.tidy;
   over = c.bad.ensures.stays;
 }

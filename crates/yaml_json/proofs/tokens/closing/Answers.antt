@@ -1,9 +1,7 @@
-use Rattle.std.proofs.Common.{inl, inr, ap, ◌∙◌, arith, ◌≡◌, ◌⊎◌, List, ℕ, drop, refl}
-use Rattle.yaml_json.specs.Lexing.{Leads}
-use Rattle.yaml_json.proofs.Boundaries.{after_first}
-use Rattle.yaml_json.proofs.Stepping.{closes_array, closes_object}
+use Rattle.yaml_json.proofs.Common.{inl, inr, ap, ◌∙◌, arith, ◌≡◌, ◌⊎◌, List, ℕ, drop, refl, Leads, lex, head}
+use Rattle.yaml_json.proofs.{Boundaries.after_first, Stepping.closes_array, Stepping.closes_object}
 use Rattle.yaml_json.proofs.ModeSteps.{drop_leads, leads_on, operator_leads}
-use Rattle.json.specs.{Lex.between, Lex.lex, Word.head}
+use Rattle.json.specs.Lex.{between}
 use Rattle.yaml_json.proofs.tokens.closing.Goals as goal
 
 pub range_from-requires : goal.range_from-requires
@@ -25,9 +23,8 @@ returns-then-byte-eq125 c = record {
       closes_object c.args.text.now c.skip_blanks-rest.result.now c.ending.result (c.requires.0 ∙ c.if-byte-eq125.true)
       (c.skip_blanks-rest.ensures.same ∙ ap (lex between) c.range_from.ensures.value) c.ending.ensures;
   over =
-      past_closer c.args.text.now c.skip_blanks-rest.result.now c.ending.result.rest.now (inl (c.requires.0 ∙ c.if-byte-eq125.true))
-      (drop_leads c.args.text.now c.range_from.result.now c.skip_blanks-rest.result.now 1 c.range_from.ensures.value c.skip_blanks-rest.ensures.over)
-      c.ending.ensures.over;
+      past_closer c.args.text.now c.skip_blanks-rest.result.now c.ending.result.rest.now (inl (c.requires.0 ∙ c.if-byte-eq125.true)) (drop_leads c.args.text.now
+      c.range_from.result.now c.skip_blanks-rest.result.now 1 c.range_from.ensures.value c.skip_blanks-rest.ensures.over) c.ending.ensures.over;
 }
 
 pub returns-else-byte-eq125 : goal.returns-else-byte-eq125
@@ -41,7 +38,6 @@ returns-else-byte-eq125 c = record {
   over =
       let which : (head c.args.text.now ≡ 125) ⊎ (head c.args.text.now ≡ 93) =
       elim c.requires.1 [ inl object ↦ inl (c.requires.0 ∙ object) | inr array ↦ inr (c.requires.0 ∙ array) ] in
-      past_closer c.args.text.now c.skip_blanks-rest.result.now c.ending-else-byte-eq125.result.rest.now which
-      (drop_leads c.args.text.now c.range_from.result.now c.skip_blanks-rest.result.now 1 c.range_from.ensures.value c.skip_blanks-rest.ensures.over)
-      c.ending-else-byte-eq125.ensures.over;
+      past_closer c.args.text.now c.skip_blanks-rest.result.now c.ending-else-byte-eq125.result.rest.now which (drop_leads c.args.text.now
+      c.range_from.result.now c.skip_blanks-rest.result.now 1 c.range_from.ensures.value c.skip_blanks-rest.ensures.over) c.ending-else-byte-eq125.ensures.over;
 }

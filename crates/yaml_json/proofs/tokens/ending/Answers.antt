@@ -1,11 +1,7 @@
-use Rattle.json.specs.Word.{head}
-use Rattle.yaml_json.specs.declared.tokens.Stage.TheVariants.{Behind, Over, Owed}
-use Rattle.yaml_json.proofs.Boundaries.{after_first}
-use Rattle.yaml_json.proofs.PunctuateSteps.{lex-comma}
+use Rattle.yaml_json.proofs.Common.{head, Over, Owed, ◌≡◌, [], ◌∷◌, drop, refl, sym, ap, ◌∙◌, arith, true≢false, after_comma, after_value, lex}
+use Rattle.yaml_json.{specs.declared.tokens.Stage.TheVariants.Behind, proofs.Boundaries.after_first, proofs.PunctuateSteps.lex-comma}
 use Rattle.yaml_json.proofs.ModeSteps.{drop_leads, leads_nowhere, leads_on, operator_leads}
-use Rattle.std.proofs.Common.{◌≡◌, [], ◌∷◌, drop, refl, sym, ap, ◌∙◌, arith}
-use Rattle.std.proofs.lemmas.Bool.{true≢false}
-use Rattle.json.specs.Lex.{after_comma, after_value, between, lex, punctuate, comma as comma_lexeme}
+use Rattle.json.specs.Lex.{between, punctuate, comma as comma_lexeme}
 use Rattle.yaml_json.proofs.tokens.ending.Goals as goal
 
 owed_apart : Owed ≡ Behind → ⊥

@@ -1,8 +1,6 @@
-use Rattle.json.specs.Lex.{between, fresh, lex, punctuate}
-use Rattle.yaml_json.specs.declared.tokens.Stage.TheVariants.{Behind, Open}
-use Rattle.yaml_json.proofs.ModeSteps.{drop_leads}
-use Rattle.std.proofs.lemmas.Str.{IsCharBoundary-after_ascii}
-use Rattle.std.proofs.Common.{◌≡◌, refl, sym, ap, ◌∙◌}
+use Rattle.yaml_json.proofs.Common.{fresh, lex, Open, IsCharBoundary-after_ascii, ◌≡◌, refl, sym, ap, ◌∙◌}
+use Rattle.json.specs.Lex.{between, punctuate}
+use Rattle.yaml_json.{specs.declared.tokens.Stage.TheVariants.Behind, proofs.ModeSteps.drop_leads}
 use Rattle.yaml_json.proofs.tokens.opening.Goals as goal
 
 pub range_from-requires : goal.range_from-requires

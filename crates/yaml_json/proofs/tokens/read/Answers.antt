@@ -1,5 +1,4 @@
-use Rattle.std.proofs.Common.{◌≡◌, ◌⊎◌, [], inl, inr, rules, sym, ap, ◌∙◌, arith}
-use Rattle.json.specs.Word.{head}
+use Rattle.yaml_json.proofs.Common.{◌≡◌, ◌⊎◌, [], inl, inr, rules, sym, ap, ◌∙◌, arith, head}
 use Rattle.yaml_json.proofs.Stepping.{bad_here, begun_here, closed_here, may_not_begin, may_not_close}
 use Rattle.yaml_json.proofs.tokens.read.Goals as goal
 
@@ -24,28 +23,16 @@ returns-then-not-may_begin g c = record {
       let no_array : c.byte_at-byte.result ≡ 93 → ⊥ = grind arith in
       let some : d ≡ [] → ⊥ = first_of (search rules, grind arith) in
       let step = c.bad-then-not-may_begin in
-      bad_here c.args.stage d step.result
-      (may_not_begin c.args.stage d c.requires.over (sym c.may_begin.ensures ∙ c.if-not-may_begin.true) c.requires.tidy some
-      (λ e. no_object (sym seen ∙ e)) (λ e. no_array (sym seen ∙ e)))
-      step.ensures.token step.ensures.over step.ensures.tidy;
+      bad_here c.args.stage d step.result (may_not_begin c.args.stage d c.requires.over (sym c.may_begin.ensures ∙ c.if-not-may_begin.true) c.requires.tidy some
+      (λ e. no_object (sym seen ∙ e)) (λ e. no_array (sym seen ∙ e))) step.ensures.token step.ensures.over step.ensures.tidy;
   over = c.bad-then-not-may_begin.ensures.stays;
 }
-
-pub closing-requires : goal.closing-requires
-closing-requires g c = (ap head (sym c.as_bytes.ensures.value) ∙ sym c.byte_at-byte.ensures, grind arith)
 
 pub returns-then-may_close : goal.returns-then-may_close
 returns-then-may_close g c = record {
   reads = closed_here c.args.stage c.args.text.now c.closing.result (sym c.may_close.ensures ∙ c.if-may_close.true) c.closing.ensures.steps;
   over = c.closing.ensures.over;
 }
-
-pub beginning-requires-clause-opens : goal.beginning-requires-clause-opens
-beginning-requires-clause-opens g c =
-    let seen : head c.args.text.now ≡ c.byte_at-byte.result = ap head (sym c.as_bytes.ensures.value) ∙ sym c.byte_at-byte.ensures in
-    let no_object : c.byte_at-byte.result ≡ 125 → ⊥ = grind arith in
-    let no_array : c.byte_at-byte.result ≡ 93 → ⊥ = grind arith in
-    (λ e. no_object (sym seen ∙ e), λ e. no_array (sym seen ∙ e))
 
 pub returns-in-Ok : goal.returns-in-Ok
 returns-in-Ok g c = record {

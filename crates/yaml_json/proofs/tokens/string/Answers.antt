@@ -1,8 +1,7 @@
-use Rattle.std.proofs.Common.{◌∷◌, ◌+◌, List, ℕ, drop, subst, sym, ap, ◌∙◌, arith}
-use Rattle.std.proofs.lemmas.Str.{IsCharBoundary-after_ascii}
-use Rattle.yaml_json.specs.{Ahead.StepsFrom, Lexemes.ArePlain, Lexing.Leads}
+use Rattle.yaml_json.proofs.Common.{◌∷◌, ◌+◌, List, ℕ, drop, subst, sym, ap, ◌∙◌, arith, IsCharBoundary-after_ascii, StepsFrom, ArePlain, Leads, Lexeme, lex}
+use Rattle.yaml_json.proofs.Common.{may_begin, token, head}
 use Rattle.yaml_json.proofs.{Boundaries.after_first, Boundaries.found_at, Stepping.plain_string, ModeSteps.leads_on, ModeSteps.string_leads}
-use Rattle.json.specs.{Lex.Lexeme, Lex.between, Lex.lex, Lex.may_begin, Lex.token, Word.head}
+use Rattle.json.specs.Lex.{between}
 use Rattle.json.specs.Token as spec
 use Rattle.yaml_json.proofs.tokens.string.Goals as goal
 

@@ -1,6 +1,5 @@
-use Rattle.std.proofs.Common.{sym, ◌∙◌}
+use Rattle.yaml_json.proofs.Common.{sym, ◌∙◌, token_of, head}
 use Rattle.yaml_json.proofs.{Stepping.bad_word, Stepping.good_word, WordSteps.one_over, WordSteps.other_inner, ModeSteps.leads_on, WordModes.word_leads}
-use Rattle.json.specs.{Reads.token_of, Word.head}
 use Rattle.yaml_json.proofs.tokens.word_step.Goals as goal
 
 pub returns-in-None : goal.returns-in-None

@@ -1,20 +1,7 @@
-use Rattle.yaml_json.proofs.Common.{◌<◌, ◌+◌, ◌≡◌, [], ◌∷◌, true, length, length-append, ap, sym, ◌∙◌, arith, refl}
-use Rattle.yaml_json.proofs.KeepingNames.{keeps_opener}
-use Rattle.yaml_json.proofs.Stopping.{kept_by_text}
-use Rattle.yaml_json.proofs.WalkCalls.{opener_step, opener_without_room}
-use Rattle.yaml_json.specs.WalkSteps.{at}
+use Rattle.yaml_json.proofs.Common.{◌<◌, ◌+◌, ◌≡◌, [], ◌∷◌, true, length, length-append, ap, sym, ◌∙◌, arith, refl, at}
+use Rattle.yaml_json.proofs.{KeepingNames.keeps_opener, Stopping.kept_by_text, WalkCalls.opener_step, WalkCalls.opener_without_room}
 use Rattle.yaml_json.specs.declared.values.Stop.TheVariants as stops
 use Rattle.yaml_json.proofs.values.begin.Goals as goal
-
-pub returns-then-len-settings : goal.returns-then-len-settings
-returns-then-len-settings g c =
-    record {
-      refused = ((c.args.kind, refl), grind arith);
-      same = λ by_text. refl;
-      unmoved = λ sound. refl;
-      kept = kept_by_text c.args.writer.now stops.TooDeep tt;
-      failed = tt;
-    }
 
 pub returns-in-Err : goal.returns-in-Err
 returns-in-Err g c =
@@ -38,7 +25,5 @@ returns-in-Ok g c =
     ap length c.in-Ok.ensures.items ∙ length-append a.nest.now.kinds.items (a.kind ∷ []) in
     let as_many = λ (kept : c.enter.new.self.are_kept ≡ true). let was = sym entered.kept ∙ kept in
     entered.longer was ∙ ap (λ n. n + 1) (fits.1.1 was) ∙ sym more in
-    opener_step a.settings.now a.kind (at a.nest.now a.writer.now) _ room c.in-Ok.ensures.items
-    (omega (arith, room, more), (entered.kept ∙ fits.1.0, as_many))
-    (keeps_opener a.kind a.nest.now.names c.enter.new.self entered.kept entered.holds) c.start.result c.answer_of.result c.answer_of.ensures
-    c.start.ensures
+    opener_step a.settings.now a.kind (at a.nest.now a.writer.now) _ room c.in-Ok.ensures.items (omega (arith, room, more), (entered.kept ∙ fits.1.0, as_many))
+    (keeps_opener a.kind a.nest.now.names c.enter.new.self entered.kept entered.holds) c.start.result c.answer_of.result c.answer_of.ensures c.start.ensures

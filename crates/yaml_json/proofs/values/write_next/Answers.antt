@@ -1,12 +1,9 @@
-use Rattle.yaml_json.proofs.Common.{Err, Ok, false, true, [], ◌++◌, ◌∷◌, refl, ◌≡◌, ap, sym, ◌∙◌, arith, closer, token_of}
+use Rattle.yaml_json.proofs.Common.{Err, Ok, false, true, [], ◌++◌, ◌∷◌, refl, ◌≡◌, ap, sym, ◌∙◌, arith, closer, token_of, Mapping, Sequence, at, At}
+use Rattle.yaml_json.proofs.Common.{PastString}
 use Rattle.json.specs.declared.token.Token.{Token}
-use Rattle.yaml_base.specs.declared.kinds.CollectionKind.TheVariants.{Mapping, Sequence}
-use Rattle.yaml_json.proofs.Closing.{closes_is, closes_not, no_name, no_string}
-use Rattle.yaml_json.proofs.Stops.{again_stopped, member_stopped, string_stopped}
-use Rattle.yaml_json.proofs.WalkCalls.{answered_end, answered_key, walk_closed, walk_item, walk_member, walk_missing, walk_refused, walk_unnamed}
-use Rattle.yaml_json.proofs.WalkCalls.{walk_without_memory}
-use Rattle.yaml_json.specs.WalkSteps.{at}
-use Rattle.yaml_json.specs.declared.values.Spot.TheVariants.{At, PastString}
+use Rattle.yaml_json.proofs.{Closing.closes_is, Closing.closes_not, Closing.no_name, Closing.no_string, Stops.again_stopped, Stops.member_stopped}
+use Rattle.yaml_json.proofs.{Stops.string_stopped, WalkCalls.answered_end, WalkCalls.answered_key, WalkCalls.walk_closed, WalkCalls.walk_item}
+use Rattle.yaml_json.proofs.{WalkCalls.walk_member, WalkCalls.walk_missing, WalkCalls.walk_refused, WalkCalls.walk_unnamed, WalkCalls.walk_without_memory}
 use Rattle.json.specs.Token as tokens
 use Rattle.yaml_json.specs.declared.values.Stop.TheVariants as stops
 use Rattle.yaml_json.proofs.values.write_next.Goals as goal
@@ -16,8 +13,7 @@ returns-in-Err-clause-steps g c =
     let a = c.args in
     let before = at a.nest.now a.writer.now in
     let inner = c.requires.innermost in
-    walk_missing a.settings.now a.reader.now c.next_token.new.reader before before inner.outer c.requires.fits a.kind inner.is c.in-Err.ensures.before
-    c.in-Err.stop c.in-Err.ensures.refused
+    walk_missing _ _ _ _ before _ c.requires.fits _ inner.is c.in-Err.ensures.before _ c.in-Err.ensures.refused
 
 -- ---- the end of the collection
 
@@ -26,11 +22,9 @@ returns-then-closes-clause-steps g c =
     let a = c.args in
     let inner = c.requires.innermost in
     let is = closes_is (token_of c.in-Ok.token) a.kind (sym c.closes.ensures ∙ c.if-closes.true) in
-    walk_closed a.settings.now a.reader.now c.next_token.new.reader (at a.nest.now a.writer.now) (at c.leave.new.nest c.leave.new.writer) inner.outer
-    c.requires.fits a.kind inner.is (c.in-Ok.ensures.first ∙ ap (λ (t : tokens.Token). t ∷ c.next_token.new.reader.ahead) is) c.in-Ok.ensures.before
-    c.leave.ensures.left c.leave.ensures.names c.answer_of.result
-    (answered_end a.writer.now c.leave.new.writer a.kind c.requires.within c.requires.bare c.leave.result c.answer_of.result c.answer_of.ensures
-    c.leave.ensures.ends)
+    walk_closed _ _ _ _ _ _ c.requires.fits _ inner.is (c.in-Ok.ensures.first ∙ ap (λ (t : tokens.Token). t ∷ c.next_token.new.reader.ahead) is)
+    c.in-Ok.ensures.before c.leave.ensures.left c.leave.ensures.names _
+    (answered_end _ _ _ c.requires.within c.requires.bare _ _ c.answer_of.ensures c.leave.ensures.ends)
 
 -- ---- an item
 
@@ -41,14 +35,12 @@ returns-in-Sequence-clause-steps g c =
     let is : a.nest.now.kinds.items ≡ inner.outer ++ Sequence ∷ [] = inner.is ∙ ap (λ kind. inner.outer ++ kind ∷ []) c.in-Sequence.is in
     let other = closes_not (token_of c.in-Ok.token) a.kind (sym c.closes.ensures ∙ c.if-closes.false) in
     let isn't = λ (end : token_of c.in-Ok.token ≡ tokens.end_array). other (end ∙ ap closer (sym c.in-Sequence.is)) in
-    walk_item a.settings.now a.reader.now c.next_token.new.reader (at a.nest.now a.writer.now) (at c.write_token.new.nest c.write_token.new.writer)
-    inner.outer c.requires.fits is (token_of c.in-Ok.token) isn't c.in-Ok.ensures.first c.in-Ok.ensures.before c.write_token.result c.write_token.ensures
+    walk_item _ _ _ _ _ _ c.requires.fits is _ isn't c.in-Ok.ensures.first c.in-Ok.ensures.before _ c.write_token.ensures
 
 -- ---- a name
 
 pub returns-in-Err-add-clause-steps : goal.returns-in-Err-add-clause-steps
-returns-in-Err-add-clause-steps g c =
-    walk_without_memory c.args.settings.now c.args.reader.now c.next_token.new.reader (at c.args.nest.now c.args.writer.now) _
+returns-in-Err-add-clause-steps g c = walk_without_memory c.args.settings.now c.args.reader.now c.next_token.new.reader (at c.args.nest.now c.args.writer.now) _
 
 pub returns-then-not-new-clause-steps : goal.returns-then-not-new-clause-steps
 returns-then-not-new-clause-steps g c =
@@ -72,10 +64,8 @@ returns-in-Err-answer_of-clause-steps g c =
     let key = c.in-Key.key.now in
     let first : a.reader.now.ahead ≡ tokens.key key ∷ c.next_token.new.reader.ahead =
     c.in-Ok.ensures.first ∙ ap (λ (t : Token). token_of t ∷ c.next_token.new.reader.ahead) c.in-Key.is in
-    let stop = c.in-Err-answer_of.stop in
-    walk_unnamed a.settings.now a.reader.now c.next_token.new.reader c.next_token.new.reader (at a.nest.now a.writer.now) (at a.nest.now a.writer.now)
-    inner.outer c.requires.fits is key first c.add.new.self c.text.new.self stop
-    (answered_key a.writer.now c.text.new.self key c.requires.bare c.text.result (Err stop) c.in-Err-answer_of.ensures c.text.ensures)
+    walk_unnamed _ _ _ c.next_token.new.reader _ (at a.nest.now a.writer.now) _ c.requires.fits is _ first _ _ _
+    (answered_key _ _ _ c.requires.bare _ _ c.in-Err-answer_of.ensures c.text.ensures)
 
 pub returns-in_default-answer_of-clause-steps : goal.returns-in_default-answer_of-clause-steps
 returns-in_default-answer_of-clause-steps g c =
@@ -87,10 +77,8 @@ returns-in_default-answer_of-clause-steps g c =
     c.in-Ok.ensures.first ∙ ap (λ (t : Token). token_of t ∷ c.next_token.new.reader.ahead) c.in-Key.is in
     let fresh : c.in-Ok-add.new ≡ true = grind arith in
     let wrote = answered_key a.writer.now c.text.new.self key c.requires.bare c.text.result (Ok tt) c.in_default-answer_of.ensures c.text.ensures in
-    walk_member a.settings.now a.reader.now c.next_token.new.reader c.write_first.new.reader (at a.nest.now a.writer.now)
-    (at c.write_first.new.nest c.write_first.new.writer) inner.outer c.requires.fits is key first c.add.new.self c.text.new.self
-    c.in-Ok-add.ensures.kept c.in-Ok-add.new c.in-Ok-add.ensures.adds fresh wrote.done wrote.kept
-    c.write_first.ensures.before c.write_first.result c.write_first.ensures.steps
+    walk_member _ _ _ _ _ _ _ c.requires.fits is _ first _ _ c.in-Ok-add.ensures.kept _ c.in-Ok-add.ensures.adds fresh wrote.done wrote.kept
+    c.write_first.ensures.before _ c.write_first.ensures.steps
 
 pub write_first-requires-clause-bare : goal.write_first-requires-clause-bare
 write_first-requires-clause-bare g c =
@@ -112,11 +100,7 @@ returns-in-String-clause-steps g c =
     let text = c.in-String.field-0.now in
     let first : a.reader.now.ahead ≡ tokens.string text ∷ c.next_token.new.reader.ahead =
     c.in-Ok.ensures.first ∙ ap (λ (t : Token). token_of t ∷ c.next_token.new.reader.ahead) c.in-String.is in
-    walk_refused a.settings.now a.reader.now c.next_token.new.reader (at a.nest.now a.writer.now) a.nest.now (stops.NotJson PastString) tt
-    (string_stopped a.settings.now.values.depth a.settings.now.unique_names a.settings.now.values.flow a.nest.now.kinds.items inner.outer a.nest.now.names
-    c.requires.fits.1 a.reader.now.ahead a.writer.now a.writer.now refl c.next_token.new.reader.before c.in-Ok.ensures.before is text
-    c.next_token.new.reader.ahead first)
-    tt
+    walk_refused _ _ _ _ _ _ tt (string_stopped _ _ _ _ _ _ c.requires.fits.1 _ _ _ refl _ c.in-Ok.ensures.before is _ _ first) tt
 
 pub returns-in_default-clause-steps : goal.returns-in_default-clause-steps
 returns-in_default-clause-steps g c =
@@ -126,12 +110,8 @@ returns-in_default-clause-steps g c =
     let token = token_of c.in-Ok.token in
     let other = closes_not token a.kind (sym c.closes.ensures ∙ c.if-closes.false) in
     let no_end = λ (end : token ≡ tokens.end_object). other (end ∙ ap closer (sym c.in-Mapping.is)) in
-    walk_refused a.settings.now a.reader.now c.next_token.new.reader (at a.nest.now a.writer.now) a.nest.now (stops.NotJson At) tt
-    (member_stopped a.settings.now.values.depth a.settings.now.unique_names a.settings.now.values.flow a.nest.now.kinds.items inner.outer a.nest.now.names
-    c.requires.fits.1 a.reader.now.ahead a.writer.now a.writer.now refl c.next_token.new.reader.before c.in-Ok.ensures.before is token
-    c.next_token.new.reader.ahead c.in-Ok.ensures.first (no_name c.in-Ok.token c.in_default.not-Key, no_end)
-    (no_string c.in-Ok.token c.next_token.new.reader.ahead c.in_default.not-Key c.in_default.not-String))
-    tt
+    walk_refused _ _ _ _ _ _ tt (member_stopped _ _ _ _ _ _ c.requires.fits.1 _ _ _ refl _ c.in-Ok.ensures.before is _ _ c.in-Ok.ensures.first
+    (no_name _ c.in_default.not-Key, no_end) (no_string _ _ c.in_default.not-Key c.in_default.not-String)) tt
 
 -- ---- the requirements of the calls
 

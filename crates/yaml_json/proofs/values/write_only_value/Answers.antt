@@ -1,12 +1,8 @@
-use Rattle.json.proofs.Unique.Spelling.{value-json_tokens_back}
-use Rattle.yaml_json.proofs.Common.{ℕ, Bool, true, false≢true, Err, List, [], ◌∷◌, ◌++◌, refl, ◌≡◌, append_assoc, append_cancel_right, sym, ◌∙◌, json_tokens}
-use Rattle.yaml_json.proofs.Common.{NamesOnce, json_events, tokens_events, Token, WriterState}
-use Rattle.yaml_json.proofs.Refusing.{past_refused, value_names}
-use Rattle.yaml_json.proofs.Stopping.{kept_by_text}
-use Rattle.yaml_json.proofs.TokenLemmas.{value_closed, value_given}
-use Rattle.yaml_json.proofs.WalkCalls.{only_value}
-use Rattle.yaml_json.specs.{Walk.TextStopsWriting, WalkSteps.at, Wrote.WroteValue, declared.values.Spot.TheVariants.PastValue}
-use Rattle.yaml_writer.proofs.{OpenLevels.gave_same, AnswerLemmas.kept_then}
+use Rattle.yaml_json.proofs.Common.{value-json_tokens_back, ℕ, Bool, true, false≢true, Err, List, [], ◌∷◌, ◌++◌, refl, ◌≡◌, append_assoc, append_cancel_right}
+use Rattle.yaml_json.proofs.Common.{sym, ◌∙◌, json_tokens, NamesOnce, json_events, tokens_events, Token, WriterState, TextStopsWriting, at, PastValue}
+use Rattle.yaml_json.proofs.Common.{gave_same, kept_then}
+use Rattle.yaml_json.{proofs.Refusing.past_refused, proofs.Refusing.value_names, proofs.Stopping.kept_by_text, proofs.TokenLemmas.value_closed}
+use Rattle.yaml_json.{proofs.TokenLemmas.value_given, proofs.WalkCalls.only_value, specs.Wrote.WroteValue}
 use Rattle.yaml_json.specs.declared.values.Stop.TheVariants as stops
 use Rattle.yaml_json.proofs.values.write_only_value.Goals as goal
 
@@ -29,15 +25,8 @@ past_stopped (token ∷ after) depth unique flow start before front last was now
       parts = sym spelled;
       why = past_refused depth unique start wrote.json token after wrote.read once;
       place = ((wrote.json, refl), more);
-      were = (
-        front,
-        (
-          last,
-          (whole, were),
-        ),
-      );
-      gave = gave_same was now (json_events was.canonical flow wrote.json) (tokens_events was.canonical flow (json_tokens wrote.json))
-          (sym (value_given wrote.json was.canonical flow))
+      were = (front, (last, (whole, were)));
+      gave = gave_same was now (json_events was.canonical flow wrote.json) (tokens_events was.canonical flow (json_tokens wrote.json)) (sym (value_given _ _ _))
           (record {
             emits = wrote.wrote.emits;
             canonical = wrote.wrote.canonical;
@@ -56,9 +45,8 @@ returns-else-is_at_end-clause-steps g c =
     let last = step.last in
     record {
       refused = λ by_text. past_stopped c.write_value.new.reader.ahead s.values.depth s.unique_names s.values.flow a.reader.now.ahead
-          c.write_value.new.reader.before last.front last.last a.writer.now now step.written
-          (value_names s.values.depth s.unique_names a.reader.now.ahead c.write_value.new.reader.ahead step.written.json step.written.read step.names)
-          last.parts last.were (c.is_at_end.ensures.more c.if-is_at_end.false);
+          c.write_value.new.reader.before last.front last.last a.writer.now now step.written (value_names s.values.depth s.unique_names a.reader.now.ahead
+          c.write_value.new.reader.ahead step.written.json step.written.read step.names) last.parts last.were (c.is_at_end.ensures.more c.if-is_at_end.false);
       unopened = λ some. absurd (false≢true some);
       kept = kept_then a.writer.now now now (Err (stops.NotJson PastValue)) step.kept (kept_by_text now (stops.NotJson PastValue) tt);
       failed = tt;
@@ -66,9 +54,7 @@ returns-else-is_at_end-clause-steps g c =
 
 pub returns-then-is_at_end-clause-steps : goal.returns-then-is_at_end-clause-steps
 returns-then-is_at_end-clause-steps g c =
-    let a = c.args in
-    only_value a.settings.now a.reader.now c.write_value.new.reader (at a.nest.now a.writer.now) (at c.write_value.new.nest c.write_value.new.writer)
-    (c.is_at_end.ensures.end c.if-is_at_end.true) c.in_default.ensures.steps
+    only_value _ _ _ _ _ (c.is_at_end.ensures.end c.if-is_at_end.true) c.in_default.ensures.steps
 
 pub write_value-requires-clause-bare : goal.write_value-requires-clause-bare
 write_value-requires-clause-bare g c = c.requires.bare

@@ -1,13 +1,8 @@
 use Rattle.yaml_json.proofs.Common.{IfSome, Err, Ok, List, [], ◌≡◌, ◌∙◌, ap, length, subst, arith, failure_of, BeganFirstValue, FirstFailed, RefusesFirst}
+use Rattle.yaml_json.proofs.Common.{kept_then, CollectionKind}
+use Rattle.yaml_json.proofs.{Stopping.if_some, Stops.gave_no_more, Stops.first_stopped_writing, HeldNameLemmas.no_item, Taking.stood_nothing, Reaching.last_on}
 use Rattle.yaml_json.proofs.KeepingNames.{names_begin, names_done, names_on}
-use Rattle.yaml_json.proofs.Stopping.{if_some}
-use Rattle.yaml_writer.proofs.AnswerLemmas.{kept_then}
-use Rattle.yaml_json.proofs.Stops.{gave_no_more, first_stopped_writing}
-use Rattle.yaml_json.proofs.HeldNameLemmas.{no_item}
-use Rattle.yaml_json.proofs.Taking.{stood_nothing}
-use Rattle.yaml_json.proofs.Reaching.{last_on}
 use Rattle.yaml_json.proofs.WholeWalk.{all_written, first_failed, first_so_far, innermost_open, open_within, step_failed, step_stopped, steps_on}
-use Rattle.yaml_base.specs.declared.kinds.CollectionKind.{CollectionKind}
 use Rattle.yaml_json.proofs.values.write_value.Goals as goal
 
 pub returns-in-Err-clause-steps : goal.returns-in-Err-clause-steps
@@ -25,8 +20,7 @@ returns-in-Err-clause-steps g c =
           (step.same by_text);
       unopened = λ some sound fewer. step.unmoved sound;
       kept = step.kept;
-      failed = if_some (failure_of stop)
-          (λ error. first_failed s.values.depth s.values.flow a.reader.now.ahead a.writer.now error now c.requires.bare)
+      failed = if_some (failure_of stop) (λ error. first_failed s.values.depth s.values.flow a.reader.now.ahead a.writer.now error now c.requires.bare)
           (subst (λ (levels : List CollectionKind). IfSome (failure_of stop)
           (λ error. FirstFailed s.values.depth s.values.flow a.reader.now.ahead levels a.writer.now error now))
           c.requires.none.0 step.failed);
@@ -37,13 +31,10 @@ each_token-init g c =
     let a = c.args in
     let s = a.settings.now in
     let step = c.in_default.ensures.steps in (
-      first_so_far s.values.depth s.values.flow a.reader.now.ahead a.writer.now c.write_first.new.reader.ahead c.write_first.new.nest.kinds.items
-          c.write_first.new.writer c.requires.bare
-          (subst (λ (levels : List CollectionKind). BeganFirstValue s.values.depth s.values.flow a.reader.now.ahead levels a.writer.now
-          c.write_first.new.reader.ahead c.write_first.new.nest.kinds.items c.write_first.new.writer) c.requires.none.0 step.began),
+      first_so_far _ _ _ _ _ _ _ c.requires.bare (subst (λ (levels : List CollectionKind). BeganFirstValue s.values.depth s.values.flow a.reader.now.ahead
+          levels a.writer.now c.write_first.new.reader.ahead c.write_first.new.nest.kinds.items c.write_first.new.writer) c.requires.none.0 step.began),
       step.fits,
-      names_on a.reader.now.ahead a.reader.now.ahead c.write_first.new.reader.ahead a.nest.now.names c.write_first.new.nest.names
-          (names_begin a.reader.now.ahead a.nest.now.names c.requires.none.2) step.names,
+      names_on _ _ _ _ _ (names_begin _ _ c.requires.none.2) step.names,
       step.kept,
       c.in_default.ensures.text,
       record { front = []; last = step.began.token; parts = step.began.first; were = c.in_default.ensures.before ∙ step.began.first },
@@ -54,8 +45,7 @@ each_token-preserved g c =
     let a = c.args in
     let l = c.each_token in
     let step = c.in_default-write_next.ensures.steps in (
-      steps_on a.settings.now.values.depth a.settings.now.values.flow a.reader.now.ahead a.writer.now l.reader.ahead l.nest.kinds.items l.writer l.invariant.0
-          c.write_next.new.reader.ahead c.write_next.new.nest.kinds.items c.write_next.new.writer step.stepped,
+      steps_on _ _ _ _ _ _ _ l.invariant.0 _ _ _ step.stepped,
       step.fits,
       names_on a.reader.now.ahead l.reader.ahead c.write_next.new.reader.ahead l.nest.names c.write_next.new.nest.names l.invariant.2 step.names,
       kept_then a.writer.now l.writer c.write_next.new.writer (Ok tt) l.invariant.3 step.kept,
@@ -107,10 +97,8 @@ write_next-requires-clause-fits g c = c.each_token.invariant.1
 
 pub write_next-requires-clause-within : goal.write_next-requires-clause-within
 write_next-requires-clause-within g c =
-    let a = c.args in
     let l = c.each_token in
-    innermost_open a.settings.now.values.depth a.settings.now.values.flow a.reader.now.ahead a.writer.now l.reader.ahead l.nest.kinds.items l.writer
-    l.invariant.0 c.in-Some.kind c.in-Some.ensures
+    innermost_open _ _ _ _ _ _ _ l.invariant.0 _ c.in-Some.ensures
 
 pub write_next-requires-clause-innermost : goal.write_next-requires-clause-innermost
 write_next-requires-clause-innermost g c = c.in-Some.ensures

@@ -1,8 +1,6 @@
-use Rattle.std.proofs.Common.{◌≡◌, true, subst, drop, length, nat_eq, sym, ap, ◌∙◌, ◌||◌}
-use Rattle.std.specs.List.{starts_with}
-use Rattle.yaml_json.specs.Lexing.{EndsWord}
+use Rattle.yaml_json.proofs.Common.{◌≡◌, true, subst, drop, length, nat_eq, sym, ap, ◌∙◌, ◌||◌, starts_with, EndsWord, token_of, ends_word, is_operator}
+use Rattle.yaml_json.proofs.Common.{is_space}
 use Rattle.yaml_json.proofs.{WordModes.name_goes, WordSteps.literal_read}
-use Rattle.json.specs.{Reads.token_of, Word.ends_word, Word.is_operator, Word.is_space}
 use Rattle.yaml_json.proofs.words.literal.Goals as goal
 
 pub returns-then-is_delimiter-clause-reads : goal.returns-then-is_delimiter-clause-reads

@@ -1,7 +1,6 @@
-use Rattle.std.proofs.Common.{List, ℕ, Some, true, ◌≡◌, ◌-◌, arith, drop, take, subst, sym, ap, ◌∙◌, ◌||◌}
-use Rattle.json.specs.Word.{after_number, ends_word, is_operator, is_space}
-use Rattle.yaml_json.proofs.{WordModes.number_goes, WordSteps.number_read}
-use Rattle.yaml_json.specs.{Lexemes.LeavesAt, Lexing.EndsWord}
+use Rattle.yaml_json.proofs.Common.{List, ℕ, Some, true, ◌≡◌, ◌-◌, arith, drop, take, subst, sym, ap, ◌∙◌, ◌||◌, ends_word, is_operator, is_space, EndsWord}
+use Rattle.json.specs.Word.{after_number}
+use Rattle.yaml_json.{proofs.WordModes.number_goes, proofs.WordSteps.number_read, specs.Lexemes.LeavesAt}
 use Rattle.yaml_json.proofs.words.number.Goals as goal
 
 pub returns-then-is_delimiter-clause-reads : goal.returns-then-is_delimiter-clause-reads
@@ -12,8 +11,7 @@ returns-then-is_delimiter-clause-reads c =
     number_read c.args.text.now c.range.result.now c.range_from.result.now end
     (subst (λ (t : List ℕ). LeavesAt t (Some end) (after_number t)) same c.in-Some.ensures)
     (ap (λ t. ends_word (drop end t)) (sym same) ∙ ap (λ byte. is_operator byte || is_space byte) (sym c.byte_at.ensures)
-    ∙ sym c.is_delimiter.ensures ∙ c.if-is_delimiter.true)
-    (c.range.ensures.value ∙ ap (λ n. take n c.args.text.now) whole) c.range_from.ensures.value
+    ∙ sym c.is_delimiter.ensures ∙ c.if-is_delimiter.true) (c.range.ensures.value ∙ ap (λ n. take n c.args.text.now) whole) c.range_from.ensures.value
 
 pub returns-then-is_delimiter-clause-over : goal.returns-then-is_delimiter-clause-over
 returns-then-is_delimiter-clause-over c =

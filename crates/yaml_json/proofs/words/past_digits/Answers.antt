@@ -1,6 +1,5 @@
-use Rattle.std.specs.Char.{is_ascii_digit}
+use Rattle.yaml_json.proofs.Common.{is_ascii_digit, ◌+◌, drop, length-drop, ap, arith}
 use Rattle.yaml_json.proofs.DigitLanes.{run_told}
-use Rattle.std.proofs.Common.{◌+◌, drop, length-drop, ap, arith}
 use Rattle.std.proofs.lemmas.List.Sums.{prefix_len-le-length}
 use Rattle.yaml_json.proofs.words.past_digits.Goals as goal
 

@@ -1,5 +1,4 @@
-use Rattle.std.proofs.Common.{◌≡◌, ◌+◌, ◌-◌, ◌≤◌, drop, length}
-use Rattle.std.specs.{List.prefix_len, Char.is_ascii_digit}
+use Rattle.yaml_json.proofs.Common.{◌≡◌, ◌+◌, ◌-◌, ◌≤◌, drop, length, prefix_len, is_ascii_digit}
 use Rattle.yaml_json.proofs.words.past_digits.Given as goal
 
 abbrev pub invariant-digits : goal.invariant-digits

@@ -1,7 +1,6 @@
-use Rattle.std.proofs.Common.{◌≡◌, ap, arith, subst, sym, ◌∙◌}
-use Rattle.yaml_json.specs.Lexemes.{ReadsWord}
-use Rattle.yaml_json.proofs.WordSteps.{number_word}
-use Rattle.json.specs.{Token.Token, Word.head, Word.word}
+use Rattle.yaml_json.proofs.Common.{◌≡◌, ap, arith, subst, sym, ◌∙◌, Token, head}
+use Rattle.yaml_json.{specs.Lexemes.ReadsWord, proofs.WordSteps.number_word}
+use Rattle.json.specs.Word.{word}
 use Rattle.yaml_json.proofs.words.word.Goals as goal
 
 pub returns-in-116-clause-reads : goal.returns-in-116-clause-reads
@@ -26,6 +25,5 @@ pub returns-in_default-clause-reads : goal.returns-in_default-clause-reads
 returns-in_default-clause-reads c =
     let text = c.args.text.now in
     let first : head text ≡ c.byte_at.result = ap head (sym c.as_bytes.ensures.value) ∙ sym c.byte_at.ensures in
-    subst (λ (token : Token). ReadsWord text token c.number.result)
-    (sym (number_word text (λ e. absurd (omega (arith, first, e))) (λ e. absurd (omega (arith, first, e))) (λ e. absurd (omega (arith, first, e)))))
-    c.number.ensures.reads
+    subst (λ (token : Token). ReadsWord text token c.number.result) (sym (number_word text (λ e. absurd (omega (arith, first, e)))
+    (λ e. absurd (omega (arith, first, e))) (λ e. absurd (omega (arith, first, e))))) c.number.ensures.reads

@@ -1,36 +1,7 @@
-use Rattle.std.proofs.lemmas.List.{length-set}
-use Rattle.std.proofs.Common.{arith, sym, ◌∙◌, length, refl, rules}
+use Rattle.yaml_json.proofs.Common.{arith, sym, ◌∙◌, length, refl, rules}
+use Rattle.std.{proofs.lemmas.List.length-set, specs.Vec.vec_len, specs.List.slice_range}
 use Rattle.yaml_json.proofs.HeldNameLemmas.{never_last, adds_again, adds_listed, adds_more, adds_unkept, never_past}
-use Rattle.std.specs.{Vec.vec_len, List.slice_range}
 use Rattle.yaml_json.proofs.names.Names.add.Goals as goal
-
-pub returns-then-not-self : goal.returns-then-not-self
-returns-then-not-self g c =
-    record {
-      kept = refl;
-      adds = λ names levels holds. adds_unkept names levels c.args.name.now c.args.self.now c.if-not-self.true;
-      as_long = refl;
-    }
-
-pub returns-in_default : goal.returns-in_default
-returns-in_default g c =
-    record {
-      kept = refl;
-      adds = λ names levels holds. let have = holds c.if-not-self.false in
-          absurd (never_last have.0 have.1 c.args.self.now.levels.items have.2 (λ some. c.in_default.ensures.variant.1 (grind (arith, some))));
-      as_long = search rules;
-    }
-
-pub returns-in_default-get : goal.returns-in_default-get
-returns-in_default-get g c =
-    let held = c.args.self.now in
-    record {
-      kept = refl;
-      adds = λ names levels holds. absurd (never_past held.few.items held.levels.items (vec_len held.levels) (grind arith) c.in-Some.level.now
-          c.in-Some.ensures.value (slice_range held.few.items c.in-Some.level.now.first (length held.few.items)) refl c.args.name names levels held.are_kept
-          c.if-not-self.false holds c.deref.result.now c.deref.ensures.value c.in_default-get.ensures.lookup.0);
-      as_long = length-set _ _ _;
-    }
 
 pub returns-then-is_among : goal.returns-then-is_among
 returns-then-is_among g c =

@@ -1,7 +1,5 @@
-use Rattle.std.proofs.Common.{sym, ap, ◌∙◌}
-use Rattle.yaml_json.specs.Reached.{Reader}
-use Rattle.yaml_json.proofs.Reaching.{ends_so, more_owed, more_so}
-use Rattle.yaml_json.proofs.TextsInTurn.{is_more, no_more}
+use Rattle.yaml_json.proofs.Common.{sym, ap, ◌∙◌, Reader}
+use Rattle.yaml_json.proofs.{Reaching.ends_so, Reaching.more_owed, Reaching.more_so, TextsInTurn.is_more, TextsInTurn.no_more}
 use Rattle.yaml_json.proofs.tokens.Tokens.is_at_end.Goals as goal
 
 pub returns-in-Open-clause-end : goal.returns-in-Open-clause-end
@@ -11,9 +9,7 @@ returns-in-Open-clause-end g c e =
 
 pub returns-in-Open-clause-more : goal.returns-in-Open-clause-more
 returns-in-Open-clause-more g c e none =
-    let s = c.self.inside in
-    more_so s.stage s.rest.now c.self.invariant.stands.tidy c.in-Open.is (is_more s.rest.now c.is_empty.result c.is_empty.ensures e)
-    (ap (λ (r : Reader). r.ahead) c.self.view_is ∙ none)
+    more_so _ _ c.self.invariant.stands.tidy c.in-Open.is (is_more _ _ c.is_empty.ensures e) (ap (λ (r : Reader). r.ahead) c.self.view_is ∙ none)
 
 pub returns-in-Owed-clause-more : goal.returns-in-Owed-clause-more
 returns-in-Owed-clause-more g c e none =

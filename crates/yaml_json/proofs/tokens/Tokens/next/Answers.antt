@@ -1,5 +1,4 @@
-use Rattle.std.proofs.Common.{◌≡◌, [], sym, ap, ◌∙◌}
-use Rattle.yaml_json.specs.{Ahead.ahead, Reached.Reader}
+use Rattle.yaml_json.proofs.Common.{◌≡◌, [], sym, ap, ◌∙◌, ahead, Reader}
 use Rattle.yaml_json.proofs.{Reaching.reads_no_more, Reaching.reads_one, Reaching.still_ahead, Stepping.first_printable}
 use Rattle.yaml_json.proofs.tokens.Tokens.next.Goals as goal
 
@@ -22,43 +21,5 @@ invariant_of-self-in-Ok-Some g c =
 
 -- ---- there is none
 
-pub returns-in-Over : goal.returns-in-Over
-returns-in-Over g c =
-    let s = c.self.inside in
-    let none : ahead s.stage s.rest.now ≡ [] = ap (λ stage. ahead stage s.rest.now) c.in-Over.is in
-    record {
-      value = (sym (ap (λ (r : Reader). r.ahead) c.self.view_is) ∙ none, none);
-      printable = tt;
-      before = still_ahead s.text.now s.stage s.rest.now s.was s.left c.self.invariant ∙ ap (λ (r : Reader). r.ahead) c.self.view_is;
-      text = ap (λ (r : Reader). r.text) c.self.view_is;
-    }
-
-pub returns-in-Ok-None : goal.returns-in-Ok-None
-returns-in-Ok-None g c =
-    let s = c.self.inside in
-    let read = rw c.in-Ok-None.field-0-is at c.in-Ok-None.ensures in
-    record {
-      value = (sym (ap (λ (r : Reader). r.ahead) c.self.view_is) ∙ read.reads, read.reads);
-      printable = tt;
-      before = still_ahead s.text.now s.stage s.rest.now s.was s.left c.self.invariant ∙ ap (λ (r : Reader). r.ahead) c.self.view_is;
-      text = ap (λ (r : Reader). r.text) c.self.view_is;
-    }
-
-pub returns-in-Err : goal.returns-in-Err
-returns-in-Err g c =
-    let s = c.self.inside in
-    record {
-      value = tt;
-      printable = tt;
-      before = still_ahead s.text.now s.stage s.rest.now s.was s.left c.self.invariant ∙ ap (λ (r : Reader). r.ahead) c.self.view_is;
-      text = ap (λ (r : Reader). r.text) c.self.view_is;
-    }
-
 pub invariant_of-self : goal.invariant_of-self
 invariant_of-self g c = let s = c.self.inside in reads_no_more s.text.now s.stage s.rest.now s.was s.left c.self.invariant
-
-pub invariant_of-self-in-Ok-None : goal.invariant_of-self-in-Ok-None
-invariant_of-self-in-Ok-None g c = let s = c.self.inside in reads_no_more s.text.now s.stage s.rest.now s.was s.left c.self.invariant
-
-pub invariant_of-self-in-Err : goal.invariant_of-self-in-Err
-invariant_of-self-in-Err g c = let s = c.self.inside in reads_no_more s.text.now s.stage s.rest.now s.was s.left c.self.invariant
