@@ -1,29 +1,21 @@
 -- The findings in an array or a table in braces, from those in a value inside of it.
-use Rattle.std.proofs.Common.{◌≡◌, ℕ, suc, ◌+◌, ◌==◌, ◌-◌, ◌<◌, ◌≤◌, true, false, List, [], ◌∷◌, ◌++◌, drop, length, Some, None, Result, Ok, Err, refl, sym}
-use Rattle.std.proofs.Common.{ap, subst, ◌∙◌, inl, inr, arith}
-use Rattle.std.proofs.lemmas.Option.{none-some}
+use Rattle.toml_ordered.proofs.Common.{◌≡◌, ℕ, suc, ◌+◌, ◌==◌, ◌-◌, ◌<◌, ◌≤◌, true, false, List, [], ◌∷◌, ◌++◌, drop, length, Some, None, Result, Ok, Err, refl}
+use Rattle.toml_ordered.proofs.Common.{sym, ap, subst, ◌∙◌, inl, inr, arith, none-some, after_element, key_equals, Items, TomlNode, TomlNodes, array, no_items}
+use Rattle.toml_ordered.proofs.Common.{push_item, table, table_view, AddsFirsts, IsAgain, NeitherTells, keys_firsts, table_firsts, val, IsFoundHere, ClashesIn}
+use Rattle.toml_ordered.proofs.Common.{HasLongKey, KeyTells, NestsPast, EndsWith, IsShutInBraces, PairAt, key_parts, IsMemory, put, Fault, Closed, first}
+use Rattle.toml_ordered.proofs.Common.{skip_blank, key_view, Key}
 use Rattle.std.specs.Borrow.{Bor}
-use Rattle.toml.specs.Parse.{after_element, key_equals}
+use Rattle.toml_ordered.proofs.{Depths.blank_within, Depths.ends_within, Depths.more_items, LongKeys.named_short}
 use Rattle.toml_ordered.proofs.Conflicts.{knows_more_pairs, knows_no_pairs, more_pairs, pairs_conflict, reason_in}
 use Rattle.toml_ordered.proofs.Blaming.{IsBlamed, array_unblamed, braces_unblamed, keyval_nameless, keyval_none, neither, read_unblamed, same_pair, same_rest}
 use Rattle.toml_ordered.proofs.Blaming.{unblamed}
-use Rattle.toml_ordered.proofs.Depths.{blank_within, ends_within, more_items}
 use Rattle.toml_ordered.proofs.Endings.{after_element_ends, end_left, ends_drop, ends_self, ends_then, item_left, key_equals_ends, pair_left}
-use Rattle.toml_ordered.proofs.LongKeys.{named_short}
 use Rattle.toml_ordered.proofs.Turns.{items_turn, keyval_is, members_turn, val_array, val_table}
-use Rattle.toml_ordered.specs.Data.{Items, TomlNode, TomlNodes, array, no_items, no_nodes, push_item, table}
-use Rattle.toml_ordered.specs.Keys.{table_view}
-use Rattle.toml_ordered.specs.Firsts.{AddsFirsts, IsAgain, NeitherTells, keys_firsts, table_firsts}
-use Rattle.toml_ordered.specs.Grammar.{val}
-use Rattle.toml_ordered.specs.Inside.{ArrayUpTo, BracesUpTo, FindsHere, GoesOnInside, IsFoundHere, IsNextInside, IsValueRead, IsValueRefused, NextPair}
-use Rattle.toml_ordered.specs.Nesting.{ClashesIn, HasLongKey, ItemAt, KeyTells, NestsPast, PairComes, ValueTells, next_item}
-use Rattle.toml_ordered.specs.Places.{EndsWith, IsShutInBraces, PairAt, key_parts}
-use Rattle.toml_ordered.specs.Reading.{IsMemory}
-use Rattle.toml_ordered.specs.Tables.{put}
-use Rattle.toml_ordered.specs.declared.{fault.Fault.Fault, tree.Node.Node, tree.Origin.TheVariants.Closed, values.Found.Found, values.Found.TheVariants.Opened}
-use Rattle.toml_ordered.specs.declared.{values.Found.TheVariants.Value, values.Open.Open, values.Open.TheVariants.Array, values.Open.TheVariants.Braces}
-use Rattle.toml_parser.specs.{Lexical.first, Lexical.skip_blank, Reading.key_view, Strings.Key}
-use Rattle.toml_ordered.specs.declared.tree.Table.{Table as CodeTable}
+use Rattle.toml_ordered.specs.{Data.no_nodes, declared.tree.Node.Node, declared.values.Found.Found, declared.values.Found.TheVariants.Opened}
+use Rattle.toml_ordered.specs.{declared.values.Found.TheVariants.Value, declared.values.Open.Open, declared.tree.Table.Table as CodeTable}
+use Rattle.toml_ordered.specs.Inside.{ArrayUpTo, BracesUpTo, FindsHere, GoesOnInside, IsNextInside, IsValueRead, IsValueRefused, NextPair}
+use Rattle.toml_ordered.specs.Nesting.{ItemAt, PairComes, ValueTells, next_item}
+use Rattle.toml_ordered.specs.declared.values.Open.TheVariants.{Array, Braces}
 
 pub inside_ends : (text rest : List ℕ) → EndsWith (drop 1 text) rest → EndsWith text rest
 inside_ends text rest ends = ends_then text (drop 1 text) rest (ends_drop 1 text) ends
@@ -100,8 +92,7 @@ module _ (depth : ℕ) (text : List ℕ) (found : CodeTable) (rest : List ℕ) (
 
     module _ (key : Key) (at : List ℕ) (named : key_equals (skip_blank rest) ≡ Some (key, at)) where
       braces_bad : val depth at ≡ None → val (suc depth) text ≡ None
-      braces_bad read =
-          known.value ∙ rw (members_turn (val depth) known.room (table_view found) rest (omega (arith, known.enough)), other, named, read)
+      braces_bad read = known.value ∙ rw (members_turn (val depth) known.room (table_view found) rest (omega (arith, known.enough)), other, named, read)
 
       module _ (x : TomlNode) (after : List ℕ) (read : val depth at ≡ Some (x, after)) where
         pub braces_unended : (more : TomlNodes) → put key x (table_view found) ≡ Some more → after_element 125 after ≡ None → val (suc depth) text ≡ None
@@ -119,8 +110,7 @@ module _ (depth : ℕ) (text : List ℕ) (found : CodeTable) (rest : List ℕ) (
           pub braces_again : (refused : Fault) → ((IsMemory refused → ⊥) → put key x (table_view found) ≡ None)
               → IsAgain (key_parts key) here (table_firsts found) (IsShutInBraces (table_view found) key x) refused → IsValueRefused (suc depth) text refused
           braces_again refused denies again = (
-            λ real.
-                known.value
+            λ real. known.value
                 ∙ rw (members_turn (val depth) known.room (table_view found) rest (omega (arith, known.enough)), other, named, read, denies real),
             pairs_conflict depth (drop 1 text) rest (table_view found) key here (table_firsts found) refused known.knows pair_at within x after
                 (keyval_is (val depth) (skip_blank rest) key at after x named read) denies again (λ name one two. ClashesIn (suc depth) name one two text)
@@ -141,8 +131,7 @@ module _ (depth : ℕ) (text : List ℕ) (found : CodeTable) (rest : List ℕ) (
                     known.value
                     ∙ rw (members_turn (val depth) known.room (table_view found) rest (omega (arith, known.enough)), other, named, read, defined, element);
                 ends = ends_then (drop 1 text) rest next known.ends (pair_left depth rest key at x after next 125 named read element);
-                knows = knows_more_pairs depth (drop 1 text) rest next (table_view found) key here _ _ known.knows pair_at within
-                    (omega (arith, shorter, value, behind, is)) adds;
+                knows = knows_more_pairs _ _ rest next _ _ _ _ _ known.knows pair_at within (omega (arith, shorter, value, behind, is)) adds;
                 count = suc known.count;
                 read = more_pairs depth known.count (drop 1 text) (table_view found) (table_view new) rest key x after next known.read
                     (keyval_is (val depth) (skip_blank rest) key at after x named read) defined element;
@@ -155,8 +144,7 @@ module _ (depth : ℕ) (text : List ℕ) (found : CodeTable) (rest : List ℕ) (
 
   pub braces_unnamed : key_equals (skip_blank rest) ≡ None → ((left : ℕ) → HasLongKey left (skip_blank rest) → ⊥) → NoReason
   braces_unnamed none no_long =
-      neither (suc depth) text
-      (braces_unblamed depth text rest (table_view found) known.count known.opens known.read (rw none)
+      neither (suc depth) text (braces_unblamed depth text rest (table_view found) known.count known.opens known.read (rw none)
       (λ name value after pair refused. none-some _ (sym (keyval_nameless (val depth) (skip_blank rest) none) ∙ pair)) no_long
       (λ name after named blamed. none-some _ (sym none ∙ named)))
 
@@ -180,8 +168,7 @@ module _ (depth : ℕ) (text : List ℕ) (found : CodeTable) (rest : List ℕ) (
     pub braces_refused : val depth at ≡ None → (IsBlamed depth at → ⊥) → NoReason
     braces_refused unread none =
         let no_pair = keyval_none (val depth) (skip_blank rest) key at named unread in
-        neither (suc depth) text
-        (braces_unblamed depth text rest (table_view found) known.count known.opens known.read (rw no_pair)
+        neither (suc depth) text (braces_unblamed depth text rest (table_view found) known.count known.opens known.read (rw no_pair)
         (λ name value after pair refused. none-some _ (sym no_pair ∙ pair)) (named_short (skip_blank rest) (key, at) named)
         (λ name after also blamed. none (subst (IsBlamed depth) (same_rest (name, after) (key, at) (sym also ∙ named)) blamed)))
 
@@ -189,11 +176,9 @@ module _ (depth : ℕ) (text : List ℕ) (found : CodeTable) (rest : List ℕ) (
         → after_element 125 after ≡ None → NoReason
     braces_parted x after read more defined element =
         let whole = keyval_is (val depth) (skip_blank rest) key at after x named read in
-        neither (suc depth) text
-        (braces_unblamed depth text rest (table_view found) known.count known.opens known.read (rw (whole, defined, element))
+        neither (suc depth) text (braces_unblamed depth text rest (table_view found) known.count known.opens known.read (rw (whole, defined, element))
         (λ name value end pair refused. none-some _ (sym (same_put (name, value) (key, x) (same_pair ((name, value), end) ((key, x), after) (sym pair ∙ whole))
-        refused) ∙ defined)) (named_short (skip_blank rest) (key, at) named)
-        (λ name end also blamed. read_unblamed depth at (x, after) read
+        refused) ∙ defined)) (named_short (skip_blank rest) (key, at) named) (λ name end also blamed. read_unblamed depth at (x, after) read
         (subst (IsBlamed depth) (same_rest (name, end) (key, at) (sym also ∙ named)) blamed)))
       where
         same_put : (p q : Key × TomlNode) → p ≡ q → put p.0 p.1 (table_view found) ≡ None → put q.0 q.1 (table_view found) ≡ None
@@ -224,8 +209,7 @@ inside_refused depth text (Array found) at fault (rest, known, other, is) refuse
       λ real. array_bad depth text _ rest known other (rw is at refused.0 real),
       reason_in fault (λ key one two. ClashesIn depth key one two at) (λ key one two. ClashesIn (suc depth) key one two text) (λ left. NestsPast depth left at)
           (λ left. NestsPast (suc depth) left text) (λ key one two clash. inl (known.opens, (at, item, clash)))
-          (λ left deep. inl (known.opens, (at, item, deep)))
-          (λ real none. array_neither depth text _ rest known
+          (λ left deep. inl (known.opens, (at, item, deep))) (λ real none. array_neither depth text _ rest known
           (rw (subst (λ (i : List ℕ). val depth i ≡ None) is (refused.0 real)))
           (subst (λ (i : List ℕ). IsBlamed depth i → ⊥) is (unblamed depth at none))) refused.1,
     )
@@ -248,8 +232,7 @@ Stands [] depth text inner at = (depth ≡ inner) × (text ≡ at)
 Stands (outer ∷ others) depth text inner at =
     (less : ℕ) × (next : List ℕ) × (depth ≡ suc less) × IsNextInside less text outer next × Stands others less next inner at
 
-stands_depth : (opened : List Open) (depth : ℕ) (text : List ℕ) (inner : ℕ) (at : List ℕ) → Stands opened depth text inner at
-    → depth ≡ length opened + inner
+stands_depth : (opened : List Open) (depth : ℕ) (text : List ℕ) (inner : ℕ) (at : List ℕ) → Stands opened depth text inner at → depth ≡ length opened + inner
 stands_depth [] depth text inner at (is, same) = omega (arith, is)
 stands_depth (outer ∷ others) depth text inner at (less, next, is, inside, stands) =
     let more = stands_depth others less next inner at stands in
@@ -287,8 +270,7 @@ pub stands_closed : (opened popped : List Open) (depth : ℕ) (text : List ℕ) 
     (innermost : Open) → Stands opened depth text inner at → IsFoundHere inner at found rest → found ≡ Value node → opened ≡ popped ++ innermost ∷ []
     → (from : List ℕ) × Stands popped depth text (suc inner) from × IsNextInside inner from innermost at × IsValueRead inner at node rest
 stands_closed opened popped depth text inner at found node rest innermost stands is_found is one_less =
-    let (from, fewer, inside) =
-    stands_pop popped depth text inner at innermost (subst (λ (os : List Open). Stands os depth text inner at) one_less stands) in
+    let (from, fewer, inside) = stands_pop popped depth text inner at innermost (subst (λ (os : List Open). Stands os depth text inner at) one_less stands) in
     (from, fewer, inside, subst (λ (f : Found). IsFoundHere inner at f rest) is is_found)
 
 pub stands_refused : (opened : List Open) (depth : ℕ) (text : List ℕ) (inner : ℕ) (at : List ℕ) (fault : Fault) → Stands opened depth text inner at

@@ -1,22 +1,15 @@
 -- A value is refused for one reason: if it isn't TOML at a place, no key is defined again in it, and nothing nests too deep.
-use Rattle.std.proofs.Common.{◌≡◌, ◌⊎◌, inl, inr, ℕ, zero, suc, ◌+◌, ◌-◌, ◌<◌, ◌≤◌, ◌==◌, true, false, List, ◌∷◌, [], drop, length, Option, Some, None, refl}
-use Rattle.std.proofs.Common.{sym, ap, subst, ◌∙◌, arith}
-use Rattle.std.specs.Prelude.{option_and_then}
-use Rattle.toml_parser.specs.Lexical.{Read, first, skip_blank}
-use Rattle.toml_parser.specs.Numbers.{unquoted, word_len}
-use Rattle.toml_parser.specs.Strings.{Key, key_after, simple_key}
-use Rattle.toml.specs.Parse.{after_element, key_equals, read_map}
-use Rattle.std.proofs.NetLemmas.Options.{map_some}
+use Rattle.toml_ordered.proofs.Common.{◌≡◌, ◌⊎◌, inl, inr, ℕ, zero, suc, ◌+◌, ◌-◌, ◌<◌, ◌≤◌, ◌==◌, true, false, List, ◌∷◌, [], drop, length, Option, Some, None}
+use Rattle.toml_ordered.proofs.Common.{refl, sym, ap, subst, ◌∙◌, arith, option_and_then, Read, first, skip_blank, Key, after_element, read_map, map_some}
+use Rattle.toml_ordered.proofs.Common.{Items, TomlNode, TomlNodes, array, no_items, push_item, table, NeitherTells, atom, keyval, val, ClashesIn, HasLongKey}
+use Rattle.toml_ordered.proofs.Common.{NestsPast, after_items, PairAt, put, Closed, cases_Bool, eqb-true, false≢true, none-some, same_Some}
+use Rattle.toml_parser.specs.{Numbers.unquoted, Numbers.word_len, Strings.key_after, Strings.simple_key}
+use Rattle.toml.specs.Parse.{key_equals}
 use Rattle.toml_ordered.proofs.LongKeys.{long_begins, long_nameless}
 use Rattle.toml_ordered.proofs.Turns.{items_turn, members_turn, val_array, val_atom, val_deep, val_table}
-use Rattle.toml_ordered.specs.Data.{Items, TomlNode, TomlNodes, array, no_items, no_nodes, push_item, table}
-use Rattle.toml_ordered.specs.Firsts.{NeitherTells}
-use Rattle.toml_ordered.specs.Grammar.{atom, items, keyval, members, val}
-use Rattle.toml_ordered.specs.Nesting.{ClashesIn, HasLongKey, ItemAt, NestsPast, PairComes, after_items, next_item}
-use Rattle.toml_ordered.specs.Places.{PairAt, PairsClash, after_pairs, next_pair}
-use Rattle.toml_ordered.specs.Tables.{put}
-use Rattle.toml_ordered.specs.declared.tree.Origin.TheVariants.{Closed}
-use Rattle.std.proofs.lemmas.{Bool.cases_Bool, Bool.cases_lt, Bool.eqb-true, Bool.false≢true, Option.none-some, Option.option_and_then_some, Option.same_Some}
+use Rattle.toml_ordered.specs.{Data.no_nodes, Grammar.items, Grammar.members, Nesting.ItemAt, Nesting.PairComes, Nesting.next_item}
+use Rattle.toml_ordered.specs.Places.{PairsClash, after_pairs, next_pair}
+use Rattle.std.proofs.{lemmas.Bool.cases_lt, lemmas.Option.option_and_then_some}
 
 pub same_rest : (p q : Key × List ℕ) → Some p ≡ Some q → p.1 ≡ q.1
 same_rest p q e = ap (λ (k : Key × List ℕ). k.1) (same_Some p q e)
@@ -84,8 +77,7 @@ value_begins depth text v read = elim (cases_Bool (first text == 93)) [
 -- nor a key with a brace, or with a bracket
 key_begins : (text : List ℕ) (k : Key × List ℕ) → key_equals text ≡ Some k → (first text == 125) ≡ false
 key_begins text k named = elim (cases_Bool (first text == 125)) [
-  | inl closing ↦
-      absurd (none-some _ (sym (ap key_equals (begun_with 124 text (eqb-true (first text) 125 closing)) ∙ no_key (drop 1 text)) ∙ named))
+  | inl closing ↦ absurd (none-some _ (sym (ap key_equals (begun_with 124 text (eqb-true (first text) 125 closing)) ∙ no_key (drop 1 text)) ∙ named))
   | inr other ↦ other
 ]
 
@@ -150,12 +142,10 @@ module _ (depth : ℕ) (start : List ℕ) where
   -- a table in braces likewise
   abbrev ReadsPairs : (room : ℕ) (at : TomlNodes × List ℕ) → Type 0
   ReadsPairs room at =
-      (members (val depth) room no_nodes start ≡ None)
-      ⊎ ((left : ℕ) × (members (val depth) room no_nodes start ≡ members (val depth) left at.0 at.1))
+      (members (val depth) room no_nodes start ≡ None) ⊎ ((left : ℕ) × (members (val depth) room no_nodes start ≡ members (val depth) left at.0 at.1))
 
   reads_pairs : (m room : ℕ) (to : TomlNodes × List ℕ) → after_pairs depth m start ≡ Some to → ReadsPairs room to
-  reads_pairs zero room to is =
-      inr (room, ap (λ (p : TomlNodes × List ℕ). members (val depth) room p.0 p.1) (same_Some (no_nodes, start) to is))
+  reads_pairs zero room to is = inr (room, ap (λ (p : TomlNodes × List ℕ). members (val depth) room p.0 p.1) (same_Some (no_nodes, start) to is))
   reads_pairs (suc m) room to is =
       option_and_then_some {P = ReadsPairs room to} (next_pair depth) (after_pairs depth m start) to is λ p at next.
       option_and_then_some {P = ReadsPairs room to} _ (keyval (val depth) (skip_blank p.1)) to next λ e read pair.
@@ -222,8 +212,7 @@ module _ (depth : ℕ) (text : List ℕ) where
   long_stops : first text ≡ 123 → (found : TomlNodes) (rest : List ℕ) (count : ℕ) → after_pairs depth count (drop 1 text) ≡ Some (found, rest) → (left : ℕ)
       → HasLongKey left (skip_blank rest) → val (suc depth) text ≡ None
   long_stops opens found rest count read left long =
-      braces_stop opens found rest count read
-      (λ room some. members_turn (val depth) room found rest some
+      braces_stop opens found rest count read (λ room some. members_turn (val depth) room found rest some
       ∙ rw (long_begins left (skip_blank rest) long, keyval_nameless (val depth) (skip_blank rest) (long_nameless left (skip_blank rest) long)))
 
   -- the pair at which two clash, and the pair whose value is refused
@@ -243,8 +232,7 @@ module _ (depth : ℕ) (text : List ℕ) where
 
     value_stops : first text ≡ 123 → val depth at.after ≡ None → val (suc depth) text ≡ None
     value_stops opens none =
-        braces_stop opens found at.rest at.count at.read
-        (λ left some. members_turn (val depth) left found at.rest some
+        braces_stop opens found at.rest at.count at.read (λ left some. members_turn (val depth) left found at.rest some
         ∙ rw (key_begins (skip_blank at.rest) (name, at.after) at.begins, keyval_none (val depth) (skip_blank at.rest) name at.after at.begins none))
 
 -- ---- blame
@@ -358,9 +346,8 @@ braces_unblamed depth text rest found count opens read stops no_clash no_long no
     by (inr (also, inl (key, one, two, clash))) =
         let is = same clash.found clash.at.rest clash.at.count clash.at.read
         (clash_next depth text clash.found clash.name two clash.at clash.value clash.after clash.pair clash.refused) in
-        no_clash clash.name clash.value clash.after
-        (subst (λ (p : TomlNodes × List ℕ). keyval (val depth) (skip_blank p.1) ≡ Some ((clash.name, clash.value), clash.after)) is clash.pair)
-        (subst (λ (p : TomlNodes × List ℕ). put clash.name clash.value p.0 ≡ None) is clash.refused)
+        no_clash clash.name clash.value clash.after (subst (λ (p : TomlNodes × List ℕ). keyval (val depth) (skip_blank p.1) ≡ Some
+        ((clash.name, clash.value), clash.after)) is clash.pair) (subst (λ (p : TomlNodes × List ℕ). put clash.name clash.value p.0 ≡ None) is clash.refused)
     by (inr (also, inr (inl (pair, left, comes, long)))) =
         let there = subst (HasLongKey left) comes.here long in
         let is = same comes.found comes.rest comes.count comes.read

@@ -1,23 +1,16 @@
 -- Keys that are defined again, and the knowledge of the keys so far.
-use Rattle.std.proofs.Common.{Option, Some, zero, suc, drop, ap, ◌≡◌, ℕ, ◌<◌, ◌≤◌, List, length, min, string_bytes, None}
-use Rattle.std.proofs.Common.{refl, sym, subst, ◌∙◌, inl, inr, arith}
-use Rattle.toml_parser.specs.Lexical.{right_brace, skip_blank}
-use Rattle.toml_parser.specs.Strings.{Key, recursion_limit}
-use Rattle.toml.specs.Parse.{after_element, key_equals}
-use Rattle.toml_ordered.specs.declared.fault.Fault.{Fault}
-use Rattle.toml_ordered.specs.declared.fault.Fault.TheVariants as fault
-use Rattle.toml_ordered.proofs.Depths.{blank_within, ends_within, expression_nests_within}
+use Rattle.toml_ordered.proofs.Common.{Option, Some, zero, suc, drop, ap, ◌≡◌, ℕ, ◌<◌, ◌≤◌, List, length, string_bytes, None, refl, sym, subst, ◌∙◌, inl, inr}
+use Rattle.toml_ordered.proofs.Common.{arith, skip_blank, Key, recursion_limit, after_element, key_equals, Fault, TomlNode, TomlNodes, Firsts, no_firsts}
+use Rattle.toml_ordered.proofs.Common.{HasFirst, AddsFirsts, IsAgain, FaultTells, NeitherTells, keyval, line, val, ReadsUpTo, IsShutInBraces, PairAt, ClashesIn}
+use Rattle.toml_ordered.proofs.Common.{ExpressionNestsPast, PairClashes, IsReworded, moved_to, key_parts, IsGrammarRefusal, IsMemory, TomlDocument, Expression}
+use Rattle.toml_ordered.proofs.Common.{define, put}
+use Rattle.std.proofs.Common.{min}
+use Rattle.toml_parser.specs.Lexical.{right_brace}
+use Rattle.toml_ordered.proofs.{Depths.blank_within, Depths.ends_within, Depths.expression_nests_within, Unblamed.neither_document}
 use Rattle.toml_ordered.proofs.Endings.{end_left, ends_drop, key_equals_ends, value_ends}
-use Rattle.toml_ordered.proofs.Unblamed.{neither_document}
-use Rattle.toml_ordered.specs.Data.{TomlNode, TomlNodes}
-use Rattle.toml_ordered.specs.Firsts.{Firsts, no_firsts, HasFirst, AddsFirsts, IsAgain, IsOther, FaultTells, NeitherTells}
-use Rattle.toml_ordered.specs.Grammar.{keyval, line, val}
-use Rattle.toml_ordered.specs.Inside.{KnowsPairs}
-use Rattle.toml_ordered.specs.Places.{after_pairs, ReadsUpTo, ExpressionAt, FirstDefines, IsShutFor, IsShutInBraces, PairAt, PairsClash}
-use Rattle.toml_ordered.specs.Nesting.{ClashesIn, ExpressionNestsPast, HasReason, PairClashes}
-use Rattle.toml_ordered.specs.Places.{IsReworded, IsSettled, moved_to, key_parts, whole_path}
-use Rattle.toml_ordered.specs.Reading.{IsGrammarRefusal, IsMemory}
-use Rattle.toml_ordered.specs.Tables.{TomlDocument, Expression, define, put}
+use Rattle.toml_ordered.specs.{Firsts.IsOther, Inside.KnowsPairs, Nesting.HasReason}
+use Rattle.toml_ordered.specs.Places.{after_pairs, ExpressionAt, FirstDefines, IsShutFor, PairsClash, IsSettled, whole_path}
+use Rattle.toml_ordered.specs.declared.fault.Fault.TheVariants as fault
 
 -- ---- faults of another kind
 
@@ -155,8 +148,7 @@ knows_more text rest next doc e here old new knows at within shorter adds path k
 pub expressions_conflict : (text rest : List ℕ) (doc : TomlDocument) (e : Expression) (here : ℕ) (old : Firsts) (refused moved : Fault)
     → KnowsFirsts text old rest → ExpressionAt text doc e here → here ≤ length rest → ((IsMemory refused → ⊥) → define doc e ≡ None)
     → IsAgain (whole_path doc e.0 e.1) here old (IsShutFor doc e.0 e.1) refused → moved ≡ moved_to here refused → HasReason text moved
-expressions_conflict text rest doc e here old refused moved knows at within denied again is =
-    subst (HasReason text) (sym is) (by refused denied again)
+expressions_conflict text rest doc e here old refused moved knows at within denied again is = subst (HasReason text) (sym is) (by refused denied again)
   where
     by : (f : Fault) → ((IsMemory f → ⊥) → define doc e ≡ None) → IsAgain (whole_path doc e.0 e.1) here old (IsShutFor doc e.0 e.1) f
         → HasReason text (moved_to here f)

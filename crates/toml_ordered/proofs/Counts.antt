@@ -1,10 +1,9 @@
 -- The number of values that a drop has in hand, and that each turn of its loop goes on.
-use Rattle.std.proofs.Common.{List, [], ◌∷◌, map, sum_by, length, set, get_or, Result, Ok, Err, ◌≡◌, ℕ, zero, suc, ◌+◌, ◌-◌, ◌*◌, ◌<◌, ◌≤◌, Option, Some}
-use Rattle.std.proofs.Common.{None, Vec, vec_len, Global, refl, ap, subst, sym, ◌∙◌, arith, rules}
-use Rattle.std.proofs.lemmas.List.Sums.{sum-map, sum_by-cons, sum_by-set}
-use Rattle.toml_ordered.specs.Counts.{IsEntered, IsExchanged, IsLeft, IsPopped, node_count, table_count, tables_count}
-use Rattle.toml_ordered.specs.declared.tree.{Node.Node, Node.Array, Node.Table, Node.Tables, Node.the_lemmas, Origin.Origin}
-use Rattle.toml_ordered.specs.declared.tree.Table.{Table as CodeTable}
+use Rattle.toml_ordered.proofs.Common.{List, [], ◌∷◌, map, length, set, get_or, Result, Ok, Err, ◌≡◌, ℕ, zero, suc, ◌+◌, ◌-◌, ◌<◌, ◌≤◌, Option, Some, None, Vec}
+use Rattle.toml_ordered.proofs.Common.{Global, refl, ap, subst, sym, ◌∙◌, arith, rules, node_count, Table, the_lemmas, Origin}
+use Rattle.std.proofs.{Common.sum_by, Common.◌*◌, Common.vec_len, lemmas.List.Sums.sum-map, lemmas.List.Sums.sum_by-cons, lemmas.List.Sums.sum_by-set}
+use Rattle.toml_ordered.specs.{declared.tree.Node.Node, declared.tree.Node.Array, declared.tree.Node.Tables, declared.tree.Table.Table as CodeTable}
+use Rattle.toml_ordered.specs.Counts.{IsEntered, IsExchanged, IsLeft, IsPopped, table_count, tables_count}
 
 -- Of so many values in all, and so many of them in the value that is entered next: a turn enters one inside, or fewer are left.
 abbrev pub turns : (all hand : ℕ) → ℕ
@@ -14,8 +13,7 @@ turns all hand = hand + all * all
 
 sum_by-map : {A B : Type 0} (f : A → B) (g : B → ℕ) (xs : List A) → sum_by g (map f xs) ≡ sum_by (λ x. g (f x)) xs
 sum_by-map f g [] = refl
-sum_by-map f g (x ∷ xs) =
-    sum_by-cons g (f x) (map f xs) ∙ ap (λ n. g (f x) + n) (sum_by-map f g xs) ∙ sym (sum_by-cons (λ y. g (f y)) x xs)
+sum_by-map f g (x ∷ xs) = sum_by-cons g (f x) (map f xs) ∙ ap (λ n. g (f x) + n) (sum_by-map f g xs) ∙ sym (sum_by-cons (λ y. g (f y)) x xs)
 
 pub node_count-Array : (items : Vec Node Global) → node_count (Array items) ≡ suc (sum_by node_count items.items)
 node_count-Array items = search (rules, the_lemmas, sum-map, sum_by-map)
@@ -51,8 +49,7 @@ entered counts count xs ys old new other (Err back) was is exchanged =
 pub left : {E X : Type 0} (counts : E → ℕ) (count : X → ℕ) (xs ys : List E) (old new : ℕ) (result : Option X)
     → old ≡ suc (sum_by counts xs) → new ≡ suc (sum_by counts ys) → IsPopped counts count xs ys result → IsLeft count old new result
 left counts count xs ys old new (Some inner) was is popped = omega (arith, was, is, popped)
-left counts count xs ys old new None was is popped =
-    (was ∙ ap (λ es. suc (sum_by counts es)) popped.0, is ∙ ap (λ es. suc (sum_by counts es)) popped.1)
+left counts count xs ys old new None was is popped = (was ∙ ap (λ es. suc (sum_by counts es)) popped.0, is ∙ ap (λ es. suc (sum_by counts es)) popped.1)
 
 -- ---- no value inside
 
@@ -65,10 +62,3 @@ nothing counts some (e ∷ es) none = absurd (omega (arith, some e, none, sum_by
 
 pub none_in : {E : Type 0} (counts : E → ℕ) → ((e : E) → 0 < counts e) → (es : Vec E Global) → sum_by counts es.items ≡ 0 → vec_len es ≡ 0
 none_in counts some es none = es.ok.0 ∙ ap length (nothing counts some es.items none)
-
-none_summed : {E : Type 0} (counts : E → ℕ) (es : List E) → length es ≡ 0 → sum_by counts es ≡ 0
-none_summed counts [] none = refl
-none_summed counts (e ∷ es) none = absurd (omega (arith, none))
-
-pub none_counted : {E : Type 0} (counts : E → ℕ) (es : Vec E Global) → vec_len es ≡ 0 → sum_by counts es.items ≡ 0
-none_counted counts es none = none_summed counts es.items (sym es.ok.0 ∙ none)

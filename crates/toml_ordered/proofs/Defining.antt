@@ -1,17 +1,11 @@
 -- The definition of an expression, or of a pair of a table in braces, by the one along a route.
-use Rattle.std.proofs.Common.{◌≡◌, ℕ, List, [], ◌∷◌, ◌++◌, map, Option, Result, Ok, Err, option_map, refl, sym, ap, subst, ◌∙◌}
-use Rattle.std.proofs.lemmas.List.{append_assoc}
-use Rattle.std.specs.Result.{IfErr, IfOk}
-use Rattle.toml_parser.specs.Strings.{Key}
-use Rattle.toml_ordered.proofs.FirstKeys.{path_steps}
-use Rattle.toml_ordered.specs.Data.{TomlNode, node_view}
-use Rattle.toml_ordered.specs.Keys.{sealed, table_view}
-use Rattle.toml_ordered.specs.Firsts.{AddsFirsts, IsAgain, IsShutAt, table_firsts}
-use Rattle.toml_ordered.specs.Places.{IsShutFor, IsShutInBraces, key_parts, whole_path}
-use Rattle.toml_ordered.specs.Reading.{Defines, ParsesTo, definition_view}
-use Rattle.toml_ordered.specs.Tables.{Definition, TomlDocument, along, at_key, define, defined_header, defined_pair, key_value, put, steps_along}
-use Rattle.toml_ordered.specs.declared.{fault.Fault.Fault, tables.Definition.TheVariants.Value, tree.Node.Node}
-use Rattle.toml_ordered.specs.declared.tree.Table.{Table as CodeTable}
+use Rattle.toml_ordered.proofs.Common.{◌≡◌, ℕ, List, [], ◌∷◌, ◌++◌, map, Option, Result, Ok, Err, option_map, refl, sym, ap, subst, ◌∙◌, Key, TomlNode}
+use Rattle.toml_ordered.proofs.Common.{node_view, sealed, table_view, AddsFirsts, IsAgain, IsShutAt, table_firsts, IsShutInBraces, key_parts, ParsesTo}
+use Rattle.toml_ordered.proofs.Common.{definition_view, Definition, TomlDocument, key_value, put, steps_along, Fault}
+use Rattle.std.{proofs.lemmas.List.append_assoc, specs.Result.IfErr, specs.Result.IfOk}
+use Rattle.toml_ordered.{proofs.FirstKeys.path_steps, specs.Places.IsShutFor, specs.Places.whole_path, specs.Reading.Defines}
+use Rattle.toml_ordered.{specs.declared.tables.Definition.TheVariants.Value, specs.declared.tree.Node.Node, specs.declared.tree.Table.Table as CodeTable}
+use Rattle.toml_ordered.specs.Tables.{along, at_key, define, defined_header, defined_pair}
 use Rattle.toml_ordered.specs.declared.tables.Definition as code
 
 abbrev Keys : Type 1
@@ -43,8 +37,7 @@ module _ (from to : CodeTable) (here : ℕ) (r : Result (Unit {0}) Fault) where
       → DefinesBy header dots last what (map (λ step. step.1) (steps_along header dots) ++ last ∷ [])
       → DefinesBy header dots last what (header ++ (dots ++ last ∷ []))
   along_route last what header dots =
-      subst (DefinesBy header dots last what)
-      (ap (λ (path : List (List ℕ)). path ++ last ∷ []) (path_steps header dots) ∙ append_assoc header dots (last ∷ []))
+      subst (DefinesBy header dots last what) (ap (λ (path : List (List ℕ)). path ++ last ∷ []) (path_steps header dots) ∙ append_assoc header dots (last ∷ []))
 
   -- a pair of a table in braces, and one of a document
   pub put_defines : (key : Key) (x : TomlNode) (dots : List (List ℕ)) → dots ≡ key.0 → DefinesBy [] dots key.1 (key_value x) (dots ++ key.1 ∷ [])
@@ -78,8 +71,7 @@ module _ (doc next : TomlDocument) (key : Key) (here : ℕ) (from to : CodeTable
   unfolding define
   value_defines d node is defines =
       subst (λ (what : code.Definition). Defines (define doc (key, definition_view what)) next (whole_path doc key (definition_view what)) here
-      (IsShutFor doc key (definition_view what)) from to r)
-      (sym is) defines
+      (IsShutFor doc key (definition_view what)) from to r) (sym is) defines
 
   pub other_defines : (d : code.Definition) → ((node : Node) → d ≡ Value node → ⊥)
       → Defines (defined_header doc key (definition_view d)) next (key_parts key) here (IsShutAt (steps_along key.0 []) key.1 (definition_view d) doc.0)

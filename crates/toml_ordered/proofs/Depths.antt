@@ -1,12 +1,9 @@
 -- Values that nest too deep.
-use Rattle.std.proofs.Common.{◌≡◌, ℕ, zero, suc, ◌+◌, ◌≤◌, ◌==◌, Bool, true, false, cond, List, Some, drop, length, refl, ap, subst, sym, ◌∙◌, inl, inr, arith}
-use Rattle.std.proofs.lemmas.List.{length-append}
-use Rattle.std.specs.Prelude.{◌⊎◌}
-use Rattle.toml.specs.Parse.{after_element, key_equals}
+use Rattle.toml_ordered.proofs.Common.{◌≡◌, ℕ, zero, suc, ◌+◌, ◌≤◌, ◌==◌, Bool, true, false, cond, List, Some, drop, length, refl, ap, subst, sym, ◌∙◌, inl}
+use Rattle.toml_ordered.proofs.Common.{inr, arith, length-append, ◌⊎◌, after_element, key_equals, TomlNode, FaultTells, is_doubled, val, ExpressionNestsPast}
+use Rattle.toml_ordered.proofs.Common.{NestsPast, after_items, own_key, EndsWith, Fault, first, skip_blank, skip_ws, recursion_limit}
 use Rattle.toml_ordered.proofs.Endings.{end_left, ends_drop, ends_self, ends_then, key_equals_ends, skip_blank_ends, skip_ws_ends, value_ends}
-use Rattle.toml_ordered.specs.{Data.TomlNode, Firsts.FaultTells, Grammar.is_doubled, Grammar.val, Nesting.ExpressionNestsPast, Nesting.NestsPast}
-use Rattle.toml_ordered.specs.{Nesting.after_items, Nesting.own_key, Places.EndsWith, declared.fault.Fault.Fault}
-use Rattle.toml_parser.specs.{Lexical.first, Lexical.right_bracket, Lexical.skip_blank, Lexical.skip_ws, Strings.recursion_limit}
+use Rattle.toml_parser.specs.Lexical.{right_bracket}
 use Rattle.toml_ordered.specs.declared.fault.Fault.TheVariants as fault
 
 pub ends_within : (text end : List ℕ) → EndsWith text end → length end ≤ length text

@@ -1,30 +1,24 @@
 -- The rest that a reader leaves is an ending of the text.
-use Rattle.std.proofs.Common.{◌≡◌, ℕ, zero, suc, ◌&&◌, ◌||◌, ◌==◌, Bool, true, false, cond, List, [], ◌∷◌, ◌++◌, length, take, drop, slice_index}
-use Rattle.std.proofs.Common.{◌+◌, ◌-◌, ◌≤◌, Option, Some, None, option_map, refl, sym, ap, subst, arith, ◌∙◌}
-use Rattle.std.proofs.Math.Seq.{drop-append-add}
-use Rattle.std.proofs.lemmas.List.{append_assoc, length-append, take-append-drop}
-use Rattle.std.proofs.lemmas.Option.{same_Some}
-use Rattle.std.specs.List.{prefix_len}
-use Rattle.std.specs.Str.Parse.{digits_value}
-use Rattle.std.specs.Prelude.{nat_lt, is_some, unwrap_or, encode_utf8, option_and_then}
-use Rattle.toml_parser.specs.Lexical.{Read, first, skip_turn, skip_from, skip_blank, skip_lines, skip_ws, starts_newline, is_ws, is_bare, split_while}
-use Rattle.toml_parser.specs.Lexical.{dot, equals, comma, left_bracket, right_bracket, left_brace, right_brace, line_feed, backslash}
-use Rattle.toml_parser.specs.Strings.{hex_len, hex_escape, simple_escape, escape_char, escape, is_plain, at_delims, special, prepend, after_piece}
-use Rattle.toml_parser.specs.Strings.{body, trim_newline, one_line, quoted, starts_string, simple_key, key_after, Key, recursion_limit}
-use Rattle.toml_parser.specs.Numbers.{unquoted, word_len, word_value}
-use Rattle.toml.specs.Parse.{after_byte, after_element, ends_line, header_key, key_equals, skip_bom}
-use Rattle.toml_ordered.specs.Data.{TomlNode, string, Items, no_items, array, table, push_item, TomlNodes, no_nodes}
-use Rattle.toml_ordered.specs.Grammar.{scalar_node, atom, expression, is_doubled, val, keyval, items, line, members}
-use Rattle.toml_ordered.specs.Places.{EndsWith}
-use Rattle.toml_ordered.specs.Tables.{Expression, array_table, key_value, put, std_table}
-use Rattle.toml_ordered.specs.declared.tree.Origin.TheVariants.{Closed}
+use Rattle.toml_ordered.proofs.Common.{◌≡◌, ℕ, zero, suc, ◌&&◌, ◌||◌, ◌==◌, Bool, true, false, cond, List, [], ◌∷◌, ◌++◌, length, take, drop, slice_index, ◌+◌}
+use Rattle.toml_ordered.proofs.Common.{◌-◌, ◌≤◌, Option, Some, None, option_map, refl, sym, ap, subst, arith, ◌∙◌, length-append, same_Some, prefix_len}
+use Rattle.toml_ordered.proofs.Common.{option_and_then, Read, first, skip_blank, is_bare, starts_string, Key, recursion_limit, word_len, after_byte, ends_line}
+use Rattle.toml_ordered.proofs.Common.{TomlNode, string, Items, no_items, array, table, push_item, TomlNodes, scalar_node, atom, expression, is_doubled, keyval}
+use Rattle.toml_ordered.proofs.Common.{line, EndsWith, Expression, array_table, key_value, put, std_table, Closed}
+use Rattle.std.proofs.{Math.Seq.drop-append-add, lemmas.List.append_assoc, lemmas.List.take-append-drop}
+use Rattle.std.specs.{Str.Parse.digits_value, Prelude.nat_lt, Prelude.is_some, Prelude.unwrap_or, Prelude.encode_utf8}
+use Rattle.toml_parser.specs.Lexical.{skip_turn, skip_from, skip_lines, skip_ws, starts_newline, is_ws, split_while, dot, equals, comma, left_bracket}
+use Rattle.toml_parser.specs.Lexical.{right_bracket, left_brace, right_brace, line_feed, backslash}
+use Rattle.toml_parser.specs.Strings.{hex_len, hex_escape, simple_escape, escape_char, escape, is_plain, at_delims, special, prepend, after_piece, body}
+use Rattle.toml_parser.specs.Strings.{trim_newline, one_line, quoted, simple_key, key_after}
+use Rattle.toml_parser.specs.Numbers.{unquoted, word_value}
+use Rattle.toml.specs.Parse.{after_element, header_key, key_equals, skip_bom}
+use Rattle.toml_ordered.specs.{Data.no_nodes, Grammar.val, Grammar.items, Grammar.members}
 
 pub ends_self : (text : List ℕ) → EndsWith text text
 ends_self text = ([], refl)
 
 pub ends_then : (text middle end : List ℕ) → EndsWith text middle → EndsWith middle end → EndsWith text end
-ends_then text middle end outer inner =
-    (outer.0 ++ inner.0, outer.1 ∙ ap (λ (rest : List ℕ). outer.0 ++ rest) inner.1 ∙ sym (append_assoc outer.0 inner.0 end))
+ends_then text middle end outer inner = (outer.0 ++ inner.0, outer.1 ∙ ap (λ (rest : List ℕ). outer.0 ++ rest) inner.1 ∙ sym (append_assoc outer.0 inner.0 end))
 
 pub ends_drop : (n : ℕ) (text : List ℕ) → EndsWith text (drop n text)
 ends_drop n text = (take n text, sym (take-append-drop n text))
@@ -103,8 +97,7 @@ escape_ends : (multi : Bool) (text : List ℕ) → LeavesEnd text (escape multi 
 unfolding escape
 escape_ends multi text =
     leaves_if text (multi && starts_newline (skip_ws text)) (Some ([], skip_lines text)) (option_map (λ p. (encode_utf8 p.0, p.1)) (escape_char text))
-    (skip_from_ends false false text)
-    (leaves_map text (escape_char text) (λ p. (encode_utf8 p.0, p.1)) (escape_char_ends text) (λ p. ends_self p.1))
+    (skip_from_ends false false text) (leaves_map text (escape_char text) (λ p. (encode_utf8 p.0, p.1)) (escape_char_ends text) (λ p. ends_self p.1))
 
 at_delims_ends : (delim : ℕ) (text : List ℕ) → LeavesEnd text (at_delims delim text)
 at_delims_ends delim text =
@@ -114,22 +107,20 @@ at_delims_ends delim text =
 special_ends : (delim : ℕ) (multi : Bool) (text : List ℕ) → LeavesEnd text (special delim multi text)
 unfolding special
 special_ends delim multi text =
-    leaves_if text (first text == delim) _ _
-    (leaves_if text multi (at_delims delim text) (Some (None, drop 1 text)) (at_delims_ends delim text) (ends_drop 1 text))
-    (leaves_if text (first text == backslash) (option_map (λ p. (Some p.0, p.1)) (escape multi (drop 1 text))) _
-    (leaves_in text (drop 1 text) (option_map (λ p. (Some p.0, p.1)) (escape multi (drop 1 text))) (ends_drop 1 text)
-    (leaves_map (drop 1 text) (escape multi (drop 1 text)) (λ p. (Some p.0, p.1)) (escape_ends multi (drop 1 text)) (λ p. ends_self p.1)))
-    (leaves_if text (multi && starts_newline text) (Some (Some (first text ∷ []), drop 1 text)) None (ends_drop 1 text) tt))
+    leaves_if text (first text == delim) _ _ (leaves_if text multi (at_delims delim text) (Some (None, drop 1 text)) (at_delims_ends delim text)
+    (ends_drop 1 text)) (leaves_if text (first text == backslash) (option_map (λ p. (Some p.0, p.1)) (escape multi (drop 1 text))) _ (leaves_in text
+    (drop 1 text) (option_map (λ p. (Some p.0, p.1)) (escape multi (drop 1 text))) (ends_drop 1 text) (leaves_map (drop 1 text) (escape multi (drop 1 text))
+    (λ p. (Some p.0, p.1)) (escape_ends multi (drop 1 text)) (λ p. ends_self p.1))) (leaves_if text (multi && starts_newline text)
+    (Some (Some (first text ∷ []), drop 1 text)) None (ends_drop 1 text) tt))
 
 body_ends : (delim : ℕ) (multi : Bool) (n : ℕ) (text : List ℕ) → LeavesEnd text (body delim multi n text)
 unfolding body
 body_ends delim multi zero text = tt
 body_ends delim multi (suc n) text =
-    leaves_if text (is_plain delim multi (first text)) (prepend (first text ∷ []) (body delim multi n (drop 1 text))) _
-    (leaves_in text (drop 1 text) (prepend (first text ∷ []) (body delim multi n (drop 1 text))) (ends_drop 1 text)
-    (prepended (first text ∷ []) (drop 1 text) (body delim multi n (drop 1 text)) (body_ends delim multi n (drop 1 text))))
-    (leaves_then text (special delim multi text) (λ p. after_piece (body delim multi n) p.0 p.1) (special_ends delim multi text)
-    (λ p. piece (λ rest. body_ends delim multi n rest) p.0 p.1))
+    leaves_if text (is_plain delim multi (first text)) (prepend (first text ∷ []) (body delim multi n (drop 1 text))) _ (leaves_in text (drop 1 text)
+    (prepend (first text ∷ []) (body delim multi n (drop 1 text))) (ends_drop 1 text) (prepended (first text ∷ []) (drop 1 text)
+    (body delim multi n (drop 1 text)) (body_ends delim multi n (drop 1 text)))) (leaves_then text (special delim multi text)
+    (λ p. after_piece (body delim multi n) p.0 p.1) (special_ends delim multi text) (λ p. piece (λ rest. body_ends delim multi n rest) p.0 p.1))
   where
     prepended : (front text : List ℕ) (o : Read (List ℕ)) → LeavesEnd text o → LeavesEnd text (prepend front o)
     prepended front text o leaves = leaves_map text o (λ p. (front ++ p.0, p.1)) leaves (λ p. ends_self p.1)
@@ -159,8 +150,7 @@ quoted_ends text =
     let from = trim_newline (drop 3 text) in
     leaves_if text (slice_index text 1 == first text && slice_index text 2 == first text) (body (first text) true (length text) from) (one_line text)
     (leaves_in text from (body (first text) true (length text) from) (ends_then text (drop 3 text) from (ends_drop 3 text) (trim_ends (drop 3 text)))
-    (body_ends (first text) true (length text) from))
-    (one_line_ends text)
+    (body_ends (first text) true (length text) from)) (one_line_ends text)
 
 -- ---- keys
 
@@ -182,19 +172,15 @@ key_after_ends (suc n) path text =
         (cond (first (skip_ws rest) == dot) (key_after n (path ++ name ∷ []) (skip_ws (drop 1 (skip_ws rest)))) (Some ((path, name), skip_ws rest)))
     by name rest more =
         let next = skip_ws (drop 1 (skip_ws rest)) in
-        leaves_if rest (first (skip_ws rest) == dot) (key_after n (path ++ name ∷ []) next) (Some ((path, name), skip_ws rest))
-        (leaves_in rest next (key_after n (path ++ name ∷ []) next)
-        (ends_then rest (skip_ws rest) next (skip_ws_ends rest)
-        (ends_then (skip_ws rest) (drop 1 (skip_ws rest)) next (ends_drop 1 (skip_ws rest)) (skip_ws_ends (drop 1 (skip_ws rest)))))
-        more)
-        (skip_ws_ends rest)
+        leaves_if rest (first (skip_ws rest) == dot) (key_after n (path ++ name ∷ []) next) (Some ((path, name), skip_ws rest)) (leaves_in rest next
+        (key_after n (path ++ name ∷ []) next) (ends_then rest (skip_ws rest) next (skip_ws_ends rest)
+        (ends_then (skip_ws rest) (drop 1 (skip_ws rest)) next (ends_drop 1 (skip_ws rest)) (skip_ws_ends (drop 1 (skip_ws rest))))) more) (skip_ws_ends rest)
 
 pub key_equals_ends : (text : List ℕ) → LeavesEnd text (key_equals text)
 unfolding key_equals
 key_equals_ends text =
     leaves_then text (key_after recursion_limit [] text) (λ k. option_map (λ rest. (k.0, skip_ws rest)) (after_byte equals k.1))
-    (key_after_ends recursion_limit [] text)
-    (λ k. by k.0 k.1 (first k.1 == equals))
+    (key_after_ends recursion_limit [] text) (λ k. by k.0 k.1 (first k.1 == equals))
   where
     by : (k : Key) (rest : List ℕ) (b : Bool) → LeavesEnd rest (option_map (λ left. (k, skip_ws left)) (cond b (Some (drop 1 rest)) None))
     by k rest true = ends_then rest (drop 1 rest) (skip_ws (drop 1 rest)) (ends_drop 1 rest) (skip_ws_ends (drop 1 rest))
@@ -210,8 +196,7 @@ word_ends text =
 
 atom_ends : (text : List ℕ) → LeavesEnd text (atom text)
 atom_ends text =
-    leaves_if text (starts_string text) _ _
-    (leaves_map text (quoted text) (λ p. (string p.0, p.1)) (quoted_ends text) (λ p. ends_self p.1))
+    leaves_if text (starts_string text) _ _ (leaves_map text (quoted text) (λ p. (string p.0, p.1)) (quoted_ends text) (λ p. ends_self p.1))
     (leaves_map text (unquoted text) (λ p. (scalar_node (take (word_len text) text) p.0, p.1)) (word_ends text) (λ p. ends_self p.1))
 
 pub after_element_ends : (closing : ℕ) (text next : List ℕ) → after_element closing text ≡ Some next → EndsWith text next
@@ -232,8 +217,7 @@ after_element_ends closing text next = by (first rest == comma) (first rest == c
 module _ (val : List ℕ → Read TomlNode) (leaves : (text : List ℕ) → LeavesEnd text (val text)) where
   pair_ends : (text : List ℕ) → LeavesEnd text (keyval val text)
   pair_ends text =
-      leaves_then text (key_equals text) _ (key_equals_ends text)
-      (λ k. leaves_map k.1 (val k.1) (λ x. ((k.0, x.0), x.1)) (leaves k.1) (λ x. ends_self x.1))
+      leaves_then text (key_equals text) _ (key_equals_ends text) (λ k. leaves_map k.1 (val k.1) (λ x. ((k.0, x.0), x.1)) (leaves k.1) (λ x. ends_self x.1))
 
   -- the reader of the text after an element
   past_element : {A : Type 0} (closing : ℕ) (text : List ℕ) (next : List ℕ → Read A) → ((t : List ℕ) → LeavesEnd t (next t))
@@ -254,10 +238,9 @@ module _ (val : List ℕ → Read TomlNode) (leaves : (text : List ℕ) → Leav
   unfolding members
   members_ends zero found text = tt
   members_ends (suc n) found text =
-      leaves_in text (skip_blank text) _ (skip_blank_ends text)
-      (leaves_if (skip_blank text) (first (skip_blank text) == right_brace) (Some (found, drop 1 (skip_blank text))) _ (ends_drop 1 (skip_blank text))
-      (leaves_then (skip_blank text) (keyval val (skip_blank text)) _ (pair_ends (skip_blank text))
-      (λ e. by (λ more. members_ends n more) e (put e.0.0 e.0.1 found))))
+      leaves_in text (skip_blank text) _ (skip_blank_ends text) (leaves_if (skip_blank text) (first (skip_blank text) == right_brace)
+      (Some (found, drop 1 (skip_blank text))) _ (ends_drop 1 (skip_blank text)) (leaves_then (skip_blank text) (keyval val (skip_blank text)) _
+      (pair_ends (skip_blank text)) (λ e. by (λ more. members_ends n more) e (put e.0.0 e.0.1 found))))
     where
       by : ((more : TomlNodes) (t : List ℕ) → LeavesEnd t (members val n more t)) → (e : (Key × TomlNode) × List ℕ) (o : Option TomlNodes)
           → LeavesEnd e.1 (option_and_then (λ more. option_and_then (members val n more) (after_element right_brace e.1)) o)
@@ -271,13 +254,10 @@ val_ends (suc depth) text =
     let inner = drop 1 text in
     let list = items (val depth) (length text) no_items inner in
     let braces = members (val depth) (length text) no_nodes inner in
-    leaves_if text (first text == left_bracket) _ _
-    (leaves_in text inner _ (ends_drop 1 text)
-    (leaves_map inner list (λ p. (array p.0, p.1)) (items_ends (val depth) (val_ends depth) (length text) no_items inner) (λ p. ends_self p.1)))
-    (leaves_if text (first text == left_brace) _ _
-    (leaves_in text inner _ (ends_drop 1 text)
-    (leaves_map inner braces (λ p. (table Closed p.0, p.1)) (members_ends (val depth) (val_ends depth) (length text) no_nodes inner) (λ p. ends_self p.1)))
-    (atom_ends text))
+    leaves_if text (first text == left_bracket) _ _ (leaves_in text inner _ (ends_drop 1 text) (leaves_map inner list (λ p. (array p.0, p.1))
+    (items_ends (val depth) (val_ends depth) (length text) no_items inner) (λ p. ends_self p.1))) (leaves_if text (first text == left_brace) _ _ (leaves_in text
+    inner _ (ends_drop 1 text) (leaves_map inner braces (λ p. (table Closed p.0, p.1)) (members_ends (val depth) (val_ends depth) (length text) no_nodes inner)
+    (λ p. ends_self p.1))) (atom_ends text))
 
 -- ---- expressions
 
@@ -297,15 +277,11 @@ expression_ends : (text : List ℕ) → LeavesEnd text (expression text)
 expression_ends text =
     let inner = drop 1 text in
     let inmost = drop 2 text in
-    leaves_if text (is_doubled text) _ _
-    (leaves_in text inmost _ (ends_drop 2 text)
-    (leaves_then inmost (header_key inmost) (λ k. option_map (λ rest. ((k.0, array_table), rest)) (after_byte right_bracket k.1))
-    (header_key_ends inmost) (λ k. by k.0 k.1 (first k.1 == right_bracket))))
-    (leaves_if text (first text == left_bracket) _ _
-    (leaves_in text inner _ (ends_drop 1 text)
-    (leaves_map inner (header_key inner) (λ k. ((k.0, std_table), k.1)) (header_key_ends inner) (λ k. ends_self k.1)))
-    (leaves_map text (keyval (val recursion_limit) text) (λ e. ((e.0.0, key_value e.0.1), e.1))
-    (pair_ends (val recursion_limit) (val_ends recursion_limit) text) (λ e. ends_self e.1)))
+    leaves_if text (is_doubled text) _ _ (leaves_in text inmost _ (ends_drop 2 text) (leaves_then inmost (header_key inmost)
+    (λ k. option_map (λ rest. ((k.0, array_table), rest)) (after_byte right_bracket k.1)) (header_key_ends inmost)
+    (λ k. by k.0 k.1 (first k.1 == right_bracket)))) (leaves_if text (first text == left_bracket) _ _ (leaves_in text inner _ (ends_drop 1 text) (leaves_map
+    inner (header_key inner) (λ k. ((k.0, std_table), k.1)) (header_key_ends inner) (λ k. ends_self k.1))) (leaves_map text (keyval (val recursion_limit) text)
+    (λ e. ((e.0.0, key_value e.0.1), e.1)) (pair_ends (val recursion_limit) (val_ends recursion_limit) text) (λ e. ends_self e.1)))
   where
     by : (k : Key) (rest : List ℕ) (b : Bool)
         → LeavesEnd {A = Expression} rest (option_map (λ left. ((k, array_table), left)) (cond b (Some (drop 1 rest)) None))
@@ -327,8 +303,7 @@ unmarked_ends text = by ((first text == 239 && slice_index text 1 == 187) && sli
 
 -- ---- turns of the loops
 
-pub line_left : (text rest : List ℕ) (e : Expression) (after : List ℕ) → EndsWith text rest → line (skip_blank rest) ≡ Some (e, after)
-    → EndsWith text after
+pub line_left : (text rest : List ℕ) (e : Expression) (after : List ℕ) → EndsWith text rest → line (skip_blank rest) ≡ Some (e, after) → EndsWith text after
 line_left text rest e after ends read =
     let start = skip_blank rest in
     ends_then text rest after ends (ends_then rest start after (skip_blank_ends rest) (end_left start (line start) e after (line_ends start) read))

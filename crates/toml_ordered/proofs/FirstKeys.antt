@@ -1,26 +1,15 @@
 -- The places at which the keys of a table were first defined, before and after a definition.
-use Rattle.std.proofs.Common.{Option, Ok, Err, ◌≡◌, ℕ, zero, suc, List, [], ◌∷◌, ◌++◌, map, Some, None, String, Vec, Global, string_bytes, refl, sym, ap}
-use Rattle.std.proofs.Common.{subst, ◌∙◌, inl, inr, ◌⊎◌, rules, set, get_or, Result}
-use Rattle.std.proofs.lemmas.Result.{IfOk-weaker, IfErr-weaker}
-use Rattle.std.specs.Result.{IfOk, IfErr}
-use Rattle.std.proofs.lemmas.Slice.Eq.{bytes_eq-Decides}
-use Rattle.toml_ordered.specs.declared.tree.Node.{Node as CodeNode, Table, Tables, the_lemmas}
-use Rattle.toml_ordered.specs.declared.tree.Origin.{Origin}
-use Rattle.toml_ordered.specs.declared.tree.Origin.TheVariants.{Implicit, Dotted, Header, Closed}
-use Rattle.toml_ordered.specs.declared.tree.Table.{Table as CodeTable}
-use Rattle.toml_ordered.specs.declared.fault.Fault.{Fault}
+use Rattle.toml_ordered.proofs.Common.{Option, Ok, Err, ◌≡◌, ℕ, zero, suc, List, [], ◌∷◌, ◌++◌, map, Some, None, String, Vec, Global, string_bytes, refl, sym}
+use Rattle.toml_ordered.proofs.Common.{ap, subst, ◌∙◌, inl, inr, ◌⊎◌, rules, set, get_or, Result, bytes_eq-Decides, Table, the_lemmas, Origin, Closed, Fault}
+use Rattle.toml_ordered.proofs.Common.{Holder, TomlNode, TomlNodes, held, HasKey, Firsts, no_firsts, HasFirst, keys_firsts, table_firsts, AddsFirsts, IsAgain}
+use Rattle.toml_ordered.proofs.Common.{IsReworded, IsGrammarRefusal, ParsesTo, IsMemory, steps_along}
+use Rattle.std.{proofs.lemmas.Result.IfOk-weaker, proofs.lemmas.Result.IfErr-weaker, specs.Result.IfOk, specs.Result.IfErr}
+use Rattle.toml_ordered.{specs.declared.tree.Node.Node as CodeNode, specs.declared.tree.Node.Tables, specs.declared.tree.Table.Table as CodeTable}
+use Rattle.toml_ordered.{specs.Data.no_nodes, specs.Reading.IsPassed, specs.Reading.IsSameKey, specs.Tables.get_node, proofs.Trees.Entry}
+use Rattle.toml_ordered.specs.declared.tree.Origin.TheVariants.{Implicit, Dotted, Header}
+use Rattle.toml_ordered.specs.Firsts.{node_firsts, keys_in, keys_at, PassesKey, IsNewKey}
 use Rattle.toml_ordered.specs.declared.fault.Fault.TheVariants as fault
-use Rattle.toml_ordered.specs.declared.tree.holder.Holder.{Holder}
 use Rattle.toml_ordered.specs.declared.tree.holder.Holder.TheVariants as holder
-use Rattle.toml_ordered.proofs.Trees.{Entry}
-use Rattle.toml_ordered.specs.Data.{TomlNode, TomlNodes, no_nodes}
-use Rattle.toml_ordered.specs.Passing.{held}
-use Rattle.toml_ordered.specs.Keys.{HasKey}
-use Rattle.toml_ordered.specs.Firsts.{Firsts, no_firsts, HasFirst, node_firsts, keys_firsts, table_firsts, keys_in}
-use Rattle.toml_ordered.specs.Firsts.{keys_at, PassesKey, IsNewKey, AddsFirsts, IsAgain}
-use Rattle.toml_ordered.specs.Places.{IsReworded}
-use Rattle.toml_ordered.specs.Reading.{IsGrammarRefusal, ParsesTo, IsMemory, IsPassed, IsSameKey}
-use Rattle.toml_ordered.specs.Tables.{get_node, steps_along}
 
 -- ---- values
 
@@ -75,8 +64,7 @@ pub of_written : (k : List ℕ) (at : ℕ) (es : List Entry) (d w : Entry) → H
     → (path : Path) (key : List ℕ) (left : ℕ) → HasFirst (keys_firsts (set es at w)) path key left
     → HasFirst (keys_firsts es) path key left ⊎ Under (string_bytes w.0) (node_firsts w.1) path key left
 of_written k at [] d w has name place path key left first = absurd has
-of_written k zero (e ∷ es) d w has name place [] key left (inl here) =
-    inl (inl (here.0 ∙ ap (λ (s : String Global). string_bytes s) name, here.1 ∙ place))
+of_written k zero (e ∷ es) d w has name place [] key left (inl here) = inl (inl (here.0 ∙ ap (λ (s : String Global). string_bytes s) name, here.1 ∙ place))
 of_written k zero (e ∷ es) d w has name place [] key left (inr first) = inl (inr first)
 of_written k zero (e ∷ es) d w has name place (step ∷ path) key left (inl here) = inr (path, ap (λ (s : List ℕ). s ∷ path) here.0, here.1)
 of_written k zero (e ∷ es) d w has name place (step ∷ path) key left (inr first) = inl (inr first)
@@ -116,8 +104,7 @@ passes_behind k whole path key passes = (passes.0, ap (λ (p : Path). k ∷ p) p
 
 new_behind : (k : List ℕ) (whole : Path) (ns inner : TomlNodes) (path : Path) (key : List ℕ) → keys_in (get_node k ns) ≡ inner → IsNewKey whole inner path key
     → IsNewKey (k ∷ whole) ns (k ∷ path) key
-new_behind k whole ns inner path key is new =
-    (passes_behind k whole path key new.0, ap (λ (keys : TomlNodes). get_node key (keys_at path keys)) is ∙ new.1)
+new_behind k whole ns inner path key is new = (passes_behind k whole path key new.0, ap (λ (keys : TomlNodes). get_node key (keys_at path keys)) is ∙ new.1)
 
 -- a definition inside of a key that is there
 pub adds_inside : (k : List ℕ) (whole : Path) (here : ℕ) (ns : TomlNodes) (x : TomlNode) (at : ℕ) (es : List Entry) (e w : Entry)
@@ -138,8 +125,7 @@ adds_inside k whole here ns x at es e w found has is_e same inner path key left 
             | inr new ↦
                 inr (
                   new.0,
-                  subst (λ (p : Path). IsNewKey (k ∷ whole) ns p key) (sym is)
-                      (new_behind k whole ns (keys_in (Some x)) under.0 key (ap keys_in found) new.1),
+                  subst (λ (p : Path). IsNewKey (k ∷ whole) ns p key) (sym is) (new_behind k whole ns (keys_in (Some x)) under.0 key (ap keys_in found) new.1),
                 )
           ]
     ]
@@ -193,8 +179,7 @@ again_reworded whole here old Shut fault.Memory now is again = subst (IsAgain wh
 again_reworded whole here old Shut (fault.NotToml left why) now is again = absurd again
 again_reworded whole here old Shut (fault.TooDeep left) now is again = absurd again
 again_reworded whole here old Shut (fault.DefinedAgain key name first second) now (inl is) again = subst (IsAgain whole here old Shut) (sym is) tt
-again_reworded whole here old Shut (fault.DefinedAgain key name first second) now (inr (other, is)) again =
-    subst (IsAgain whole here old Shut) (sym is) again
+again_reworded whole here old Shut (fault.DefinedAgain key name first second) now (inr (other, is)) again = subst (IsAgain whole here old Shut) (sym is) again
 
 pub refused_reworded : {B : Type 0} (expected : Option B) (whole : Path) (here : ℕ) (old : Firsts) (Shut : Keys) (was now : Fault) → IsReworded was now
     → IsGrammarRefusal expected (IsAgain whole here old Shut) was → IsGrammarRefusal expected (IsAgain whole here old Shut) now
@@ -248,15 +233,13 @@ module _ (all : Path) (k : List ℕ) (whole : Path) (here at : ℕ) (es : List E
       → IfOk r (λ _. AddsFirsts whole here (keys_in (Some x)) (node_firsts e.1) (node_firsts w.1))
       → IfOk r (λ _. AddsFirsts all here ns (keys_firsts es) (keys_firsts (set es at w)))
   adds_along ns x w is found has is_e same adds =
-      IfOk-weaker r _ _
-      (λ _ inner. subst (λ (p : Path). AddsFirsts p here ns (keys_firsts es) (keys_firsts (set es at w))) (sym is)
+      IfOk-weaker r _ _ (λ _ inner. subst (λ (p : Path). AddsFirsts p here ns (keys_firsts es) (keys_firsts (set es at w))) (sym is)
       (adds_inside k whole here ns x at es e w found has is_e same inner)) adds
 
   pub again_along : (Shut : Keys) → all ≡ k ∷ whole → HasKey k at es → get_or es at e ≡ e
       → IfErr r (λ fault. IsPassed (string_bytes e.0) e.2 here fault × ((IsMemory fault → ⊥) → Shut [] k)) → IfErr r (IsAgain all here (keys_firsts es) Shut)
   again_along Shut is has is_e again =
-      IfErr-weaker r _ _
-      (λ fault found. subst (λ (p : Path). IsAgain p here (keys_firsts es) Shut fault) (sym is)
+      IfErr-weaker r _ _ (λ fault found. subst (λ (p : Path). IsAgain p here (keys_firsts es) Shut fault) (sym is)
       (again_here k whole here at es e Shut fault has is_e found.0 found.1)) again
 
 -- an error with the refusal of the definition

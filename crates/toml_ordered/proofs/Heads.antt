@@ -1,27 +1,15 @@
 -- The beginnings of values, expressions and lines: strings, scalars, keys and headers.
-use Rattle.std.proofs.Common.{◌≡◌, ◌⊎◌, inl, inr, ℕ, ◌==◌, Bool, true, false, cond, List, drop, Option, Some, None, refl, sym, subst, ap}
-use Rattle.std.proofs.Common.{String, Global, string_bytes, rules, arith, option_and_then, option_map, ◌∙◌}
-use Rattle.std.proofs.lemmas.Bool.{cases_Bool, eq-eqb, ne_eqb}
-use Rattle.toml_parser.specs.Lexical.{Read, first, skip_blank, skip_ws}
-use Rattle.toml_parser.specs.Strings.{Key, key, quoted, starts_string}
-use Rattle.toml_parser.specs.declared.error.ParseError.{ParseError}
+use Rattle.toml_ordered.proofs.Common.{◌≡◌, ◌⊎◌, inl, inr, ℕ, ◌==◌, Bool, true, false, cond, List, drop, Option, Some, None, refl, sym, subst, ap, String}
+use Rattle.toml_ordered.proofs.Common.{Global, string_bytes, rules, arith, option_and_then, option_map, ◌∙◌, cases_Bool, eq-eqb, ne_eqb, Read, first}
+use Rattle.toml_ordered.proofs.Common.{skip_blank, skip_ws, Key, quoted, starts_string, after_byte, ends_line, TomlNode, node_view, string, sealed, atom}
+use Rattle.toml_ordered.proofs.Common.{expression, is_doubled, line, val, Expression, array_table, key_value, std_table, FaultTells, NeitherTells}
+use Rattle.toml_ordered.proofs.Common.{ExpressionNestsPast, HasLongKey, KeyTells, PairClashes, own_key, IsGrammarRefusal, IsMemory, Fault, the_lemmas}
+use Rattle.toml_parser.specs.{Strings.key, declared.error.ParseError.ParseError}
+use Rattle.toml.specs.Parse.{after_element, header_key, key_equals}
+use Rattle.toml_ordered.{proofs.Blaming.header_keyless, proofs.Conflicts.reason_in, proofs.LongKeys.before_short, proofs.LongKeys.own_key_pair}
+use Rattle.toml_ordered.{proofs.Unblamed.nameless_neither, proofs.Turns.val_deep, proofs.Turns.val_sealed, specs.Grammar.key_before, specs.Firsts.IsOther}
+use Rattle.toml_ordered.{specs.Nesting.ExpressionTells, specs.Reading.fault_of, specs.declared.syntax.SyntaxError.SyntaxError, specs.declared.tree.Node.Text}
 use Rattle.toml_parser.specs.declared.error.ParseError.TheVariants as parse
-use Rattle.toml.specs.Parse.{after_byte, after_element, ends_line, header_key, key_equals}
-use Rattle.toml_ordered.proofs.Blaming.{header_keyless}
-use Rattle.toml_ordered.proofs.Conflicts.{reason_in}
-use Rattle.toml_ordered.proofs.LongKeys.{before_short, own_key_pair}
-use Rattle.toml_ordered.proofs.Unblamed.{nameless_neither}
-use Rattle.toml_ordered.proofs.Turns.{val_deep, val_sealed}
-use Rattle.toml_ordered.specs.Data.{TomlNode, node_view, string}
-use Rattle.toml_ordered.specs.Keys.{sealed}
-use Rattle.toml_ordered.specs.Grammar.{atom, expression, is_doubled, key_before, line, val}
-use Rattle.toml_ordered.specs.Tables.{Expression, array_table, key_value, std_table}
-use Rattle.toml_ordered.specs.Firsts.{FaultTells, IsOther, NeitherTells}
-use Rattle.toml_ordered.specs.Nesting.{ExpressionNestsPast, ExpressionTells, HasLongKey, KeyTells, PairClashes, own_key}
-use Rattle.toml_ordered.specs.Reading.{IsGrammarRefusal, IsMemory, fault_of}
-use Rattle.toml_ordered.specs.declared.fault.Fault.{Fault}
-use Rattle.toml_ordered.specs.declared.syntax.SyntaxError.{SyntaxError}
-use Rattle.toml_ordered.specs.declared.tree.Node.{Text, the_lemmas}
 use Rattle.toml_ordered.specs.declared.fault.Fault.TheVariants as fault
 
 -- an error of `toml_parser`
@@ -36,8 +24,7 @@ no_token error found expected is none = subst (IsGrammarRefusal expected IsOther
 -- no text of the grammar goes on here, and more is told
 pub ends_text : {B : Type 0} (left : ℕ) (why : SyntaxError) (found : Fault) (expected : Option B) (again : List ℕ → ℕ → ℕ → Type 0) (deep : ℕ → Type 0)
     → found ≡ fault.NotToml left why → expected ≡ None → NeitherTells again deep → IsGrammarRefusal expected (λ f. FaultTells f again deep) found
-ends_text left why found expected again deep is none neither =
-    subst (IsGrammarRefusal expected (λ f. FaultTells f again deep)) (sym is) (λ real. none, neither)
+ends_text left why found expected again deep is none neither = subst (IsGrammarRefusal expected (λ f. FaultTells f again deep)) (sym is) (λ real. none, neither)
 
 -- no text of the grammar goes on here
 pub no_text : {B : Type 0} (left : ℕ) (why : SyntaxError) (found : Fault) (expected : Option B) → found ≡ fault.NotToml left why → expected ≡ None
@@ -185,8 +172,7 @@ module _ (text : List ℕ) (opens : first text ≡ 91) (brackets : ℕ) (are : b
     -- or read
     pub header_neither : NeitherTells (PairClashes text) (ExpressionNestsPast text)
     header_neither =
-        nameless_neither text (header_keyless text opens)
-        (λ left long. before_short 93 start (name, rest) read left (subst (HasLongKey left) own long))
+        nameless_neither text (header_keyless text opens) (λ left long. before_short 93 start (name, rest) read left (subst (HasLongKey left) own long))
 
     pub header_one : brackets ≡ 1 → expression text ≡ Some ((name, std_table), rest)
     header_one one = by (is_doubled text) refl

@@ -1,12 +1,10 @@
 -- The keys of a table and their index beside the keys and values as contracts see them.
-use Rattle.std.proofs.Common.{◌≡◌, ℕ, zero, suc, ◌+◌, ◌<◌, ◌≤◌, ◌==◌, ◌||◌, nat_lt, true, false, Bool, List, [], ◌∷◌, ◌++◌, length, drop, drop-cons, Option}
-use Rattle.std.proofs.Common.{Some, None, cond, string_bytes, bytes_eq, refl, sym, ap, subst, ◌∙◌, inl, inr, arith, set, get_or}
-use Rattle.toml_ordered.proofs.Trees.{Entry, Places}
-use Rattle.toml_ordered.specs.Data.{TomlNode, TomlNodes, counts, is_place, kept, nodes_from, node_view}
-use Rattle.toml_ordered.specs.Keys.{entries_view, keys_view, HasKey, IsFoundAt, IsNoted}
-use Rattle.toml_ordered.specs.Tables.{get_node, append, replace}
-use Rattle.std.proofs.lemmas.{Bool.cases_Bool, Bool.eq-eqb, Bool.eqb-true, Bool.false≢true, Bool.Decides.nat_tests, Slice.Eq.bytes_eq-Decides}
-use Rattle.std.specs.{BTreeMap.get_by_text, Map.update}
+use Rattle.toml_ordered.proofs.Common.{◌≡◌, ℕ, zero, suc, ◌+◌, ◌<◌, ◌≤◌, ◌==◌, ◌||◌, true, false, Bool, List, [], ◌∷◌, ◌++◌, length, drop, Option, Some, None}
+use Rattle.toml_ordered.proofs.Common.{cond, string_bytes, bytes_eq, refl, sym, ap, subst, ◌∙◌, inl, inr, arith, set, get_or, TomlNode, TomlNodes, node_view}
+use Rattle.toml_ordered.proofs.Common.{keys_view, HasKey, append, cases_Bool, eq-eqb, eqb-true, false≢true, bytes_eq-Decides, get_by_text}
+use Rattle.std.{proofs.Common.nat_lt, proofs.Common.drop-cons, proofs.lemmas.Bool.Decides.nat_tests, specs.Map.update}
+use Rattle.toml_ordered.{proofs.Trees.Entry, proofs.Trees.Places, specs.Data.counts, specs.Data.is_place, specs.Data.kept, specs.Data.nodes_from}
+use Rattle.toml_ordered.{specs.Keys.entries_view, specs.Keys.IsFoundAt, specs.Keys.IsNoted, specs.Tables.get_node, specs.Tables.replace}
 
 -- ---- a key that doesn't count, or is another
 
@@ -190,8 +188,7 @@ module _ (k : List ℕ) (es : List Entry) (index : Places) (none : (at : ℕ) �
       let itself : (at == at) ≡ true = eq-eqb at at refl in (
         (
           by_index k index at (λ less. none at less has) ∙ ap (λ (o : Option ℕ). is_place o at) is ∙ itself,
-          λ before earlier there.
-              by_index k index before (λ less. none before less there)
+          λ before earlier there. by_index k index before (λ less. none before less there)
               ∙ is_place_only (get_by_text index k) at before is (λ same. omega (arith, earlier, same)),
         ),
         has,
@@ -201,15 +198,13 @@ module _ (k : List ℕ) (es : List Entry) (index : Places) (none : (at : ℕ) �
   pub absent : get_by_text index k ≡ None → get_node k (keys_view es index) ≡ None
   absent is =
       absent_from index k 0 es λ at less has.
-      from_first (λ m. counts index m k ≡ false) at
-      (by_index k index at (λ listed. none at listed has) ∙ ap (λ (o : Option ℕ). is_place o at) is)
+      from_first (λ m. counts index m k ≡ false) at (by_index k index at (λ listed. none at listed has) ∙ ap (λ (o : Option ℕ). is_place o at) is)
 
   -- a key whose place has no such key
   pub absent_other : (place : ℕ) → get_by_text index k ≡ Some place → (HasKey k place es → ⊥) → get_node k (keys_view es index) ≡ None
   absent_other place is other =
       absent_from index k 0 es λ at less has.
-      from_first (λ m. counts index m k ≡ false) at
-      (by_index k index at (λ listed. none at listed has)
+      from_first (λ m. counts index m k ≡ false) at (by_index k index at (λ listed. none at listed has)
       ∙ is_place_only (get_by_text index k) place at is (λ same. other (subst (λ (p : ℕ). HasKey k p es) same has)))
 
 pub not_past : (k : List ℕ) (place : ℕ) (es : List Entry) → length es ≤ place → HasKey k place es → ⊥
@@ -217,17 +212,6 @@ not_past k place es past has = let less = has_within k place es has in omega (ar
 
 pub not_other : (k : List ℕ) (place : ℕ) (es : List Entry) (d : Entry) → bytes_eq k (string_bytes (get_or es place d).0) ≡ false → HasKey k place es → ⊥
 not_other k place es d other has = false≢true (sym other ∙ has_here k place es d has)
-
--- the keys from a place on, of which the first counts or not
-pub at_place : (index : Places) (n next : ℕ) (es : List Entry) (e : Entry) (b : Bool) → n < length es → e ≡ get_or es n e → next ≡ suc n
-    → b ≡ counts index n (string_bytes e.0) → nodes_from index n (entries_view (drop n es))
-    ≡ kept b (string_bytes e.0) (node_view e.1) (nodes_from index next (entries_view (drop next es)))
-at_place index n next es e b within is more place =
-    ap (λ (ds : List Entry). nodes_from index n (entries_view ds))
-    (drop-cons es n e within ∙ ap (λ (d : Entry). d ∷ drop (suc n) es) (sym is))
-    ∙ ap (λ (m : ℕ). kept (counts index n (string_bytes e.0)) (string_bytes e.0) (node_view e.1)
-    (nodes_from index m (entries_view (drop m es)))) (sym more)
-    ∙ ap (λ (c : Bool). kept c (string_bytes e.0) (node_view e.1) (nodes_from index next (entries_view (drop next es)))) (sym place)
 
 -- ---- a key that goes last
 
@@ -262,8 +246,7 @@ module _ (index after : Places) (w : Entry) where
       let ns = nodes_from index (suc n) (entries_view es) in
       let zeroth : n + 0 ≡ n = omega arith in
       let same : counts after n l ≡ b =
-      subst (λ (m : ℕ). counts after m l ≡ counts index m l) zeroth
-      (noted.1 l 0 (omega arith)
+      subst (λ (m : ℕ). counts after m l ≡ counts index m l) zeroth (noted.1 l 0 (omega arith)
       (subst (λ (m : ℕ). counts index m l ≡ true → bytes_eq k l ≡ false) (sym zeroth) (none_here b k l (node_view e.1) ns none))) in
       ap (λ (c : Bool). kept c l (node_view e.1) (nodes_from after (suc n) (entries_view (es ++ w ∷ [])))) same
       ∙ ap (kept b l (node_view e.1)) (appended_from (suc n) es (none_behind b k l (node_view e.1) ns none) (noted_later n (length es) noted))
@@ -275,8 +258,7 @@ pub appended : (index after : Places) (es : List Entry) (w : Entry) → get_node
 appended index after es w none noted =
     appended_from index after w 0 es none (
       from_first (λ m. counts after m (string_bytes w.0) ≡ true) (length es) noted.0,
-      λ l before less other.
-          from_first (λ m. counts after m l ≡ counts index m l) before
+      λ l before less other. from_first (λ m. counts after m l ≡ counts index m l) before
           (noted.1 l before less (λ live. other (from_first (λ m. counts index m l ≡ true) before live))),
     )
 
@@ -305,9 +287,7 @@ noted_indexed k at index after noted = (
           let past : nat_lt before 16 ≡ false = or_false (nat_lt before 16) (is_place (get_by_text index l) before) gone in
           ap (λ (b : Bool). b || is_place (get_by_text after l) before) past
           ∙ is_place_only (get_by_text after l) at before now (λ here. omega (arith, earlier, here)) ∙ sym gone
-      | inr differs ↦
-          ap (λ (o : Option ℕ). nat_lt before 16 || is_place o before)
-          (noted l ∙ ap (λ (b : Bool). cond b (Some at) (get_by_text index l)) differs)
+      | inr differs ↦ ap (λ (o : Option ℕ). nat_lt before 16 || is_place o before) (noted l ∙ ap (λ (b : Bool). cond b (Some at) (get_by_text index l)) differs)
     ]
       where
         or_false : (a b : Bool) → (a || b) ≡ false → a ≡ false

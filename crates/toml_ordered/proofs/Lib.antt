@@ -1,3 +1,4 @@
+pub mod Common
 pub mod Trees
 pub mod KeyPlaces
 pub mod FirstKeys

@@ -1,22 +1,12 @@
 -- Keys of more parts than are read.
-use Rattle.std.proofs.Common.{◌≡◌, ℕ, zero, suc, ◌+◌, ◌-◌, ◌<◌, ◌≤◌, ◌==◌, ◌&&◌, ◌||◌, Bool, true, false, cond, List, [], ◌∷◌, ◌++◌, length, take, drop}
-use Rattle.std.proofs.Common.{Some, None, inl, inr}
-use Rattle.std.proofs.Common.{refl, sym, ap, subst, ◌∙◌, arith, slice_index}
-use Rattle.std.proofs.lemmas.Option.{none-some, same_Some}
-use Rattle.std.proofs.lemmas.Bool.{cases_Bool, eq-eqb, eqb-true, ne_eqb}
-use Rattle.std.proofs.lemmas.List.{length-append}
-use Rattle.std.specs.List.{prefix_len}
-use Rattle.std.specs.Prelude.{option_and_then}
+use Rattle.toml_ordered.proofs.Common.{◌≡◌, ℕ, zero, suc, ◌+◌, ◌-◌, ◌<◌, ◌≤◌, ◌==◌, ◌&&◌, ◌||◌, Bool, true, false, cond, List, [], ◌∷◌, ◌++◌, length, take}
+use Rattle.toml_ordered.proofs.Common.{drop, Some, None, inl, inr, refl, sym, ap, subst, ◌∙◌, arith, slice_index, none-some, same_Some, cases_Bool, eq-eqb}
+use Rattle.toml_ordered.proofs.Common.{eqb-true, ne_eqb, length-append, prefix_len, option_and_then, Read, first, is_bare, skip_ws, Key, recursion_limit}
+use Rattle.toml_ordered.proofs.Common.{starts_string, expression, HasLongKey, KeyTells, own_key, key_parts, Fault}
 use Rattle.toml_parser.proofs.StringsLemmas.{key_after_turn}
-use Rattle.toml_parser.specs.Lexical.{Read, first, is_bare, skip_ws}
-use Rattle.toml_parser.specs.Strings.{Key, body, key, key_after, one_line, quoted, recursion_limit, simple_key, special}
-use Rattle.toml_parser.specs.Strings.{starts_string}
+use Rattle.toml_parser.specs.Strings.{body, key, key_after, one_line, quoted, simple_key, special}
 use Rattle.toml.specs.Parse.{key_equals, header_key}
-use Rattle.toml_ordered.specs.Grammar.{expression, key_before}
-use Rattle.toml_ordered.specs.Nesting.{HasLongKey, KeyTells, any_key, own_key}
-use Rattle.toml_ordered.specs.Places.{key_parts}
-use Rattle.toml_ordered.specs.declared.fault.Fault.{Fault}
-use Rattle.toml_ordered.specs.declared.syntax.SyntaxError.{SyntaxError}
+use Rattle.toml_ordered.specs.{Grammar.key_before, Nesting.any_key, declared.syntax.SyntaxError.SyntaxError}
 use Rattle.toml_ordered.specs.declared.fault.Fault.TheVariants as fault
 
 -- the text after a part of a key and a dot
@@ -126,8 +116,7 @@ key_same (suc n) (suc m) path text r q one two = by (λ p t. key_same n m p t r 
     by more (Some part) one two = by_dot more part (first (skip_ws part.1) == 46) one two
 
 -- at most so many
-parts_within : (n : ℕ) (path : List (List ℕ)) (text : List ℕ) (r : Key × List ℕ) → key_after n path text ≡ Some r
-    → length (key_parts r.0) ≤ n + length path
+parts_within : (n : ℕ) (path : List (List ℕ)) (text : List ℕ) (r : Key × List ℕ) → key_after n path text ≡ Some r → length (key_parts r.0) ≤ n + length path
 unfolding key_after
 parts_within zero path text r is = absurd (none-some _ is)
 parts_within (suc n) path text r is = by (λ p t. parts_within n p t r) (simple_key text) is
@@ -178,9 +167,6 @@ unfolding key_after
 no_part zero path rest none = refl
 no_part (suc n) path rest none = rw none
 
-pub no_parts : (text : List ℕ) → UpToPart text 0 text
-no_parts text = record { room = length text; path = []; enough = omega arith; count = refl; same = refl }
-
 module _ (text : List ℕ) (dots : ℕ) (rest : List ℕ) (known : UpToPart text dots rest) where
   -- no other part begins there
   pub part_none : simple_key rest ≡ None → (left : ℕ) → HasLongKey left text → ⊥
@@ -224,13 +210,7 @@ module _ (text : List ℕ) (dots : ℕ) (rest : List ℕ) (known : UpToPart text
           absurd (omega (arith, few, more, is))
 
       pub key_long : 80 ≤ dots → HasLongKey (length text) text
-      key_long many = record {
-        name = (known.path, part);
-        rest = skip_ws after;
-        read = whole;
-        more = let is = parts in omega (arith, many, is);
-        here = refl;
-      }
+      key_long many = record { name = (known.path, part); rest = skip_ws after; read = whole; more = let is = parts in omega (arith, many, is); here = refl }
 
 -- ---- keys and expressions that aren't read
 

@@ -1,8 +1,7 @@
 -- The byte order mark that may begin a text.
-use Rattle.std.proofs.Common.{◌≡◌, ℕ, ◌&&◌, ◌==◌, Bool, true, false, cond, List, ◌∷◌, drop, slice_index, refl, sym, ap, arith}
-use Rattle.toml_parser.specs.Lexical.{first}
+use Rattle.toml_ordered.proofs.Common.{◌≡◌, ℕ, ◌&&◌, ◌==◌, Bool, true, false, cond, List, ◌∷◌, drop, slice_index, refl, sym, ap, arith, first, common_steps}
 use Rattle.toml.specs.Parse.{skip_bom}
-use Rattle.std.proofs.lemmas.{Bool.Decides.nat_tests, Grind.common_steps}
+use Rattle.std.proofs.lemmas.Bool.Decides.{nat_tests}
 
 abbrev pub marked : List ℕ → List ℕ
 marked rest = 239 ∷ 187 ∷ 191 ∷ rest

@@ -1,23 +1,17 @@
 -- A table is taken out of another, and put back.
-use Rattle.std.proofs.Common.{length, List, [], ◌∷◌, ◌++◌, Some, None, string_bytes, option_map, ◌≡◌, ℕ, zero, suc, ◌<◌, inl, inr, refl, sym, ap, subst, ◌∙◌}
-use Rattle.std.proofs.Common.{arith, set, get_or, reverse}
+use Rattle.toml_ordered.proofs.Common.{length, List, [], ◌∷◌, ◌++◌, Some, None, string_bytes, option_map, ◌≡◌, ℕ, zero, suc, ◌<◌, inl, inr, refl, sym, ap}
+use Rattle.toml_ordered.proofs.Common.{subst, ◌∙◌, arith, set, get_or, reverse, TomlNode, TomlNodes, node_view, table, keys_view, table_view, Firsts}
+use Rattle.toml_ordered.proofs.Common.{AddsFirsts, HasFirst, IsAgain, keys_firsts, table_firsts, no_firsts, IsShutAt, held, AreFilled, PassesSteps, IsReworded}
+use Rattle.toml_ordered.proofs.Common.{Edit, append, passed, Fault, Way, Holder, Origin, Closed, Table}
 use Rattle.std.proofs.lemmas.List.{reverse-append}
-use Rattle.toml_ordered.proofs.KeyPlaces.{found_here, written_here}
-use Rattle.toml_ordered.proofs.Trees.{Entry, Places, held_is, node_view-Table}
-use Rattle.toml_ordered.proofs.FirstKeys.{adds_inside, adds_missing, again_here, again_inside, again_nothing}
-use Rattle.toml_ordered.proofs.FirstKeys.{again_reworded, held_firsts, node_firsts-Table, reworded_memory}
+use Rattle.toml_ordered.proofs.{KeyPlaces.found_here, KeyPlaces.written_here, Trees.Entry, Trees.Places, Trees.held_is, Trees.node_view-Table}
+use Rattle.toml_ordered.proofs.FirstKeys.{adds_inside, adds_missing, again_here, again_inside, again_nothing, again_reworded, held_firsts, node_firsts-Table}
+use Rattle.toml_ordered.proofs.FirstKeys.{reworded_memory}
 use Rattle.toml_ordered.proofs.Turns.{along_found, along_refused, along_new, along_new_refused}
-use Rattle.toml_ordered.specs.Data.{TomlNode, TomlNodes, no_nodes, node_view, table}
-use Rattle.toml_ordered.specs.Keys.{IsFoundAt, held_view, keys_view, table_view}
-use Rattle.toml_ordered.specs.Firsts.{Firsts, AddsFirsts, HasFirst, IsAgain, node_firsts, keys_firsts, table_firsts, keys_in, no_firsts, IsShutAt}
-use Rattle.toml_ordered.specs.Passing.{held, with_value_at, Fills, IsFilled, AreFilled, IsOpened, IsShut, PassesSteps, RefusesSteps, keys_of}
-use Rattle.toml_ordered.specs.Places.{IsReworded}
-use Rattle.toml_ordered.specs.Reading.{IsPassed, IsSameKey}
-use Rattle.toml_ordered.specs.Tables.{Edit, along, append, get_node, made_by, passed, replace}
-use Rattle.toml_ordered.specs.declared.{fault.Fault.Fault, route.Way.Way, tree.holder.Holder.Holder, passed.Passed.Passed, tree.Origin.Origin}
-use Rattle.toml_ordered.specs.declared.{tree.Origin.TheVariants.Closed}
-use Rattle.toml_ordered.specs.declared.tree.Node.{Node as CodeNode, Table}
-use Rattle.toml_ordered.specs.declared.tree.Table.{Table as CodeTable}
+use Rattle.toml_ordered.specs.{Data.no_nodes, Keys.IsFoundAt, Keys.held_view, Firsts.node_firsts, Firsts.keys_in, Reading.IsPassed, Reading.IsSameKey}
+use Rattle.toml_ordered.specs.{declared.passed.Passed.Passed, declared.tree.Node.Node as CodeNode, declared.tree.Table.Table as CodeTable}
+use Rattle.toml_ordered.specs.Passing.{with_value_at, Fills, IsFilled, IsOpened, IsShut, RefusesSteps, keys_of}
+use Rattle.toml_ordered.specs.Tables.{along, get_node, made_by, replace}
 use Rattle.toml_ordered.specs.declared.tree.holder.Holder.TheVariants as holder
 use Rattle.toml_ordered.specs.declared.route.Way.TheVariants as way
 
@@ -80,9 +74,8 @@ module _ (by : Way) (k : List ℕ) (rest : List (Way × List ℕ)) (left at : �
   pub refuses_there : (fault : Fault) → IsPassed (string_bytes e.0) e.2 left fault → IsShut by e.1 → RefusesSteps ((by, k) ∷ rest) left outer fault
   refuses_there fault own shut = record {
     value = λ edit real. along_refused by k rest edit (table_view outer) (node_view e.1) found (shut (along rest edit));
-    again = λ key what.
-        again_here k (keys_of rest ++ key ∷ []) left at outer.keys.items e (IsShutAt ((by, k) ∷ rest) key what (table_view outer)) fault has.1 is
-        own (λ real. (refl, node_view e.1, found, shut));
+    again = λ key what. again_here k (keys_of rest ++ key ∷ []) left at outer.keys.items e (IsShutAt ((by, k) ∷ rest) key what (table_view outer)) fault has.1
+        is own (λ real. (refl, node_view e.1, found, shut));
   }
 
   -- w is in its place after the table inside is taken out
@@ -92,8 +85,7 @@ module _ (by : Way) (k : List ℕ) (rest : List (Way × List ℕ)) (left at : �
     now new = (w.0, held h new, w.2)
 
     items_are : (new whole : CodeTable) → Fills t at h new whole → whole.keys.items ≡ set outer.keys.items at (now new)
-    items_are new whole fills =
-        fills.0 ∙ ap (with_value_at at (held h new)) keys ∙ with_value_at-set at (held h new) outer.keys.items w
+    items_are new whole fills = fills.0 ∙ ap (with_value_at at (held h new)) keys ∙ with_value_at-set at (held h new) outer.keys.items w
 
     view_is : (new whole : CodeTable) → Fills t at h new whole → table_view whole ≡ replace k (held_view h (table_view new)) (table_view outer)
     view_is new whole fills =
@@ -108,23 +100,19 @@ module _ (by : Way) (k : List ℕ) (rest : List (Way × List ℕ)) (left at : �
     adds_there key new whole fills adds =
         let path = keys_of rest ++ key ∷ [] in
         let inside : AddsFirsts path left (keys_in (Some (node_view e.1))) (node_firsts e.1) (node_firsts (held h new)) =
-        subst (λ (ns : TomlNodes). AddsFirsts path left ns (node_firsts e.1) (node_firsts (held h new))) (sym opened.1)
-        (subst (λ (f : Firsts). AddsFirsts path left (table_view inner) f (node_firsts (held h new))) (sym opened.2)
-        (adds_held path left (table_view inner) (table_firsts inner) h new adds)) in
-        subst (λ (es : List Entry). AddsFirsts (k ∷ path) left (table_view outer) (table_firsts outer) (keys_firsts es))
-        (sym (items_are new whole fills))
+        subst (λ (ns : TomlNodes). AddsFirsts path left ns (node_firsts e.1) (node_firsts (held h new))) (sym opened.1) (subst (λ (f : Firsts). AddsFirsts path
+        left (table_view inner) f (node_firsts (held h new))) (sym opened.2) (adds_held path left (table_view inner) (table_firsts inner) h new adds)) in
+        subst (λ (es : List Entry). AddsFirsts (k ∷ path) left (table_view outer) (table_firsts outer) (keys_firsts es)) (sym (items_are new whole fills))
         (adds_inside k path left (table_view outer) (node_view e.1) at outer.keys.items e (now new) found has.1 is same inside)
 
     pub passes_there : PassesSteps ((by, k) ∷ rest) rest left outer inner (Fills t at h)
     passes_there = record {
-      value = λ edit new whole fills known.
-          along_found by k rest edit (table_view outer) (node_view e.1) (held_view h (table_view new)) (table_view whole) found
-          (opened.0 (along rest edit) ∙ ap (option_map (held_view h)) known) (view_is new whole fills);
+      value = λ edit new whole fills known. along_found by k rest edit (table_view outer) (node_view e.1) (held_view h (table_view new)) (table_view whole)
+          found (opened.0 (along rest edit) ∙ ap (option_map (held_view h)) known) (view_is new whole fills);
       refused = λ edit none.
           along_refused by k rest edit (table_view outer) (node_view e.1) found (opened.0 (along rest edit) ∙ ap (option_map (held_view h)) none);
       firsts = adds_there;
-      again = λ key what fault again.
-          again_inside k (keys_of rest ++ key ∷ []) left at outer.keys.items e (IsShutAt rest key what (table_view inner))
+      again = λ key what fault again. again_inside k (keys_of rest ++ key ∷ []) left at outer.keys.items e (IsShutAt rest key what (table_view inner))
           (IsShutAt ((by, k) ∷ rest) key what (table_view outer))
           (λ path l shut. (refl, subst (λ (ns : TomlNodes). IsShutAt rest key what ns path l) (sym (ap keys_in found ∙ opened.1)) shut)) fault has.1 is
           (subst (λ (f : Firsts). IsAgain (keys_of rest ++ key ∷ []) left f (IsShutAt rest key what (table_view inner)) fault) (sym opened.2) again);
@@ -148,16 +136,14 @@ module _ (by : Way) (rest : List (Way × List ℕ)) (left at : ℕ) (outer inner
     view_made new whole fills =
         ap (λ (es : List Entry). keys_view es whole.index) (items_made new whole fills)
         ∙ ap (λ (places : Places). keys_view (outer.keys.items ++ made new ∷ []) places) fills.1 ∙ view (made new).1
-        ∙ ap (append (table_view outer) (string_bytes w.0))
-        (held_is (holder.Table origin) new ∙ ap (λ (o : Origin). table o (table_view new)) is)
+        ∙ ap (append (table_view outer) (string_bytes w.0)) (held_is (holder.Table origin) new ∙ ap (λ (o : Origin). table o (table_view new)) is)
 
     nothing_in : table_view inner ≡ no_nodes
     nothing_in = ap (λ (es : List Entry). keys_view es inner.index) empty
 
     pub passes_new : PassesSteps ((by, string_bytes w.0) ∷ rest) rest left outer inner (Fills t at (holder.Table origin))
     passes_new = record {
-      value = λ edit new whole fills known.
-          along_new by (string_bytes w.0) rest edit (table_view outer) (table_view new) (table_view whole) none
+      value = λ edit new whole fills known. along_new by (string_bytes w.0) rest edit (table_view outer) (table_view new) (table_view whole) none
           (ap (along rest edit) (sym nothing_in) ∙ known) (view_made new whole fills);
       refused = λ edit bad. along_new_refused by (string_bytes w.0) rest edit (table_view outer) none (ap (along rest edit) (sym nothing_in) ∙ bad);
       firsts = λ key new whole fills adds.
@@ -165,10 +151,8 @@ module _ (by : Way) (rest : List (Way × List ℕ)) (left at : ℕ) (outer inner
           let inside : AddsFirsts path left no_nodes no_firsts (node_firsts (made new).1) =
           adds_held path left no_nodes no_firsts (holder.Table origin) new
           (subst (λ (es : List Entry). AddsFirsts path left (keys_view es inner.index) (keys_firsts es) (table_firsts new)) empty adds) in
-          adds_missing (string_bytes w.0) path left (table_view outer) outer.keys.items whole.keys.items (made new) refl here none inside
-          (items_made new whole fills);
-      again = λ key what fault again.
-          again_nothing (keys_of rest ++ key ∷ []) (string_bytes w.0 ∷ keys_of rest ++ key ∷ []) left (table_firsts outer)
+          adds_missing (string_bytes w.0) path _ (table_view outer) outer.keys.items _ (made new) refl here none inside (items_made new whole fills);
+      again = λ key what fault again. again_nothing (keys_of rest ++ key ∷ []) (string_bytes w.0 ∷ keys_of rest ++ key ∷ []) left (table_firsts outer)
           (IsShutAt rest key what (table_view inner)) (IsShutAt ((by, string_bytes w.0) ∷ rest) key what (table_view outer)) fault
           (subst (λ (es : List Entry). IsAgain (keys_of rest ++ key ∷ []) left (keys_firsts es) (IsShutAt rest key what (table_view inner)) fault) empty again);
     }

@@ -102,5 +102,4 @@ pub found_same : (k l : List ℕ) (y : Node) (ns : Nodes) → bytes_eq k l ≡ t
 found_same k l y ns same = subst (λ (j : List ℕ). get_node k (insert j y ns) ≡ Some y) ((bytes_eq-Decides k l).0 same) (get_node-insert k y ns)
 
 pub replaced_same : (k l : List ℕ) (x y : Node) (ns : Nodes) → bytes_eq k l ≡ true → replace k x (insert l y ns) ≡ insert l x ns
-replaced_same k l x y ns same =
-    subst (λ (j : List ℕ). replace k x (insert j y ns) ≡ insert j x ns) ((bytes_eq-Decides k l).0 same) (replace-insert k y x ns)
+replaced_same k l x y ns same = subst (λ (j : List ℕ). replace k x (insert j y ns) ≡ insert j x ns) ((bytes_eq-Decides k l).0 same) (replace-insert k y x ns)

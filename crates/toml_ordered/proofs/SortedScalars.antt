@@ -1,17 +1,12 @@
 -- Scalars with the words that write them: a float's characters are those of the float that `toml` reads.
-use Rattle.std.proofs.Common.{◌≡◌, ℕ, Bool, true, false, cond, ◌||◌, ◌==◌, List, [], ◌∷◌, take, drop, codes, Float as FloatValue, Option, Some, None}
-use Rattle.std.proofs.Common.{option_map, refl, sym, ap, subst, ◌∙◌, bytes_eq}
-use Rattle.toml_parser.specs.Lexical.{first}
-use Rattle.toml_parser.specs.Numbers.{unquoted, word_len, word_value, number, plain_number, decimal_number, looks_like_datetime, underscores_fit}
-use Rattle.toml_parser.specs.Numbers.{underscore_radix}
+use Rattle.toml_ordered.proofs.Common.{◌≡◌, ℕ, Bool, true, false, cond, ◌||◌, ◌==◌, List, [], ◌∷◌, take, drop, codes, Option, Some, None, option_map, refl, sym}
+use Rattle.toml_ordered.proofs.Common.{ap, subst, ◌∙◌, bytes_eq, first, word_len, read_map, infinity, not_a_number, decimal, scalar_node, sorted_value}
+use Rattle.toml_ordered.proofs.Common.{false≢true, eqb-true, bytes_eq-Decides}
+use Rattle.std.{proofs.Common.Float as FloatValue, specs.Char.is_digit, specs.Float.Ieee.inf, specs.Float.Ieee.nan}
+use Rattle.toml_parser.specs.Numbers.{unquoted, word_value, number, plain_number, decimal_number, looks_like_datetime, underscores_fit, underscore_radix}
 use Rattle.toml_parser.specs.declared.scalar.Scalar.{Scalar}
-use Rattle.toml.specs.Parse.{read_map}
-use Rattle.toml_ordered.specs.Data.{infinity, not_a_number, decimal}
-use Rattle.toml_ordered.specs.Grammar.{plain_word, without_sign, float_node, scalar_node}
-use Rattle.toml_ordered.specs.Sorted.{float_in, sorted_value}
+use Rattle.toml_ordered.specs.{Grammar.plain_word, Grammar.without_sign, Grammar.float_node, Sorted.float_in}
 use Rattle.toml_datetime.specs.{Parse.parse_datetime, declared.datetime.Datetime.Datetime}
-use Rattle.std.proofs.lemmas.{Bool.false≢true, Bool.eqb-true, Slice.Eq.bytes_eq-Decides}
-use Rattle.std.specs.{Char.is_digit, Float.Ieee.inf, Float.Ieee.nan}
 use Rattle.toml_parser.specs.declared.scalar.Scalar.TheVariants as scalar
 use Rattle.toml.specs.Data as plain
 use Rattle.toml.specs.Parse as p
@@ -27,8 +22,7 @@ past_is c rest name Q plus minus bare = by (c == 43) refl (c == 45) refl
 inf_number : (word : List ℕ) → without_sign word ≡ codes "inf" → plain_number word ≡ Some (scalar.Float (inf (first word == 45)))
 unfolding plain_number decimal_number
 inf_number [] e = absurd (cc)
-inf_number (c ∷ rest) e =
-    past_is c rest (codes "inf") (λ (word : List ℕ). plain_number word ≡ Some (scalar.Float (inf (first word == 45)))) refl refl refl e
+inf_number (c ∷ rest) e = past_is c rest (codes "inf") (λ (word : List ℕ). plain_number word ≡ Some (scalar.Float (inf (first word == 45)))) refl refl refl e
 
 nan_number : (word : List ℕ) → without_sign word ≡ codes "nan" → plain_number word ≡ Some (scalar.Float nan)
 unfolding plain_number decimal_number

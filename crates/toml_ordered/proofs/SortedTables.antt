@@ -1,17 +1,14 @@
 -- The rules for tables, with the keys in order of definition and with the keys sorted: each edit does the same.
-use Rattle.std.proofs.Common.{◌≡◌, ℕ, Bool, Ordering, Less, nat_cmp, true, false, cond, List, [], ◌∷◌, ◌++◌, Option, Some, None, option_map, refl, sym, ap}
-use Rattle.std.proofs.Common.{◌∙◌, bytes_eq}
-use Rattle.std.proofs.lemmas.Option.{none-some}
-use Rattle.toml_parser.specs.Strings.{Key}
-use Rattle.toml_ordered.specs.Data.{TomlNode, string, integer, decimal, infinity, not_a_number, boolean, datetime, array, table, tables, Items, no_items, item}
-use Rattle.toml_ordered.specs.Data.{TomlNodes, no_nodes, node, push_item}
-use Rattle.toml_ordered.specs.Keys.{sealed}
-use Rattle.toml_ordered.specs.Sorted.{put_sorted, sorted_value, sorted_items, sorted_keys}
-use Rattle.toml_ordered.specs.Tables.{get_node, append, replace, Edit, passed, at_step, along, steps_by, steps_along, Definition, key_value, std_table, at_key}
-use Rattle.toml_ordered.specs.Tables.{array_table, new_node, redefine, at_found, put, TomlDocument, define}
+use Rattle.toml_ordered.proofs.Common.{◌≡◌, ℕ, Bool, true, false, cond, List, [], ◌∷◌, ◌++◌, Option, Some, None, option_map, refl, sym, ap, ◌∙◌, bytes_eq}
+use Rattle.toml_ordered.proofs.Common.{none-some, Key, TomlNode, string, decimal, infinity, not_a_number, array, table, tables, Items, no_items, TomlNodes}
+use Rattle.toml_ordered.proofs.Common.{push_item, sealed, sorted_value, append, Edit, passed, steps_along, Definition, key_value, std_table, array_table}
+use Rattle.toml_ordered.proofs.Common.{redefine, put, TomlDocument, Origin, Closed}
+use Rattle.std.{proofs.Common.Ordering, proofs.Common.Less, proofs.Common.nat_cmp, specs.Cmp.Lexicographic.slice_cmp, specs.Ordering.match_ordering}
+use Rattle.toml_ordered.specs.Data.{integer, boolean, datetime, item, no_nodes, node}
+use Rattle.toml_ordered.specs.Sorted.{put_sorted, sorted_items, sorted_keys}
+use Rattle.toml_ordered.specs.Tables.{get_node, replace, at_step, along, steps_by, at_key, new_node, at_found, define}
+use Rattle.toml_ordered.specs.declared.tree.Origin.TheVariants.{Implicit, Dotted, Header}
 use Rattle.toml_ordered.proofs.SortedKeys.{swap, found_past, replaced_past, found_same, replaced_same}
-use Rattle.std.specs.{Cmp.Lexicographic.slice_cmp, Ordering.match_ordering}
-use Rattle.toml_ordered.specs.declared.tree.Origin.{Origin, TheVariants.Implicit, TheVariants.Dotted, TheVariants.Header, TheVariants.Closed}
 use Rattle.toml.specs.Data as plain
 use Rattle.toml.specs.Tables as t
 use Rattle.toml_ordered.specs.declared.route.Way.TheVariants as way
@@ -194,16 +191,14 @@ same_redefine array_table _ = refl
 
 same_found : (k : List ℕ) (what : Definition) → DefinesComplete what → (ns : TomlNodes) (o : Option TomlNode) → get_node k ns ≡ o
     → option_map seen (at_found k what ns o) ≡ t.at_found k (seen_definition what) (seen ns) (option_map seen_node o)
-same_found k what complete ns None is =
-    ap (λ new. Some new) (seen_append k (new_node what) ns is ∙ ap (λ x. t.insert k x (seen ns)) (same_new what complete))
+same_found k what complete ns None is = ap (λ new. Some new) (seen_append k (new_node what) ns is ∙ ap (λ x. t.insert k x (seen ns)) (same_new what complete))
 same_found k what complete ns (Some x) is =
     mapped seen_node seen (λ y. replace k y ns) (λ y. t.replace k y (seen ns)) (redefine what x) (t.redefine (seen_definition what) (seen_node x))
     (same_redefine what x) (λ y. seen_replace k y ns)
 
 pub same_key_edit : (k : List ℕ) (what : Definition) → DefinesComplete what → Same (at_key k what) (t.at_key k (seen_definition what))
 unfolding at_key t.at_key
-same_key_edit k what complete ns =
-    same_found k what complete ns (get_node k ns) refl ∙ ap (t.at_found k (seen_definition what) (seen ns)) (sym (seen_get k ns))
+same_key_edit k what complete ns = same_found k what complete ns (get_node k ns) refl ∙ ap (t.at_found k (seen_definition what) (seen ns)) (sym (seen_get k ns))
 
 pub same_put : (key : Key) (x : TomlNode) → IsComplete x → Same (put key x) (t.put key (sorted_value x))
 same_put key x complete =
@@ -221,9 +216,8 @@ pub same_define : (doc : TomlDocument) (key : Key) (what : Definition) → Defin
     → option_map seen_document (define doc (key, what)) ≡ t.define (seen_document doc) (key, seen_definition what)
 unfolding define t.define
 same_define doc key (key_value x) complete =
-    mapped seen seen_document (λ root. (root, doc.1)) (λ root. (root, doc.1)) (along (steps_along doc.1 key.0) (at_key key.1 (key_value x)) doc.0) _
-    (same_along doc.1 key.0 (at_key key.1 (key_value x)) (t.at_key key.1 (t.key_value (sorted_value x))) (same_key_edit key.1 (key_value x) complete) doc.0)
-    (λ _. refl)
+    mapped seen seen_document (λ root. (root, doc.1)) (λ root. (root, doc.1)) (along (steps_along doc.1 key.0) (at_key key.1 (key_value x)) doc.0) _ (same_along
+    doc.1 key.0 (at_key key.1 (key_value x)) (t.at_key key.1 (t.key_value (sorted_value x))) (same_key_edit key.1 (key_value x) complete) doc.0) (λ _. refl)
 same_define doc key std_table complete =
     mapped seen seen_document (λ root. (root, key.0 ++ key.1 ∷ [])) (λ root. (root, key.0 ++ key.1 ∷ []))
     (along (steps_along key.0 []) (at_key key.1 std_table) doc.0) _

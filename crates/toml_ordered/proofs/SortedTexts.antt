@@ -1,24 +1,18 @@
 -- The document of a text, with the keys in order of definition and with the keys sorted: each part of the grammar reads the same.
-use Rattle.std.proofs.Common.{◌≡◌, ℕ, zero, suc, Bool, true, false, cond, ◌&&◌, ◌||◌, ◌==◌, List, [], length, drop, slice_index, Option, Some, None}
-use Rattle.std.proofs.Common.{option_map, option_and_then, refl, sym, ap, subst, ◌∙◌}
-use Rattle.std.proofs.lemmas.{Option.cond_some, Option.option_and_then_some, Iterator.Adapters.option_map_id}
-use Rattle.toml_parser.specs.Lexical.{Read, first, skip_ws, skip_blank}
-use Rattle.toml_parser.specs.Strings.{Key, quoted, starts_string, recursion_limit}
+use Rattle.toml_ordered.proofs.Common.{◌≡◌, ℕ, zero, suc, Bool, true, false, cond, ◌&&◌, ◌||◌, ◌==◌, List, [], length, drop, slice_index, Option, Some, None}
+use Rattle.toml_ordered.proofs.Common.{option_map, option_and_then, refl, sym, ap, subst, ◌∙◌, Read, first, skip_ws, skip_blank, Key, quoted, starts_string}
+use Rattle.toml_ordered.proofs.Common.{recursion_limit, read_map, after_byte, after_element, key_equals, ends_line, TomlNode, string, array, table, Items}
+use Rattle.toml_ordered.proofs.Common.{no_items, TomlNodes, push_item, atom, keyval, expression, line, sorted_value, key_value, std_table, array_table}
+use Rattle.toml_ordered.proofs.Common.{Expression, TomlDocument, put, define, Closed, map_some}
+use Rattle.std.proofs.{lemmas.Option.cond_some, lemmas.Option.option_and_then_some, lemmas.Iterator.Adapters.option_map_id}
+use Rattle.toml.{specs.Parse.header_key, specs.Parse.skip_bom, proofs.Turns.val_deep}
+use Rattle.toml_ordered.{specs.Data.no_nodes, specs.Sorted.sorted_items, specs.Sorted.sorted_keys, proofs.SortedScalars.same_scalar, proofs.Turns.val_sealed}
+use Rattle.toml_ordered.specs.Grammar.{items, members, val, lines, ordered_document}
+use Rattle.toml_ordered.proofs.SortedTables.{mapped, closed_keys, sorted-push, seen, seen_document, seen_definition, IsComplete, DefinesComplete, same_put}
+use Rattle.toml_ordered.proofs.SortedTables.{complete_sealed, same_define}
 use Rattle.toml.specs.Data as plain
 use Rattle.toml.specs.Tables as t
 use Rattle.toml.specs.Parse as p
-use Rattle.toml.specs.Parse.{read_map, after_byte, after_element, key_equals, header_key, ends_line, skip_bom}
-use Rattle.toml_ordered.specs.Data.{TomlNode, string, array, table, Items, no_items, TomlNodes, no_nodes, push_item}
-use Rattle.toml_ordered.specs.Grammar.{atom, keyval, items, members, val, expression, line, lines, ordered_document}
-use Rattle.toml_ordered.specs.Sorted.{sorted_value, sorted_items, sorted_keys}
-use Rattle.toml_ordered.specs.Tables.{key_value, std_table, array_table, Expression, TomlDocument, put, define}
-use Rattle.toml_ordered.specs.declared.tree.Origin.TheVariants.{Closed}
-use Rattle.toml.proofs.Turns.{val_deep}
-use Rattle.std.proofs.NetLemmas.Options.{map_some}
-use Rattle.toml_ordered.proofs.SortedScalars.{same_scalar}
-use Rattle.toml_ordered.proofs.SortedTables.{mapped, closed_keys, sorted-push, seen, seen_document, seen_definition, IsComplete, DefinesComplete, same_put}
-use Rattle.toml_ordered.proofs.SortedTables.{complete_sealed, same_define}
-use Rattle.toml_ordered.proofs.Turns.{val_sealed}
 
 -- two readings, one after another
 bound : {A B C D : Type 0} (f : A → B) (g : C → D) (o : Option A) (q : Option B) (h : A → Option C) (k : B → Option D) → option_map f o ≡ q
@@ -57,10 +51,8 @@ same_atom text =
 
 complete_keyval : (depth : ℕ) (text : List ℕ) (e : (Key × TomlNode) × List ℕ) → keyval (val depth) text ≡ Some e → IsComplete e.0.1
 complete_keyval depth text e is =
-    option_and_then_some _ (key_equals text) e is λ k named read.
-    map_some (λ r. ((k.0, r.0), r.1)) (val depth k.1) e read λ v found same.
-    subst (λ (d : (Key × TomlNode) × List ℕ). IsComplete d.0.1) same
-    (subst IsComplete (val_sealed depth k.1 v.0 v.1 found) (complete_sealed v.0))
+    option_and_then_some _ (key_equals text) e is λ k named read. map_some (λ r. ((k.0, r.0), r.1)) (val depth k.1) e read λ v found same. subst
+    (λ (d : (Key × TomlNode) × List ℕ). IsComplete d.0.1) same (subst IsComplete (val_sealed depth k.1 v.0 v.1 found) (complete_sealed v.0))
 
 abbrev sorted_items_read : Items × List ℕ → plain.Items × List ℕ
 sorted_items_read r = (sorted_items r.0, r.1)
@@ -77,9 +69,8 @@ module _ (depth : ℕ) (same : SameVal (val depth) (p.val depth)) where
   unfolding items p.items
   same_items zero found text = refl
   same_items (suc n) found text =
-      either sorted_items_read (first (skip_blank text) == 93) _ _ _ _ refl
-      (bound sorted_read sorted_items_read (val depth (skip_blank text)) (p.val depth (skip_blank text)) _ _ (same (skip_blank text))
-      (λ v is. bound_same sorted_items_read (after_element 93 v.1) _ _
+      either sorted_items_read (first (skip_blank text) == 93) _ _ _ _ refl (bound sorted_read sorted_items_read (val depth (skip_blank text))
+      (p.val depth (skip_blank text)) _ _ (same (skip_blank text)) (λ v is. bound_same sorted_items_read (after_element 93 v.1) _ _
       (λ next found_next. same_items n (push_item found v.0) next ∙ ap (λ xs. p.items (p.val depth) n xs next) (sorted-push found v.0))))
 
   same_keyval : (text : List ℕ) → option_map sorted_pair (keyval (val depth) text) ≡ p.keyval (p.val depth) text
@@ -92,8 +83,7 @@ module _ (depth : ℕ) (same : SameVal (val depth) (p.val depth)) where
   unfolding members p.members
   same_members zero found text = refl
   same_members (suc n) found text =
-      either sorted_keys_read (first (skip_blank text) == 125) _ _ _ _
-      (ap (λ ms. Some (ms, drop 1 (skip_blank text))) (sym (closed_keys found)))
+      either sorted_keys_read (first (skip_blank text) == 125) _ _ _ _ (ap (λ ms. Some (ms, drop 1 (skip_blank text))) (sym (closed_keys found)))
       (bound sorted_pair sorted_keys_read (keyval (val depth) (skip_blank text)) (p.keyval (p.val depth) (skip_blank text)) _ _ (same_keyval (skip_blank text))
       (λ e is. bound seen sorted_keys_read (put e.0.0 e.0.1 found) (t.put e.0.0 (sorted_value e.0.1) (seen found)) _ _
       (same_put e.0.0 e.0.1 (complete_keyval depth (skip_blank text) e is) found)
@@ -111,13 +101,10 @@ same_val zero text = by (first text == 91 || first text == 123) refl
     by true h = sym (bracket_none text h)
     by false h = same_atom text
 same_val (suc depth) text =
-    either sorted_read (first text == 91) _ _ _ _
-    (same_read_map sorted_items array plain.array (items (val depth) (length text) no_items (drop 1 text)) _
-    (same_items depth (same_val depth) (length text) no_items (drop 1 text)) (λ _. refl))
-    (either sorted_read (first text == 123) _ _ _ _
+    either sorted_read (first text == 91) _ _ _ _ (same_read_map sorted_items array plain.array (items (val depth) (length text) no_items (drop 1 text)) _
+    (same_items depth (same_val depth) (length text) no_items (drop 1 text)) (λ _. refl)) (either sorted_read (first text == 123) _ _ _ _
     (same_read_map sorted_keys (table Closed) plain.table (members (val depth) (length text) no_nodes (drop 1 text)) _
-    (same_members depth (same_val depth) (length text) no_nodes (drop 1 text)) (λ _. refl))
-    (same_atom text))
+    (same_members depth (same_val depth) (length text) no_nodes (drop 1 text)) (λ _. refl)) (same_atom text))
 
 -- ---- documents
 
@@ -127,15 +114,11 @@ seen_expression r = ((r.0.0, seen_definition r.0.1), r.1)
 same_expression : (text : List ℕ) → option_map seen_expression (expression text) ≡ p.expression text
 unfolding p.expression
 same_expression text =
-    either seen_expression (first text == 91 && slice_index text 1 == 91) _ _ _ _
-    (bound_same seen_expression (header_key (drop 2 text)) _ _
-    (λ k is. mapped (λ rest. rest) seen_expression (λ rest. ((k.0, array_table), rest)) (λ rest. ((k.0, t.array_table), rest))
-    (after_byte 93 k.1) (after_byte 93 k.1) (option_map_id (after_byte 93 k.1)) (λ _. refl)))
-    (either seen_expression (first text == 91) _ _ _ _
-    (mapped (λ r. r) seen_expression (λ r. ((r.0, std_table), r.1)) (λ r. ((r.0, t.std_table), r.1)) (header_key (drop 1 text)) (header_key (drop 1 text))
-    (option_map_id (header_key (drop 1 text))) (λ _. refl))
-    (mapped sorted_pair seen_expression (λ r. ((r.0.0, key_value r.0.1), r.1))
-    (λ r. ((r.0.0, t.key_value r.0.1), r.1)) (keyval (val recursion_limit) text) (p.keyval (p.val recursion_limit) text)
+    either seen_expression (first text == 91 && slice_index text 1 == 91) _ _ _ _ (bound_same seen_expression (header_key (drop 2 text)) _ _ (λ k is. mapped
+    (λ rest. rest) seen_expression (λ rest. ((k.0, array_table), rest)) (λ rest. ((k.0, t.array_table), rest)) (after_byte 93 k.1) _
+    (option_map_id (after_byte 93 k.1)) (λ _. refl))) (either seen_expression (first text == 91) _ _ _ _ (mapped (λ r. r) seen_expression
+    (λ r. ((r.0, std_table), r.1)) (λ r. ((r.0, t.std_table), r.1)) (header_key (drop 1 text)) _ (option_map_id (header_key (drop 1 text))) (λ _. refl)) (mapped
+    sorted_pair seen_expression (λ r. ((r.0.0, key_value r.0.1), r.1)) (λ r. ((r.0.0, t.key_value r.0.1), r.1)) (keyval (val recursion_limit) text) _
     (same_keyval recursion_limit (same_val recursion_limit) text) (λ _. refl)))
 
 abbrev CompletesIn : Expression × List ℕ → Type 0

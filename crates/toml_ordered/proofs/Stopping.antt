@@ -1,9 +1,7 @@
 -- The places at which a text is refused.
-use Rattle.std.proofs.Common.{◌≡◌, ℕ, ◌≤◌, List, length, min, sym, subst, arith}
-use Rattle.toml_ordered.proofs.Endings.{same_end}
-use Rattle.toml_ordered.specs.Places.{EndsWith, FaultIsPlaced, HoldsHere, IsSettled, StopsAtExpression, moved_to}
-use Rattle.toml_ordered.specs.Reading.{IsMemory}
-use Rattle.toml_ordered.specs.declared.fault.Fault.{Fault}
+use Rattle.toml_ordered.proofs.Common.{◌≡◌, ℕ, ◌≤◌, List, length, sym, subst, arith, EndsWith, moved_to, IsMemory, Fault}
+use Rattle.std.proofs.Common.{min}
+use Rattle.toml_ordered.{proofs.Endings.same_end, specs.Places.FaultIsPlaced, specs.Places.HoldsHere, specs.Places.IsSettled, specs.Places.StopsAtExpression}
 use Rattle.toml_ordered.specs.declared.fault.Fault.TheVariants as fault
 
 -- a fault whose place was moved to one at which the text stops, unless it is a refused allocation
@@ -22,8 +20,7 @@ module _ (text start : List ℕ) where
   placed_within fault.Memory moved is stops = subst (FaultIsPlaced text) (sym is) tt
   placed_within (fault.NotToml left why) (fault.NotToml l w) is stops = stops (λ m. cc) l is.1.0
   placed_within (fault.NotToml left why) _ is stops = absurd is.0
-  placed_within (fault.TooDeep left) moved is stops =
-      subst (FaultIsPlaced text) (sym is) (stops (λ m. cc) (min left (length start)) (omega arith))
+  placed_within (fault.TooDeep left) moved is stops = subst (FaultIsPlaced text) (sym is) (stops (λ m. cc) (min left (length start)) (omega arith))
   placed_within (fault.DefinedAgain key name first second) moved is stops =
       subst (FaultIsPlaced text) (sym is) (stops (λ m. cc) (min second (length start)) (omega arith))
 

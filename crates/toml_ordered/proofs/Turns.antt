@@ -1,25 +1,20 @@
 -- The loops of the grammar, a turn at a time.
-use Rattle.std.proofs.Common.{◌≡◌, ℕ, zero, suc, ◌-◌, ◌<◌, true, false, ◌||◌, ◌==◌, List, [], ◌∷◌, length, drop, Option, Some, None, Result, Ok, Err, refl, ap}
-use Rattle.std.proofs.Common.{◌∙◌, arith, take, take_all, length-drop, option_map, cond, Bool, sym, subst, inl, inr, ◌⊎◌, ◌≤◌, bytes_eq, codes}
-use Rattle.std.specs.Prelude.{option_and_then}
-use Rattle.toml.specs.Parse.{read_map, after_element, key_equals, skip_bom}
-use Rattle.std.proofs.NetLemmas.Options.{map_some}
-use Rattle.toml_ordered.specs.Data.{TomlNode, string, decimal, infinity, not_a_number, Items, no_items, array, table, push_item, TomlNodes, no_nodes}
-use Rattle.toml_ordered.specs.Keys.{sealed}
-use Rattle.toml_ordered.specs.Tables.{put, TomlDocument, Expression, define, Edit, along, passed, get_node, replace, append, made_by, Definition, redefine}
-use Rattle.toml_ordered.specs.Tables.{new_node, at_key}
-use Rattle.toml_ordered.specs.Reading.{ParsesTo}
-use Rattle.toml_ordered.specs.Grammar.{plain_word, without_sign, float_node, scalar_node, atom, val, keyval, items, members, line, lines, ordered_document}
-use Rattle.toml_ordered.specs.declared.{fault.Fault.Fault, route.Way.Way, tree.Origin.TheVariants.Closed}
-use Rattle.toml_parser.specs.{Numbers.unquoted, Numbers.word_len, Numbers.word_value, Strings.starts_string, Strings.quoted, Strings.Key}
-use Rattle.toml_parser.specs.{declared.scalar.Scalar.Scalar, Lexical.Read, Lexical.first, Lexical.skip_blank}
-use Rattle.std.proofs.lemmas.{Bool.cases_Bool, Bool.cases_lt, Option.none-some}
+use Rattle.toml_ordered.proofs.Common.{◌≡◌, ℕ, zero, suc, ◌-◌, ◌<◌, true, false, ◌||◌, ◌==◌, List, [], ◌∷◌, length, drop, Option, Some, None, Result, Ok, Err}
+use Rattle.toml_ordered.proofs.Common.{refl, ap, ◌∙◌, arith, take, option_map, cond, Bool, sym, subst, inl, inr, ◌⊎◌, ◌≤◌, bytes_eq, codes, option_and_then}
+use Rattle.toml_ordered.proofs.Common.{read_map, after_element, key_equals, map_some, TomlNode, string, decimal, infinity, not_a_number, Items, no_items, array}
+use Rattle.toml_ordered.proofs.Common.{table, push_item, TomlNodes, sealed, put, TomlDocument, Expression, define, Edit, passed, append, Definition, redefine}
+use Rattle.toml_ordered.proofs.Common.{ParsesTo, scalar_node, atom, keyval, line, Fault, Way, Closed, word_len, starts_string, quoted, Key, Read, first}
+use Rattle.toml_ordered.proofs.Common.{skip_blank, cases_Bool, none-some}
+use Rattle.std.proofs.{Common.take_all, Common.length-drop, lemmas.Bool.cases_lt}
+use Rattle.toml.specs.Parse.{skip_bom}
+use Rattle.toml_ordered.specs.{Data.no_nodes, Tables.along, Tables.get_node, Tables.replace, Tables.made_by, Tables.new_node, Tables.at_key}
+use Rattle.toml_ordered.specs.Grammar.{plain_word, without_sign, float_node, val, items, members, lines, ordered_document}
+use Rattle.toml_parser.specs.{Numbers.unquoted, Numbers.word_value, declared.scalar.Scalar.Scalar}
 use Rattle.toml_parser.specs.declared.scalar.Scalar.TheVariants as scalar
 
 module _ (val : List ℕ → Read TomlNode) where
   pub items_turn : (m : ℕ) (found : Items) (text : List ℕ) → 0 < m
-      → items val m found text
-      ≡ cond (first (skip_blank text) == 93) (Some (found, drop 1 (skip_blank text)))
+      → items val m found text ≡ cond (first (skip_blank text) == 93) (Some (found, drop 1 (skip_blank text)))
       (option_and_then (λ v. option_and_then (items val (m - 1) (push_item found v.0)) (after_element 93 v.1)) (val (skip_blank text)))
   unfolding items
   items_turn zero found text some = absurd (omega arith)
@@ -28,10 +23,8 @@ module _ (val : List ℕ → Read TomlNode) where
       rw less
 
   pub members_turn : (m : ℕ) (found : TomlNodes) (text : List ℕ) → 0 < m
-      → members val m found text
-      ≡ cond (first (skip_blank text) == 125) (Some (found, drop 1 (skip_blank text)))
-      (option_and_then (λ e. option_and_then (λ more. option_and_then (members val (m - 1) more) (after_element 125 e.1)) (put e.0.0 e.0.1 found))
-      (keyval val (skip_blank text)))
+      → members val m found text ≡ cond (first (skip_blank text) == 125) (Some (found, drop 1 (skip_blank text))) (option_and_then (λ e. option_and_then
+      (λ more. option_and_then (members val (m - 1) more) (after_element 125 e.1)) (put e.0.0 e.0.1 found)) (keyval val (skip_blank text)))
   unfolding members
   members_turn zero found text some = absurd (omega arith)
   members_turn (suc m) found text some =
@@ -100,11 +93,7 @@ module _ (text : List ℕ) (doc : TomlDocument) (rest : List ℕ) (on : GoesOn t
 
       pub document_goes_on : (next : TomlDocument) → define doc e ≡ Some next → length after < length rest → GoesOn text next after
       document_goes_on next defined shorter =
-          let enough = on.enough in record {
-            room = on.room - 1;
-            enough = omega (arith, enough, shorter);
-            same = turn ∙ rw (other, read, defined);
-          }
+          let enough = on.enough in record { room = on.room - 1; enough = omega (arith, enough, shorter); same = turn ∙ rw (other, read, defined) }
 
 -- ---- keys
 
@@ -184,8 +173,7 @@ atom_scalar s d rest x other read is =
 
 read_sealed : {A : Type 0} (f : A → TomlNode) → ((a : A) → sealed (f a) ≡ f a) → (o : Read A) (x : TomlNode) (rest : List ℕ) → read_map f o ≡ Some (x, rest)
     → sealed x ≡ x
-read_sealed f all o x rest read =
-    map_some (λ r. (f r.0, r.1)) o (x, rest) read λ r is same. subst (λ (y : TomlNode × List ℕ). sealed y.0 ≡ y.0) same (all r.0)
+read_sealed f all o x rest read = map_some (λ r. (f r.0, r.1)) o (x, rest) read λ r is same. subst (λ (y : TomlNode × List ℕ). sealed y.0 ≡ y.0) same (all r.0)
 
 float_sealed : (word : List ℕ) → sealed (float_node word) ≡ float_node word
 float_sealed word = by (bytes_eq (without_sign word) (codes "inf")) (bytes_eq (without_sign word) (codes "nan"))

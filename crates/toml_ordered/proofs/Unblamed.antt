@@ -1,23 +1,17 @@
 -- An expression or a document is refused for one reason: if it isn't TOML at a place, no key is defined again in it, and nothing nests too deep.
-use Rattle.std.proofs.Common.{◌≡◌, ◌⊎◌, inl, inr, ℕ, List, Some, None, refl, sym, ap, subst, ◌∙◌}
-use Rattle.std.proofs.lemmas.Option.{none-some, same_Some}
-use Rattle.toml.specs.Parse.{key_equals}
+use Rattle.toml_ordered.proofs.Common.{◌≡◌, ◌⊎◌, inl, inr, ℕ, List, Some, None, refl, sym, ap, subst, ◌∙◌, none-some, same_Some, key_equals, NeitherTells}
+use Rattle.toml_ordered.proofs.Common.{expression, line, val, ClashesIn, ExpressionNestsPast, HasLongKey, NestsPast, PairClashes, own_key, ReadsUpTo}
+use Rattle.toml_ordered.proofs.Common.{Expression, TomlDocument, skip_blank, Key, recursion_limit}
 use Rattle.toml_ordered.proofs.Blaming.{IsBlamed, blamed_none, keyval_none, no_header, once, unblamed}
 use Rattle.toml_ordered.proofs.LongKeys.{expression_long, named_short, own_key_pair}
-use Rattle.toml_ordered.specs.Firsts.{NeitherTells}
-use Rattle.toml_ordered.specs.Grammar.{expression, line, val}
-use Rattle.toml_ordered.specs.Nesting.{ClashesIn, Conflict, ExpressionNestsPast, HasLongKey, NestsPast, NestsTooDeep, PairClashes, own_key}
-use Rattle.toml_ordered.specs.Places.{ReadsUpTo, after_lines, next_expression}
-use Rattle.toml_ordered.specs.Tables.{Expression, TomlDocument}
-use Rattle.toml_parser.specs.{Lexical.skip_blank, Strings.Key, Strings.recursion_limit}
+use Rattle.toml_ordered.specs.{Nesting.Conflict, Nesting.NestsTooDeep, Places.after_lines, Places.next_expression}
 
 -- ---- expressions
 
 -- True if the key of the expression that begins here has too many parts, or two pairs clash in its value, or the value nests too deep.
 abbrev IsExpressionBlamed : (text : List ℕ) → Type 0
 IsExpressionBlamed text =
-    ((left : ℕ) × HasLongKey left (own_key text))
-    ⊎ ((name : Key) × (value : List ℕ) × (key_equals text ≡ Some (name, value)) × IsBlamed recursion_limit value)
+    ((left : ℕ) × HasLongKey left (own_key text)) ⊎ ((name : Key) × (value : List ℕ) × (key_equals text ≡ Some (name, value)) × IsBlamed recursion_limit value)
 
 blames_too_deep : (text : List ℕ) (left : ℕ) → ExpressionNestsPast text left → IsExpressionBlamed text
 blames_too_deep text left (inl long) = inl (left, long)
@@ -55,8 +49,7 @@ pub valued_neither : (text : List ℕ) (name : Key) (at : List ℕ) → key_equa
 valued_neither text name at named none = neither_expression text by
   where
     by : IsExpressionBlamed text → ⊥
-    by (inl (left, long)) =
-        named_short text (name, at) named left (subst (HasLongKey left) (own_key_pair text (no_header text (name, at) named)) long)
+    by (inl (left, long)) = named_short text (name, at) named left (subst (HasLongKey left) (own_key_pair text (no_header text (name, at) named)) long)
     by (inr (other, value, also, blamed)) =
         unblamed recursion_limit at none
         (subst (IsBlamed recursion_limit) (ap (λ (k : Key × List ℕ). k.1) (same_Some (other, value) (name, at) (sym also ∙ named))) blamed)

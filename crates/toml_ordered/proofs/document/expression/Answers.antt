@@ -1,7 +1,5 @@
-use Rattle.std.proofs.Common.{arith, inr}
+use Rattle.toml_ordered.proofs.Common.{arith, inr, key_view, recursion_limit, node_view, ClashesIn, ExpressionNestsPast, NestsPast, PairClashes}
 use Rattle.toml_ordered.proofs.{Conflicts.reason_in, Unblamed.valued_neither, Heads.pair_bad, Heads.pair_is, Heads.pair_keyless, Heads.pair_nameless}
-use Rattle.toml_parser.specs.{Reading.key_view, Strings.recursion_limit}
-use Rattle.toml_ordered.specs.{Data.node_view, Nesting.ClashesIn, Nesting.ExpressionNestsPast, Nesting.NestsPast, Nesting.PairClashes}
 use Rattle.toml_ordered.proofs.document.expression.Goals as goal
 
 pub returns-in-Err : goal.returns-in-Err
@@ -15,8 +13,7 @@ returns-in-Ok-value c =
     let at = c.in-Ok.read.1.now in
     let key = c.in-Ok.ensures.1 in
     let read = c.in-Ok-value.ensures.1 in (
-      pair_is c.args.s.now c.first.result c.first.ensures c.if-first-eq91.false (key_view c.in-Ok.read.0) at c.in-Ok.ensures.0
-          (node_view c.in-Ok-value.node) c.in-Ok-value.rest.now c.in-Ok-value.ensures.0,
+      pair_is _ _ c.first.ensures c.if-first-eq91.false _ at c.in-Ok.ensures.0 _ _ c.in-Ok-value.ensures.0,
       omega (arith, key, read),
     )
 

@@ -1,14 +1,9 @@
-use Rattle.std.proofs.Common.{◌≡◌, ◌==◌, suc, length, false, inl, inr, rules, arith, ap, subst, sym}
-use Rattle.std.proofs.Common.{◌∙◌}
-use Rattle.std.proofs.lemmas.Grind.{common_steps}
-use Rattle.toml_parser.specs.Lexical.{skip_blank}
+use Rattle.toml_ordered.proofs.Common.{◌≡◌, ◌==◌, suc, length, false, inl, inr, rules, arith, ap, subst, sym, ◌∙◌, common_steps, skip_blank, keys_firsts}
+use Rattle.toml_ordered.proofs.Common.{EndsWith, moved_to, document_view}
 use Rattle.toml_ordered.proofs.Conflicts.{expressions_conflict, knows_more, knows_none, reads_more, value_reason}
 use Rattle.toml_ordered.proofs.Endings.{ends_then, line_left, skip_blank_ends, unmarked_ends}
 use Rattle.toml_ordered.proofs.Stopping.{holds_within, placed, placed_within, settled_memory}
 use Rattle.toml_ordered.proofs.Turns.{document_ends, document_goes_on, document_refuses, document_stops}
-use Rattle.toml_ordered.specs.Firsts.{keys_firsts}
-use Rattle.toml_ordered.specs.Places.{EndsWith, moved_to}
-use Rattle.toml_ordered.specs.Reading.{document_view}
 use Rattle.toml_ordered.proofs.document.read_document.Goals as goal
 
 pub lines-init : goal.lines-init
@@ -34,10 +29,7 @@ pub returns-in-Err-clause-value : goal.returns-in-Err-clause-value
 returns-in-Err-clause-value c refused =
     let start_is = c.skip_blank-start.ensures.rest in
     let other : (length (skip_blank c.lines.rest.now) == 0) ≡ false = grind (arith, common_steps) in
-    document_stops c.args.text.now (document_view c.lines.read) c.lines.rest.now c.lines.invariant.2 other
-    (rw start_is at
-    (c.in-Err.ensures.0
-    (λ memory. refused (settled_memory c.skip_blank-start.result.now c.in-Err.fault c.settled.result c.settled.ensures memory))))
+    document_stops _ _ _ c.lines.invariant.2 other (rw start_is at (c.in-Err.ensures.0 (λ memory. refused (settled_memory _ _ _ c.settled.ensures memory))))
 
 pub returns-in-Err-clause-placed : goal.returns-in-Err-clause-placed
 returns-in-Err-clause-placed c =
@@ -54,8 +46,7 @@ pub returns-in-Err-define-clause-value : goal.returns-in-Err-define-clause-value
 returns-in-Err-define-clause-value c refused =
     let start_is = c.skip_blank-start.ensures.rest in
     let other : (length (skip_blank c.lines.rest.now) == 0) ≡ false = grind (arith, common_steps) in
-    document_refuses c.args.text.now (document_view c.lines.read) c.lines.rest.now c.lines.invariant.2 other _ _
-    (rw start_is at c.in-Ok.ensures.0)
+    document_refuses c.args.text.now (document_view c.lines.read) c.lines.rest.now c.lines.invariant.2 other _ _ (rw start_is at c.in-Ok.ensures.0)
     (c.in-Err-define.ensures.0 (λ memory. refused (c.here.ensures ∙ ap (moved_to (length c.skip_blank-start.result.now)) memory)))
 
 pub returns-in-Err-define-clause-placed : goal.returns-in-Err-define-clause-placed
@@ -78,8 +69,7 @@ lines-preserved c =
     let before = c.skip_blank-start.ensures.within in (
       search rules,
       omega (arith, c.lines.invariant.1, shorter, before),
-      document_goes_on c.args.text.now (document_view c.lines.read) c.lines.rest.now c.lines.invariant.2 other _ _ read _ c.in_default.ensures.0
-          (omega (arith, shorter, before)),
+      document_goes_on _ _ _ c.lines.invariant.2 other _ _ read _ c.in_default.ensures.0 (omega (arith, shorter, before)),
       knows_more c.args.text.now c.lines.rest.now c.in-Ok.found.1.now (document_view c.lines.read) _ (length c.skip_blank-start.result.now) _ _
           c.lines.invariant.3 (record {
             rest = c.lines.rest.now;
@@ -95,24 +85,18 @@ lines-preserved c =
 pub returns-in-Err-clause-holds : goal.returns-in-Err-clause-holds
 returns-in-Err-clause-holds c =
     let start_is = c.skip_blank-start.ensures.rest in
-    let start = c.skip_blank-start.result.now in
-    holds_within c.args.text.now start c.in-Err.fault c.settled.result c.settled.ensures
-    (subst (EndsWith c.args.text.now) (sym start_is)
-    (ends_then c.args.text.now c.lines.rest.now (skip_blank c.lines.rest.now) c.lines.invariant.5 (skip_blank_ends c.lines.rest.now)))
+    holds_within _ _ _ _ c.settled.ensures (subst (EndsWith c.args.text.now) (sym start_is) (ends_then _ _ _ c.lines.invariant.5 (skip_blank_ends _)))
 
 pub returns-in-Err-clause-reason : goal.returns-in-Err-clause-reason
 returns-in-Err-clause-reason c =
     let start_is = c.skip_blank-start.ensures.rest in
-    value_reason c.args.text.now c.lines.rest.now (document_view c.lines.read) c.in-Err.fault c.settled.result
-    c.lines.invariant.4 (rw start_is at c.in-Err.ensures.0)
-    (rw start_is at c.in-Err.ensures.1) (rw start_is at c.settled.ensures)
+    value_reason _ _ _ _ _ c.lines.invariant.4 (rw start_is at c.in-Err.ensures.0) (rw start_is at c.in-Err.ensures.1) (rw start_is at c.settled.ensures)
 
 pub returns-in-Err-define-clause-reason : goal.returns-in-Err-define-clause-reason
 returns-in-Err-define-clause-reason c =
     let start_is = c.skip_blank-start.ensures.rest in
     let read = rw start_is at c.in-Ok.ensures.0 in
-    expressions_conflict c.args.text.now c.lines.rest.now (document_view c.lines.read) _ (length c.skip_blank-start.result.now) _
-    c.in-Err-define.fault c.here.result c.lines.invariant.3
+    expressions_conflict _ _ _ _ _ _ _ _ c.lines.invariant.3
     (record {
       rest = c.lines.rest.now;
       after = c.in-Ok.found.1.now;

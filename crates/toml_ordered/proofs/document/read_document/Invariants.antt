@@ -1,11 +1,5 @@
-use Rattle.std.proofs.Common.{◌≤◌, length}
-use denote.Shadow.{shadow}
-use denote.Text.{Utf8}
-use Rattle.toml_ordered.proofs.Conflicts.{KnowsFirsts}
-use Rattle.toml_ordered.proofs.Turns.{GoesOn}
-use Rattle.toml_ordered.specs.Firsts.{table_firsts}
-use Rattle.toml_ordered.specs.Places.{EndsWith, ReadsUpTo}
-use Rattle.toml_ordered.specs.Reading.{document_view}
+use Rattle.toml_ordered.proofs.Common.{◌≤◌, length, shadow, Utf8, table_firsts, EndsWith, ReadsUpTo, document_view}
+use Rattle.toml_ordered.proofs.{Conflicts.KnowsFirsts, Turns.GoesOn}
 use Rattle.toml_ordered.proofs.document.read_document.Given as goal
 
 -- the text is read on from the document so far

@@ -1,5 +1,4 @@
-use Rattle.std.proofs.Common.{◌≡◌, true, rules, arith, sym, ◌∙◌}
-use Rattle.toml_parser.specs.Lexical.{first, is_bare}
+use Rattle.toml_ordered.proofs.Common.{◌≡◌, true, rules, arith, sym, ◌∙◌, first, is_bare}
 use Rattle.toml_ordered.proofs.LongKeys.{bare_turn}
 use Rattle.toml_ordered.proofs.long_keys.past_bare.Goals as goal
 

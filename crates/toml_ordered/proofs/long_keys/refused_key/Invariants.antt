@@ -1,6 +1,4 @@
-use Rattle.std.proofs.Common.{◌+◌, ◌≤◌, length}
-use denote.Text.{Utf8}
-use denote.Shadow.{shadow}
+use Rattle.toml_ordered.proofs.Common.{◌+◌, ◌≤◌, length, Utf8, shadow}
 use Rattle.toml_ordered.proofs.LongKeys.{UpToPart}
 use Rattle.toml_ordered.proofs.long_keys.refused_key.Given as goal
 

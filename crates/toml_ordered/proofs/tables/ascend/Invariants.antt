@@ -1,5 +1,4 @@
-use Rattle.std.proofs.Common.{length, reverse}
-use Rattle.toml_ordered.specs.Passing.{AreFilled}
+use Rattle.toml_ordered.proofs.Common.{length, reverse, AreFilled}
 use Rattle.toml_ordered.specs.declared.tree.Table.{Table as CodeTable}
 use Rattle.toml_ordered.proofs.tables.ascend.Given as goal
 

@@ -1,7 +1,5 @@
-use Rattle.std.proofs.Common.{ap, ◌∙◌}
-use Rattle.toml_ordered.proofs.Trees.{items_view-push, node_view-Table}
-use Rattle.toml_ordered.specs.{Data.table, Data.push_item, Data.items_view, Keys.table_view, declared.tree.Origin.TheVariants.Closed}
-use Rattle.toml_ordered.specs.declared.tree.Table.{Table as CodeTable}
+use Rattle.toml_ordered.proofs.Common.{ap, ◌∙◌, table, push_item, items_view, table_view, Closed}
+use Rattle.toml_ordered.{proofs.Trees.items_view-push, proofs.Trees.node_view-Table, specs.declared.tree.Table.Table as CodeTable}
 use Rattle.toml_ordered.proofs.tables.begin_table.Goals as goal
 
 pub returns-clause-done : goal.returns-clause-done

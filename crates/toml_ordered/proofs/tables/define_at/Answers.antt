@@ -1,7 +1,5 @@
-use Rattle.std.proofs.Common.{string_bytes, ◌∙◌}
-use Rattle.toml_ordered.proofs.FirstKeys.{refused_reworded}
-use Rattle.toml_ordered.proofs.Turns.{along_end}
-use Rattle.toml_ordered.specs.{Reading.definition_view, Tables.Edit, Tables.at_key}
+use Rattle.toml_ordered.proofs.Common.{string_bytes, ◌∙◌, definition_view, Edit}
+use Rattle.toml_ordered.{proofs.FirstKeys.refused_reworded, proofs.Turns.along_end, specs.Tables.at_key}
 use Rattle.toml_ordered.proofs.tables.define_at.Goals as goal
 
 pub returns-in-Err : goal.returns-in-Err

@@ -1,8 +1,5 @@
-use Rattle.std.proofs.Common.{◌≡◌, ◌-◌, false, length, take, sym, ◌∙◌}
-use Rattle.toml_parser.specs.Strings.{starts_string}
+use Rattle.toml_ordered.proofs.Common.{◌≡◌, ◌-◌, false, length, take, sym, ◌∙◌, starts_string, node_view, scalar_node}
 use Rattle.toml_ordered.proofs.Turns.{atom_scalar}
-use Rattle.toml_ordered.specs.Data.{node_view}
-use Rattle.toml_ordered.specs.Grammar.{scalar_node}
 use Rattle.toml_ordered.proofs.values.atom.Goals as goal
 
 pub returns-in-Ok-scalar_node : goal.returns-in-Ok-scalar_node

@@ -1,10 +1,7 @@
-use Rattle.std.proofs.Common.{◌≡◌, suc, ◌==◌, ◌-◌, true, false, ℕ, sym, subst, ap, ◌∙◌, arith}
-use Rattle.std.specs.Prelude.{◌⊎◌}
-use Rattle.toml_parser.specs.Lexical.{first}
-use Rattle.toml_ordered.proofs.{Around.array_begins, Around.braces_begin, Around.pair_begins, Blaming.atom_unblamed, Blaming.neither, Conflicts.other_than}
-use Rattle.toml_ordered.proofs.{Depths.nests_here, Heads.val_opens, Turns.val_atom}
-use Rattle.toml_ordered.specs.{Data.items_view, Inside.IsFoundHere, Nesting.ClashesIn}
-use Rattle.std.proofs.lemmas.{Bool.ne_eqb, Grind.common_steps}
+use Rattle.toml_ordered.proofs.Common.{◌≡◌, suc, ◌==◌, ◌-◌, true, false, ℕ, sym, subst, ap, ◌∙◌, arith, ◌⊎◌, first, items_view, IsFoundHere, ClashesIn, ne_eqb}
+use Rattle.toml_ordered.proofs.Common.{common_steps}
+use Rattle.toml_ordered.proofs.{Blaming.atom_unblamed, Blaming.neither, Conflicts.other_than, Depths.nests_here, Heads.val_opens, Turns.val_atom}
+use Rattle.toml_ordered.proofs.Around.{array_begins, braces_begin, pair_begins}
 use Rattle.toml_ordered.proofs.values.begin.Goals as goal
 
 pub returns-in-Ok : goal.returns-in-Ok
@@ -54,6 +51,5 @@ returns-else-byte-eq91 c =
     let a : (first s == 91) ≡ false = rw (← c.first-byte.ensures) (ne_eqb c.first-byte.result 91 c.if-byte-eq91.false) in
     let opening : first s ≡ 123 = grind (arith, common_steps) in
     let b : (first s == 123) ≡ true = rw opening in
-    pair_begins c.args.depth less s c.skip-else-byte-eq91.result.now c.new-else-byte-eq91.result c.next_pair.result is
-    (braces_begin less s _ _ a b opening c.skip-else-byte-eq91.ensures.rest c.skip-else-byte-eq91.ensures.shorter c.new-else-byte-eq91.ensures.view
-    c.new-else-byte-eq91.ensures.keys) c.skip-else-byte-eq91.ensures.shorter c.next_pair.ensures
+    pair_begins _ _ s _ _ _ is (braces_begin _ s _ _ a b opening c.skip-else-byte-eq91.ensures.rest c.skip-else-byte-eq91.ensures.shorter
+    c.new-else-byte-eq91.ensures.view c.new-else-byte-eq91.ensures.keys) c.skip-else-byte-eq91.ensures.shorter c.next_pair.ensures

@@ -1,11 +1,6 @@
-use Rattle.std.proofs.Common.{ℕ, suc, List, subst, ◌∙◌, arith}
+use Rattle.toml_ordered.proofs.Common.{ℕ, suc, List, subst, ◌∙◌, arith, ClashesIn, KeyTells, NestsPast, Closed}
+use Rattle.toml_ordered.proofs.{Conflicts.reworded, Depths.ends_within, Heads.closes, Heads.closes_not, Trees.node_view-Table}
 use Rattle.toml_ordered.proofs.Around.{braces_end, braces_keyless, braces_nameless, inside_ends}
-use Rattle.toml_ordered.proofs.Conflicts.{reworded}
-use Rattle.toml_ordered.proofs.Depths.{ends_within}
-use Rattle.toml_ordered.proofs.Heads.{closes, closes_not}
-use Rattle.toml_ordered.proofs.Trees.{node_view-Table}
-use Rattle.toml_ordered.specs.Nesting.{ClashesIn, KeyTells, NestsPast}
-use Rattle.toml_ordered.specs.declared.tree.Origin.TheVariants.{Closed}
 use Rattle.toml_ordered.proofs.values.next_pair.Goals as goal
 
 pub returns-then-first-eq125 : goal.returns-then-first-eq125
@@ -17,8 +12,7 @@ returns-then-first-eq125 c =
     let closing = closes 125 s c.skip_blank-start.result.now blank c.first.result c.first.ensures c.if-first-eq125.true in (
       (λ depth text known.
           let within = ends_within text s (inside_ends text s known.ends) in (
-            braces_end depth text c.args.table s known closing
-                ∙ rw (c.skip.ensures.rest, blank, node_view-Table Closed c.args.table),
+            braces_end depth text c.args.table s known closing ∙ rw (c.skip.ensures.rest, blank, node_view-Table Closed c.args.table),
             omega arith,
           )),
       omega (arith, before, shorter),

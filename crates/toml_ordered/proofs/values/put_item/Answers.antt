@@ -1,8 +1,6 @@
-use Rattle.std.proofs.Common.{arith}
-use Rattle.toml_parser.specs.Lexical.{skip_blank}
-use Rattle.toml_ordered.specs.Data.{node_view}
-use Rattle.toml_ordered.proofs.{Around.array_more, Around.array_neither, Around.array_unended, Blaming.read_unblamed, Conflicts.other_than}
-use Rattle.toml_ordered.proofs.{Trees.items_view-push}
+use Rattle.toml_ordered.proofs.Common.{arith, skip_blank, node_view}
+use Rattle.toml_ordered.proofs.{Blaming.read_unblamed, Conflicts.other_than, Trees.items_view-push}
+use Rattle.toml_ordered.proofs.Around.{array_more, array_neither, array_unended}
 use Rattle.toml_ordered.proofs.values.put_item.Goals as goal
 
 pub returns-in-Ok : goal.returns-in-Ok
@@ -20,7 +18,6 @@ returns-in-Ok c =
 pub returns : goal.returns
 returns c depth text at (rest, known, other, is) read = (
   λ real. array_unended depth text _ rest known other (node_view c.args.item) c.args.s.now (rw is at read.0) (c.in-Err-past_element.ensures.0 real),
-  other_than _ _ c.in-Err-past_element.fault
-      (λ real. array_neither depth text _ rest known (rw (rw is at read.0, c.in-Err-past_element.ensures.0 real))
+  other_than _ _ c.in-Err-past_element.fault (λ real. array_neither depth text _ rest known (rw (rw is at read.0, c.in-Err-past_element.ensures.0 real))
       (read_unblamed depth (skip_blank rest) (node_view c.args.item, c.args.s.now) (rw is at read.0))) c.in-Err-past_element.ensures.1,
 )

@@ -1,17 +1,14 @@
-use Rattle.std.proofs.Common.{ℕ, suc, ◌-◌, ◌≤◌, List, rules, ◌∙◌}
+use Rattle.toml_ordered.proofs.Common.{ℕ, suc, ◌-◌, ◌≤◌, List, rules, ◌∙◌, ClashesIn, NestsPast}
+use Rattle.toml_ordered.proofs.{Conflicts.reworded, values.value.Goals.After-len, values.value.Goals.After-go_on}
 use Rattle.toml_ordered.proofs.Around.{Stands, stands_closed, stands_opened, stands_refused}
-use Rattle.toml_ordered.proofs.Conflicts.{reworded}
-use Rattle.toml_ordered.specs.Nesting.{ClashesIn, NestsPast}
 use Rattle.toml_ordered.specs.Inside.{IsNextInside, IsValueRead}
 use Rattle.toml_ordered.proofs.values.value.Goals as goal
-use Rattle.toml_ordered.proofs.values.value.Goals.{After-len, After-go_on}
 
 opened : (c : After-len)
     → (c.len.result ≤ c.args.depth) × Stands c.push.new.self.items c.args.depth c.args.s.now (c.args.depth - c.len.result) c.values.rest.now
 opened c =
     let (utf8, inner, at, stands, found) = c.values.invariant in
-    stands_opened c.values.open.items c.push.new.self.items c.args.depth c.args.s.now inner at c.values.found c.in-Opened.innermost c.values.rest.now
-    stands found c.in-Opened.is c.in_default.ensures.items c.len.result (c.len.ensures ∙ c.push.new.self.ok.0)
+    stands_opened _ _ _ _ _ at _ _ _ stands found c.in-Opened.is c.in_default.ensures.items _ (c.len.ensures ∙ c.push.new.self.ok.0)
 
 pub overflow_sub-depth : goal.overflow_sub-depth
 overflow_sub-depth c = (opened c).0
@@ -27,18 +24,15 @@ returns-in-Err-begin c =
     let pushed = c.push.new.self.items in
     let deep = c.args.depth - c.len.result in
     let at = c.values.rest.now in
-    stands_refused pushed c.args.depth c.args.s.now deep at c.inside.result stands
-    (reworded _ (λ key one two. ClashesIn deep key one two at) (λ left. NestsPast deep left at) c.in-Err-begin.fault c.inside.result c.inside.ensures
-    c.in-Err-begin.ensures)
+    stands_refused pushed c.args.depth c.args.s.now deep at c.inside.result stands (reworded _ (λ key one two. ClashesIn deep key one two at)
+    (λ left. NestsPast deep left at) c.in-Err-begin.fault c.inside.result c.inside.ensures c.in-Err-begin.ensures)
 
 closed : (c : After-go_on)
     → (inner : ℕ) × (at : List ℕ) × (from : List ℕ) × Stands c.pop.new.self.items c.args.depth c.args.s.now (suc inner) from
     × IsNextInside inner from c.in-Some.outer at × IsValueRead inner at c.in-Value.node c.values.rest.now
 closed c =
     let (utf8, inner, at, stands, found) = c.values.invariant in
-    let (from, fewer, inside, read) =
-    stands_closed c.values.open.items c.pop.new.self.items c.args.depth c.args.s.now inner at c.values.found c.in-Value.node c.values.rest.now
-    c.in-Some.outer stands found c.in-Value.is c.in-Some.ensures.items in
+    let (from, fewer, inside, read) = stands_closed _ _ _ _ _ at _ _ _ _ stands found c.in-Value.is c.in-Some.ensures.items in
     (inner, at, from, fewer, inside, read)
 
 pub values-preserved : goal.values-preserved
@@ -49,5 +43,4 @@ values-preserved c =
 pub returns-in-Err-go_on : goal.returns-in-Err-go_on
 returns-in-Err-go_on c =
     let (inner, at, from, stands, inside, read) = closed (goal.at.returns-in-Err-go_on c).After-go_on in
-    stands_refused c.pop.new.self.items c.args.depth c.args.s.now (suc inner) from c.in-Err-go_on.fault stands
-    (c.in-Err-go_on.ensures inner from at inside read)
+    stands_refused _ _ _ _ _ _ stands (c.in-Err-go_on.ensures inner from at inside read)

@@ -1,6 +1,5 @@
-use Rattle.toml_parser.specs.Reading.{key_view}
+use Rattle.toml_ordered.proofs.Common.{key_view, document_view}
 use Rattle.toml_ordered.proofs.Defining.{other_defines, value_defines}
-use Rattle.toml_ordered.specs.Reading.{document_view}
 use Rattle.toml_ordered.proofs.document.Document.define.Goals as goal
 
 pub returns-in-Value : goal.returns-in-Value

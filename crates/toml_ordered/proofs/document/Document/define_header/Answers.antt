@@ -1,8 +1,6 @@
-use Rattle.std.proofs.Common.{◌≡◌, ◌∷◌, [], ◌++◌, ℕ, List, Ok, Err, Some, ap, sym, ◌∙◌, string_bytes}
+use Rattle.toml_ordered.proofs.Common.{◌≡◌, ◌∷◌, [], ◌++◌, ℕ, List, Ok, Err, Some, ap, sym, ◌∙◌, string_bytes, key_view, path_view, table_view, definition_view}
 use Rattle.std.proofs.lemmas.List.{map-append}
-use Rattle.toml_parser.specs.Reading.{key_view, path_view}
 use Rattle.toml_ordered.proofs.Defining.{along_route, header_defines}
-use Rattle.toml_ordered.specs.{Keys.table_view, Reading.definition_view}
 use Rattle.toml_ordered.proofs.document.Document.define_header.Goals as goal
 
 pub returns-in-Err : goal.returns-in-Err

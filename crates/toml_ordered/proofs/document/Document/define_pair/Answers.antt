@@ -1,7 +1,5 @@
-use Rattle.std.proofs.Common.{ap, string_bytes}
-use Rattle.toml_parser.specs.Reading.{key_view, path_view}
+use Rattle.toml_ordered.proofs.Common.{ap, string_bytes, key_view, path_view, node_view, sealed, key_value}
 use Rattle.toml_ordered.proofs.Defining.{along_route, pair_defines}
-use Rattle.toml_ordered.specs.{Data.node_view, Keys.sealed, Tables.key_value}
 use Rattle.toml_ordered.proofs.document.Document.define_pair.Goals as goal
 
 pub returns : goal.returns

@@ -1,8 +1,5 @@
-use Rattle.std.proofs.Common.{◌<◌, length, refl, sym, ap, ◌∙◌, set, arith}
-use Rattle.std.proofs.lemmas.Grind.{common_steps}
-use Rattle.toml_ordered.proofs.Passing.{with_value_at-here}
-use Rattle.toml_ordered.specs.Passing.{held}
-use Rattle.toml_ordered.specs.declared.tree.Node.{Node as CodeNode}
+use Rattle.toml_ordered.proofs.Common.{◌<◌, length, refl, sym, ap, ◌∙◌, set, arith, common_steps, held}
+use Rattle.toml_ordered.{proofs.Passing.with_value_at-here, specs.declared.tree.Node.Node as CodeNode}
 use Rattle.toml_ordered.proofs.passed.Passed.filled_with.Goals as goal
 
 pub returns : goal.returns

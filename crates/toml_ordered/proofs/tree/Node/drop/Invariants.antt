@@ -1,6 +1,5 @@
-use Rattle.std.proofs.Common.{◌+◌}
+use Rattle.toml_ordered.proofs.Common.{◌+◌, node_count}
 use Rattle.toml_ordered.proofs.Counts.{turns}
-use Rattle.toml_ordered.specs.Counts.{node_count}
 use Rattle.toml_ordered.proofs.tree.Node.drop.Given as goal
 
 abbrev pub decreases-nodes : goal.decreases-nodes

@@ -1,8 +1,7 @@
-use Rattle.std.proofs.Common.{◌≡◌, sym, ap, ◌∙◌, arith}
+use Rattle.toml_ordered.proofs.Common.{◌≡◌, sym, ap, ◌∙◌, arith, node_count}
+use Rattle.toml_ordered.{proofs.tree.Node.end.Goals.In-Tables, specs.Counts.tables_count}
 use Rattle.toml_ordered.proofs.Counts.{none_in, node_counts, node_count-Array, node_count-Table, node_count-Tables}
-use Rattle.toml_ordered.specs.Counts.{node_count, tables_count}
 use Rattle.toml_ordered.proofs.tree.Node.end.Goals as goal
-use Rattle.toml_ordered.proofs.tree.Node.end.Goals.{In-Tables}
 
 pub destroy_empty-requires : goal.destroy_empty-requires
 destroy_empty-requires c =

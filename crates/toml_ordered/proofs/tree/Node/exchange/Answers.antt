@@ -1,14 +1,6 @@
-use Rattle.std.proofs.Common.{ap, ◌∙◌, rules}
+use Rattle.toml_ordered.proofs.Common.{ap, ◌∙◌, rules, member_count, node_count}
 use Rattle.toml_ordered.proofs.Counts.{entered, node_count-Array, node_count-Table, node_count-Tables}
-use Rattle.toml_ordered.specs.Counts.{member_count, node_count}
 use Rattle.toml_ordered.proofs.tree.Node.exchange.Goals as goal
-
-pub returns-in-Array : goal.returns-in-Array
-returns-in-Array c =
-    let it = c.in-Array in
-    let new = c.exchange.new.items in
-    entered node_count node_count it.items.items new.items _ _ c.args.other _ (ap node_count it.is ∙ node_count-Array it.items)
-    (search (rules, node_count-Array)) (search (rules, c.exchange.ensures))
 
 pub returns-in-Table : goal.returns-in-Table
 returns-in-Table c =

@@ -1,6 +1,5 @@
-use Rattle.std.proofs.Common.{ap, ◌∙◌, rules}
+use Rattle.toml_ordered.proofs.Common.{ap, ◌∙◌, rules, member_count, node_count}
 use Rattle.toml_ordered.proofs.Counts.{left, node_count-Table, node_count-Tables}
-use Rattle.toml_ordered.specs.Counts.{member_count, node_count}
 use Rattle.toml_ordered.proofs.tree.Node.pop.Goals as goal
 
 pub returns-in-Table : goal.returns-in-Table

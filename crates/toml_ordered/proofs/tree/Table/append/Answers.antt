@@ -1,7 +1,5 @@
-use Rattle.std.proofs.Common.{◌≡◌, ℕ, List, Some, length, string_bytes, subst, sym, ap, ◌∙◌, arith, rules}
-use Rattle.std.proofs.lemmas.Grind.{common_steps}
-use Rattle.toml_ordered.proofs.{KeyPlaces.appended, Trees.Entry}
-use Rattle.toml_ordered.specs.{Data.TomlNodes, Keys.IsNoted, Keys.keys_view}
+use Rattle.toml_ordered.proofs.Common.{◌≡◌, ℕ, List, Some, length, string_bytes, subst, sym, ap, ◌∙◌, arith, rules, common_steps, TomlNodes, keys_view}
+use Rattle.toml_ordered.{proofs.KeyPlaces.appended, proofs.Trees.Entry, specs.Keys.IsNoted}
 use Rattle.toml_ordered.proofs.tree.Table.append.Goals as goal
 
 pub returns : goal.returns

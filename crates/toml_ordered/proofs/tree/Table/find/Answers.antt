@@ -1,6 +1,4 @@
-use Rattle.std.proofs.Common.{◌≡◌, ◌≤◌, ◌<◌, length, get_or, true, false, Some, None, string_bytes, bytes_eq, arith}
-use Rattle.std.proofs.lemmas.Grind.{common_steps}
-use Rattle.std.specs.BTreeMap.{get_by_text}
+use Rattle.toml_ordered.proofs.Common.{◌≡◌, ◌≤◌, ◌<◌, length, get_or, true, false, Some, None, string_bytes, bytes_eq, arith, common_steps, get_by_text}
 use Rattle.toml_ordered.proofs.KeyPlaces.{absent, absent_other, indexed_here, key_here, not_other, not_past}
 use Rattle.toml_ordered.proofs.tree.Table.find.Goals as goal
 

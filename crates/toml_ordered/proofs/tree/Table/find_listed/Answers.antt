@@ -1,5 +1,4 @@
-use Rattle.std.proofs.Common.{◌≡◌, ◌≤◌, ◌<◌, length, get_or, true, false, string_bytes, bytes_eq, arith}
-use Rattle.std.proofs.lemmas.Grind.{common_steps}
+use Rattle.toml_ordered.proofs.Common.{◌≡◌, ◌≤◌, ◌<◌, length, get_or, true, false, string_bytes, bytes_eq, arith, common_steps}
 use Rattle.toml_ordered.proofs.KeyPlaces.{key_here, listed_here, seen_all, seen_more}
 use Rattle.toml_ordered.proofs.tree.Table.find_listed.Goals as goal
 

@@ -1,5 +1,4 @@
-use Rattle.std.proofs.Common.{ℕ, ◌-◌, ◌<◌}
-use Rattle.toml_ordered.specs.Keys.{HasKey}
+use Rattle.toml_ordered.proofs.Common.{ℕ, ◌-◌, ◌<◌, HasKey}
 use Rattle.toml_ordered.proofs.tree.Table.find_listed.Given as goal
 
 -- none of the keys before is the key
