@@ -2,18 +2,15 @@
 use Rattle.yaml_toml.proofs.Common.{suc, ℕ, ◌+◌, ◌≤◌, Bool, true, Option, None, Some, List, [], ◌++◌, ◌∷◌, refl, ◌≡◌, append-nil, append_assoc, subst, sym}
 use Rattle.yaml_toml.proofs.Common.{false, arith, chars, Event, scalar, sequence_start, sequence_end, mapping_start, mapping_end, most_open, is_sound}
 use Rattle.yaml_toml.proofs.Common.{IsAccepted, is_json_integer, yaml_number, bool_tag, bool_text, word_content, text_content, collection_in, number_in}
-use Rattle.yaml_toml.proofs.Common.{closing}
-use Rattle.std.specs.Fmt.{signed_decimal}
+use Rattle.yaml_toml.proofs.Common.{closing, signed_decimal, document_nesting, items_nesting, keys_nesting, toml_nesting, date_content, decimal_content}
+use Rattle.yaml_toml.proofs.Common.{infinite, integer_content, toml_items_events, json_word, keys_events, moment_content, special_content, toml_events}
+use Rattle.yaml_toml.proofs.Common.{special_text, Moment, ClockTime, moment_of, datetime_text}
 use Rattle.yaml_emitter.proofs.AcceptedLists.{sound, both_sound, Stays, few_open}
+use Rattle.yaml_writer.{proofs.WhyFailed.NeverPasses, specs.declared.floats.SpecialFloat.TheVariants.NotANumber}
 use Rattle.yaml_writer.proofs.Accepting.{bool_sound, closing_stays, first_sound, float_sound, int_sound, mapping_sound, number_sound, opening_stays}
 use Rattle.yaml_writer.proofs.Accepting.{sequence_sound, stream_of_sound, text_sound}
-use Rattle.yaml_writer.proofs.WhyFailed.{NeverPasses}
-use Rattle.yaml_toml.specs.Depth.{document_nesting, items_nesting, keys_nesting, toml_nesting}
-use Rattle.yaml_toml.specs.Events.{date_content, decimal_content, infinite, integer_content, toml_items_events, json_word, keys_events, moment_content}
-use Rattle.yaml_toml.specs.Events.{special_content, toml_events}
 use Rattle.yaml_toml.proofs.TomlTrees.{all_events, root_of, stream_flat, toml_stream}
-use Rattle.yaml_writer.specs.{Floats.special_text, Times.Moment, Times.ClockTime, TomlDates.moment_of, declared.floats.SpecialFloat.TheVariants.NotANumber}
-use Rattle.toml_datetime.specs.{Text.datetime_text, declared.datetime.Datetime.Datetime}
+use Rattle.toml_datetime.specs.declared.datetime.Datetime.{Datetime}
 use Rattle.toml_ordered.specs.Data as toml
 
 -- ---- each event is in order
@@ -47,17 +44,14 @@ module _ (canonical in_flow : Bool) where
         first_sound canonical (scalar (date_content canonical date (moment_of date))) [] (date_sound date canonical (moment_of date)) refl
     value_sound (toml.array items) =
         first_sound canonical (sequence_start (collection_in in_flow)) (toml_items_events canonical in_flow items ++ sequence_end ∷ [])
-        (sequence_sound canonical in_flow)
-        (both_sound canonical (toml_items_events canonical in_flow items) (sequence_end ∷ []) (items_sound items) refl)
+        (sequence_sound canonical in_flow) (both_sound canonical (toml_items_events canonical in_flow items) (sequence_end ∷ []) (items_sound items) refl)
     value_sound (toml.table origin keys) =
-        first_sound canonical (mapping_start (collection_in in_flow)) (keys_events canonical in_flow keys ++ mapping_end ∷ [])
-        (mapping_sound canonical in_flow)
+        first_sound canonical (mapping_start (collection_in in_flow)) (keys_events canonical in_flow keys ++ mapping_end ∷ []) (mapping_sound canonical in_flow)
         (both_sound canonical (keys_events canonical in_flow keys) (mapping_end ∷ []) (keys_sound keys) refl)
     value_sound (toml.tables done last) =
         let ends = mapping_end ∷ sequence_end ∷ [] in
         let behind = mapping_start (collection_in in_flow) ∷ (keys_events canonical in_flow last ++ ends) in
-        first_sound canonical (sequence_start (collection_in in_flow)) (toml_items_events canonical in_flow done ++ behind)
-        (sequence_sound canonical in_flow)
+        first_sound canonical (sequence_start (collection_in in_flow)) (toml_items_events canonical in_flow done ++ behind) (sequence_sound canonical in_flow)
         (both_sound canonical (toml_items_events canonical in_flow done) behind (items_sound done)
         (first_sound canonical (mapping_start (collection_in in_flow)) (keys_events canonical in_flow last ++ ends) (mapping_sound canonical in_flow)
         (both_sound canonical (keys_events canonical in_flow last) ends (keys_sound last) refl)))
@@ -139,8 +133,7 @@ module _ (canonical in_flow : Bool) where
     pub document_shallow : (root : toml.TomlNodes) → document_nesting root ≤ most → NeverPasses most (toml_events canonical in_flow (root_of root))
     document_shallow root fits = λ prefix rest is.
         let events = toml_events canonical in_flow (root_of root) in
-        few_open most events prefix rest
-        (subst (Stays most 0) (append-nil events) (value_stays (root_of root) 0 [] (omega (arith, fits)) (omega arith))) is
+        few_open most events prefix rest (subst (Stays most 0) (append-nil events) (value_stays (root_of root) 0 [] (omega (arith, fits)) (omega arith))) is
 
   -- ---- all
 

@@ -1,20 +1,14 @@
 -- The answers of a writer's calls to the walk.
 use Rattle.yaml_toml.proofs.Common.{◌≡◌, ◌∷◌, ◌++◌, [], List, Bool, Option, None, Some, Result, Ok, Err, OnOk, inl, inr, refl, subst, sym, ◌∙◌, ap, ap₂}
 use Rattle.yaml_toml.proofs.Common.{append-nil, append_assoc, Event, WriterState, WroteEvent, IsBare, end_event, EndsInnermost, Text, Scalar, scalar, plain}
-use Rattle.yaml_toml.proofs.Common.{is_none, is_some, ◌||◌}
-use Rattle.std.specs.Str.{chars}
-use Rattle.toml_ordered.specs.Data.{TomlNode}
-use Rattle.yaml_writer.proofs.AnswerLemmas.{answers_event, answers_memory}
-use Rattle.yaml_writer.proofs.GivenLemmas.{none_more, on_ok, same_last, text_is, wrote_event}
-use Rattle.yaml_writer.proofs.OpenLevels.{gave_end, gave_events_then}
-use Rattle.yaml_writer.proofs.Taken.{gives_ok}
-use Rattle.yaml_writer.specs.Times.{Moment, timestamp_text}
-use Rattle.yaml_writer.specs.TomlDates.{moment_event}
+use Rattle.yaml_toml.proofs.Common.{is_none, is_some, ◌||◌, chars, TomlNode, on_ok, gave_events_then, Moment, yaml_error_t, Memory, CollectionKind}
+use Rattle.yaml_toml.proofs.Common.{toml_nesting, date_content, moment_content, toml_events, HasNumbers, Moved, datetime_text}
+use Rattle.yaml_writer.proofs.{AnswerLemmas.answers_event, AnswerLemmas.answers_memory, OpenLevels.gave_end, Taken.gives_ok}
+use Rattle.yaml_writer.proofs.GivenLemmas.{none_more, same_last, text_is, wrote_event}
+use Rattle.yaml_writer.specs.{Times.timestamp_text, TomlDates.moment_event}
 use Rattle.yaml_writer.specs.Writing.{Gives, tag_or_default, timestamp_event, timestamp_tag}
-use Rattle.yaml_base.specs.declared.{errors.yaml_error_t.yaml_error_t, errors.yaml_error_t.TheVariants.Memory, kinds.CollectionKind.CollectionKind}
-use Rattle.yaml_toml.specs.{Depth.toml_nesting, Events.date_content, Events.moment_content, Events.toml_events, Walk.GivesScalar, Walk.HasNumbers}
-use Rattle.yaml_toml.specs.{Walk.node_size, Walk.Moved, WalkSteps.WroteScalar}
-use Rattle.toml_datetime.specs.{Text.datetime_text, declared.datetime.Datetime.Datetime}
+use Rattle.yaml_toml.specs.{Walk.GivesScalar, Walk.node_size, WalkSteps.WroteScalar}
+use Rattle.toml_datetime.specs.declared.datetime.Datetime.{Datetime}
 
 -- ---- moves
 

@@ -19,3 +19,20 @@ pub use Rattle.yaml_writer.specs.Means.{Schema}
 pub use Rattle.yaml_writer.specs.NumberParts.{number_in}
 pub use Rattle.yaml_writer.specs.WasGiven.{IsBare, WasGiven, WroteEvent, start_event}
 pub use Rattle.yaml_writer.specs.Writing.{EndsInnermost, closing, mapping_event, number_event, number_tag, opening, sequence_event, text_event, with_collection}
+pub use Rattle.std.specs.{Prelude.max, Prelude.nat_lt, Fmt.signed_decimal, Str.Parse.digits_value}
+pub use Rattle.std.proofs.{Common.◌^◌, Common.string_bytes, Common.pos, Common.ℤ, lemmas.Option.none-some, lemmas.Grind.common_steps}
+pub use Rattle.toml_datetime.specs.Text.{datetime_text}
+pub use Rattle.toml_ordered.specs.{Grammar.ordered_document, Keys.table_view, declared.fault.Fault.Fault, declared.tree.Origin.TheVariants.Header}
+pub use Rattle.toml_ordered.specs.Data.{TomlNode, TomlNodes, items_view, node, node_view, table}
+pub use Rattle.yaml_base.specs.{declared.errors.yaml_error_t.TheVariants.Memory, declared.errors.yaml_error_t.yaml_error_t}
+pub use Rattle.yaml_base.specs.declared.kinds.CollectionKind.{CollectionKind}
+pub use Rattle.yaml_base.specs.declared.kinds.CollectionKind.TheVariants.{Mapping, Sequence}
+pub use Rattle.yaml_toml.specs.{Depth.document_nesting, Depth.items_nesting, Depth.keys_nesting, Depth.toml_nesting, Means.by_11, Means.by_core}
+pub use Rattle.yaml_toml.specs.{OpenCounts.count_after, declared.error.TomlError.TomlError, declared.walk.Rest.Rest, declared.walk.Stop.Stop}
+pub use Rattle.yaml_toml.specs.Events.{date_content, decimal_content, infinite, integer_content, json_word, keys_events, moment_content, special_content}
+pub use Rattle.yaml_toml.specs.Events.{toml_events, toml_items_events}
+pub use Rattle.yaml_toml.specs.Walk.{GaveSome, HasNumbers, IsStopOf, ItemsHaveNumbers, KeysHaveNumbers, Moved, PendingHaveNumbers, RestHasNumbers, fault_error}
+pub use Rattle.yaml_toml.specs.Walk.{kinds_of, pending, pending_size, rest_events, rest_kind, rest_size, toml_writers_error}
+pub use Rattle.yaml_toml.specs.WalkSteps.{TomlStep, collection_due, rest_due, value_due, walk_at}
+pub use Rattle.yaml_writer.proofs.{AnswerLemmas.kept_then, GivenLemmas.on_ok, OpenLevels.gave_events_then}
+pub use Rattle.yaml_writer.specs.{Floats.special_text, Times.ClockTime, Times.Moment, TomlDates.moment_of, declared.settings.ValueSettings.ValueSettings}

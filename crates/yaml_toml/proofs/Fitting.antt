@@ -1,13 +1,11 @@
 -- The rests fit the allowed depth, as collections are begun and go on.
 use Rattle.yaml_toml.proofs.Common.{◌≡◌, ℕ, suc, ◌+◌, ◌-◌, ◌<◌, ◌≤◌, arith, ◌∷◌, ◌++◌, [], List, Some, Result, Ok, Err, IfSome, refl, ap, subst, sym, ◌∙◌}
-use Rattle.yaml_toml.proofs.Common.{length, length-append, cases_lt, inl, inr}
-use Rattle.std.specs.Prelude.{◌↔◌, max}
-use Rattle.std.proofs.lemmas.Option.{none-some}
-use Rattle.yaml_toml.specs.{Depth.ExplainsDepth, Depth.document_nesting, Fitting.FitsAfter, Fitting.NestsAfter, Fitting.NodeFits, Fitting.PendingFits}
-use Rattle.yaml_toml.specs.{Fitting.RestFits, Fitting.rest_nesting, Places.IsBeforeLeft, Walk.IsOwnMemory, Walk.IsStopOf, Walk.fault_error, Walk.stop_error}
-use Rattle.yaml_toml.specs.{Walk.toml_writers_error, declared.error.TomlError.TomlError, declared.walk.Rest.Rest, declared.walk.Stop.Stop}
-use Rattle.toml_ordered.specs.{Data.TomlNodes, Grammar.ordered_document, Places.place_left, declared.fault.Fault.Fault}
-use Rattle.yaml_base.specs.declared.errors.yaml_error_t.{yaml_error_t, TheVariants.Memory}
+use Rattle.yaml_toml.proofs.Common.{length, length-append, cases_lt, inl, inr, max, none-some, document_nesting, IsStopOf, fault_error, toml_writers_error}
+use Rattle.yaml_toml.proofs.Common.{TomlError, Rest, Stop, TomlNodes, ordered_document, Fault, yaml_error_t, Memory}
+use Rattle.std.specs.Prelude.{◌↔◌}
+use Rattle.yaml_toml.specs.{Depth.ExplainsDepth, Places.IsBeforeLeft, Walk.IsOwnMemory, Walk.stop_error}
+use Rattle.yaml_toml.specs.Fitting.{FitsAfter, NestsAfter, NodeFits, PendingFits, RestFits, rest_nesting}
+use Rattle.toml_ordered.specs.Places.{place_left}
 use Rattle.toml_ordered.specs.declared.fault.Fault.TheVariants as fault
 use Rattle.yaml_toml.specs.declared.error.TomlError.TheVariants as errors
 use Rattle.yaml_toml.specs.declared.walk.Stop.TheVariants as stop
@@ -102,8 +100,7 @@ module _ (depth : ℕ) (root : TomlNodes) where
         let both = fits_pushed depth left (left ++ r ∷ []) r refl in
         (λ fits. so.0 (both.1 (step.0 fits)), λ fits. step.1 (both.0 (so.1 fits)))
 
-    pub nests_stopped : (stopped : Stop) → FitsAfter depth (RestFits depth (rest_nesting r) left) (Err stopped) after
-        → NestsAfter depth root (Err stopped)
+    pub nests_stopped : (stopped : Stop) → FitsAfter depth (RestFits depth (rest_nesting r) left) (Err stopped) after → NestsAfter depth root (Err stopped)
     nests_stopped stopped =
         let both = fits_pushed depth left (left ++ r ∷ []) r refl in
         nests_err (RestFits depth (rest_nesting r) left) stopped after (λ fits. both.0 (so.1 fits))

@@ -1,23 +1,20 @@
 -- The characters of a float of TOML are a number of JSON.
-use Rattle.std.proofs.Common.{◌≡◌, ◌⊎◌, ℕ, zero, suc, ◌+◌, ◌-◌, ◌<◌, Bool, true, false, not, cond, pos, ◌^◌, ◌&&◌, ◌||◌, ◌==◌, List, [], ◌∷◌, ◌++◌, length}
-use Rattle.std.proofs.Common.{length-take, take, drop, slice_range, slice_index, codes, Option, None, Some, Float, refl, sym, ap, ap₂, subst, ◌∙◌, arith, inl}
-use Rattle.std.proofs.Common.{inr, bytes_eq, append_assoc, append-nil}
-use Rattle.std.proofs.Math.Seq.{drop-length, drop-nil}
-use Rattle.std.proofs.lemmas.Bool.{and_parts, eqb-true, ltb-true, lt-ltb, or_cases, or_right, false≢true, leb-true, ne_eqb, not_from_false, and_from}
-use Rattle.std.proofs.lemmas.Str.{digit_value_digit}
-use Rattle.yaml_writer.proofs.PartLemmas.{number_in_text}
-use Rattle.yaml_writer.specs.NumberParts.{HasNumber}
-use Rattle.yaml_base.specs.Characters.{Text}
-use Rattle.yaml_base.specs.Words.{is_word}
-use Rattle.yaml_base.specs.values.JsonNumbers.{JsonExponent, exponent_text, is_json_number, is_whole_part, json_text, minus}
-use Rattle.yaml_base.specs.values.Resolved.{are_digits}
-use Rattle.std.specs.{Prelude.nat_lt, Prelude.nat_le, Prelude.if◌then◌else◌, List.list_all, Char.is_ascii_digit, Char.is_digit, Char.digit_value}
-use Rattle.std.specs.{Float.Ieee.inf, Float.Ieee.nan, Str.Parse.digits_value}
-use Rattle.std.proofs.lemmas.List.{take-append-drop, length-take-le, nil_from_length, Folds.length-prefix_len}
-use Rattle.toml_parser.specs.{Lexical.first, declared.scalar.Scalar.Scalar}
-use Rattle.yaml_toml.specs.{Events.json_word, Walk.IsJsonWord}
+use Rattle.yaml_toml.proofs.Common.{◌≡◌, ◌⊎◌, ℕ, zero, suc, ◌+◌, ◌-◌, ◌<◌, Bool, true, false, not, cond, pos, ◌^◌, ◌&&◌, ◌||◌, ◌==◌, List, [], ◌∷◌, ◌++◌}
+use Rattle.yaml_toml.proofs.Common.{length, codes, Option, None, Some, refl, sym, ap, ap₂, subst, ◌∙◌, arith, inl, inr, append_assoc, append-nil, and_parts}
+use Rattle.yaml_toml.proofs.Common.{false≢true, not_from_false, and_from, Text, is_json_number, are_digits, nat_lt, if◌then◌else◌, list_all, digits_value}
+use Rattle.yaml_toml.proofs.Common.{json_word}
+use Rattle.std.proofs.{Math.Seq.drop-length, Math.Seq.drop-nil, lemmas.Str.digit_value_digit, lemmas.List.Folds.length-prefix_len}
+use Rattle.std.proofs.Common.{length-take, take, drop, slice_range, slice_index, Float, bytes_eq}
+use Rattle.std.proofs.lemmas.Bool.{eqb-true, ltb-true, lt-ltb, or_cases, or_right, leb-true, ne_eqb}
+use Rattle.std.proofs.lemmas.List.{take-append-drop, length-take-le, nil_from_length}
+use Rattle.std.specs.{Prelude.nat_le, Char.is_ascii_digit, Char.is_digit, Char.digit_value, Float.Ieee.inf, Float.Ieee.nan}
 use Rattle.std.specs.Float.Numeral.{digits_len, digits_end, exponent_start, has_exponent, numeral_digits as digits_of, scan_numeral}
+use Rattle.yaml_writer.{proofs.PartLemmas.number_in_text, specs.NumberParts.HasNumber}
+use Rattle.yaml_base.specs.Words.{is_word}
+use Rattle.yaml_base.specs.values.JsonNumbers.{JsonExponent, exponent_text, is_whole_part, json_text, minus}
+use Rattle.toml_parser.specs.{Lexical.first, declared.scalar.Scalar.Scalar}
 use Rattle.toml_parser.specs.Numbers.{plain_number, decimal_number, is_decimal as is_toml_decimal, float_of, integer_of, radix_of, prefixed_integer}
+use Rattle.yaml_toml.specs.Walk.{IsJsonWord}
 use Rattle.toml_parser.specs.declared.scalar.Scalar.TheVariants as scalar
 
 -- ---- the rest after some bytes
@@ -70,8 +67,7 @@ are_all [] = refl
 are_all (x ∷ xs) = more_digits x xs (digits_len xs) (are_all xs) (is_ascii_digit x) refl
 
 some_digits : (xs : List ℕ) → 0 < length xs → list_all (λ c. is_digit c 10) xs ≡ true → are_digits 10 xs ≡ true
-some_digits xs some h =
-    ap₂ (λ (a b : Bool). a && b) (not_from_false (length xs == 0) (ne_eqb (length xs) 0 (λ e. omega (arith, some, e)))) h
+some_digits xs some h = ap₂ (λ (a b : Bool). a && b) (not_from_false (length xs == 0) (ne_eqb (length xs) 0 (λ e. omega (arith, some, e)))) h
 
 -- the number of digits that are here
 count_at : (bs : List ℕ) (i : ℕ) → length (digits_at bs i) ≡ digits_len (drop i bs)
@@ -88,8 +84,7 @@ found_digits bs i some = some_digits (digits_at bs i) (omega (arith, some, count
 
 -- all that is left
 last_digits : (bs : List ℕ) (i : ℕ) → digits_end bs i ≡ length bs → drop i bs ≡ digits_at bs i
-last_digits bs i is =
-    digits_cut bs i ∙ ap (λ (more : List ℕ). digits_at bs i ++ more) (none_left bs (digits_end bs i) is) ∙ append-nil (digits_at bs i)
+last_digits bs i is = digits_cut bs i ∙ ap (λ (more : List ℕ). digits_at bs i ++ more) (none_left bs (digits_end bs i) is) ∙ append-nil (digits_at bs i)
 
 -- ---- the exponent
 
@@ -131,8 +126,7 @@ module _ (bs : List ℕ) (b : ℕ) where
     found = Some (record { capital = capital; sign = sign; digits = digits_at bs c });
     valid = found_digits bs c (some_at bs c digit);
     text = drop_at bs b (letter_of capital) letter (letter_some capital)
-        ∙ ap (λ (more : List ℕ). letter_of capital ∷ more)
-        (signed ∙ ap (λ (more : List ℕ). signs_of sign ++ more) (last_digits bs c ends))
+        ∙ ap (λ (more : List ℕ). letter_of capital ∷ more) (signed ∙ ap (λ (more : List ℕ). signs_of sign ++ more) (last_digits bs c ends))
         ∙ spelled capital sign (digits_at bs c);
   }
 
@@ -265,8 +259,7 @@ fraction_some : (bs : List ℕ) (a : ℕ) (point : Bool) → point ≡ true
 fraction_some bs a true is h = ltb-true 0 (length (slice_range bs (a + 1) (digits_end bs (a + 1)))) h
 fraction_some bs a false is h = absurd (false≢true is)
 
-scanned : (negative : Bool) (bs : List ℕ) → (scan_numeral bs).len ≡ length bs → is_toml_decimal (scan_numeral bs) ≡ true
-    → HasNumber (minus negative ++ bs)
+scanned : (negative : Bool) (bs : List ℕ) → (scan_numeral bs).len ≡ length bs → is_toml_decimal (scan_numeral bs) ≡ true → HasNumber (minus negative ++ bs)
 unfolding scan_numeral
 scanned negative bs ends decimal =
     let a = digits_end bs 0 in
@@ -278,8 +271,7 @@ scanned negative bs ends decimal =
     let same : digits_at bs 0 ≡ whole = let n : digits_len bs ≡ digits_end bs 0 - 0 = omega arith in ap (λ n. take n bs) n in
     let some = subst (λ (ds : List ℕ). 0 < length ds) (sym same) (ltb-true 0 (length whole) parts.0) in
     let lone = subst (λ (ds : List ℕ). (length ds == 1 || not (first ds == 48)) ≡ true) (sym same) parts.1 in
-    number_from negative bs (digits_at bs 0) a (digits_cut bs 0)
-    (whole_of (digits_at bs 0) (some_digits (digits_at bs 0) some (are_all bs)) lone)
+    number_from negative bs (digits_at bs 0) a (digits_cut bs 0) (whole_of (digits_at bs 0) (some_digits (digits_at bs 0) some (are_all bs)) lone)
     (fraction_at bs a point refl (λ is. fraction_some bs a point is both.1) ends)
 
 -- ---- floats
@@ -288,8 +280,7 @@ scanned negative bs ends decimal =
 abbrev decided : (negative : Bool) → (word : List ℕ) → (infinite not_number numeral : Bool) → Option Scalar
 decided negative word infinite not_number numeral =
     let p = scan_numeral word in
-    cond infinite (Some (scalar.Float (inf negative)))
-    (cond not_number (Some (scalar.Float nan))
+    cond infinite (Some (scalar.Float (inf negative))) (cond not_number (Some (scalar.Float nan))
     (cond (not numeral) None (cond (p.point || nat_lt 0 (length p.exponent)) (float_of negative p) (integer_of negative (digits_of p)))))
 
 abbrev is_numeral : List ℕ → Bool
@@ -307,8 +298,7 @@ float_scanned : (negative : Bool) (word : List ℕ) (x : Float) → decimal_numb
     → bytes_eq word (codes "inf") ≡ false → bytes_eq word (codes "nan") ≡ false → HasNumber (minus negative ++ word)
 unfolding decimal_number
 float_scanned negative word x read finite number =
-    numeral_if negative word x (is_numeral word) refl
-    (sym (ap₂ (λ (a b : Bool). decided negative word a b (is_numeral word)) finite number) ∙ read)
+    numeral_if negative word x (is_numeral word) refl (sym (ap₂ (λ (a b : Bool). decided negative word a b (is_numeral word)) finite number) ∙ read)
 
 -- without its sign
 abbrev past_sign : List ℕ → List ℕ
@@ -342,8 +332,7 @@ unsigned_word word x = by (radix_of word == 10) (first word == 45) refl (first w
         → bytes_eq (cond (plussed || dashed) (drop 1 word) word) (codes "nan") ≡ false → HasNumber (cond plussed (drop 1 word) word)
     by false dashed d plussed p read finite number = absurd (is_integer (radix_of word) (drop 2 word) x read)
     by true true d true p read finite number = absurd (omega (arith, eqb-true (first word) 45 d, eqb-true (first word) 43 p))
-    by true true d false p read finite number =
-        subst HasNumber (sym (dash_first word d)) (float_scanned true (drop 1 word) x read finite number)
+    by true true d false p read finite number = subst HasNumber (sym (dash_first word d)) (float_scanned true (drop 1 word) x read finite number)
     by true false d true p read finite number = float_scanned false (drop 1 word) x read finite number
     by true false d false p read finite number = float_scanned false word x read finite number
 

@@ -1,11 +1,9 @@
 -- The events that were given when a walk stops.
 use Rattle.yaml_toml.proofs.Common.{◌≡◌, ℕ, suc, ◌≤◌, arith, ◌∷◌, [], List, Result, Ok, Err, inl, inr, refl, ap, subst, sym, length, Event, Scalar, scalar}
-use Rattle.yaml_toml.proofs.Common.{WriterState, WroteEvent}
-use Rattle.std.specs.Prelude.{OnErr, pred, zero}
-use Rattle.yaml_writer.proofs.OpenLevels.{gave_events_then, gave_none}
-use Rattle.yaml_writer.specs.Answering.{Answers, FailsAt}
-use Rattle.yaml_toml.specs.{OpenCounts.count_after, Walk.IsStopOf, Walk.StepsStop, declared.walk.Stop.Stop}
-use Rattle.yaml_base.specs.declared.{errors.yaml_error_t.yaml_error_t, kinds.CollectionKind.CollectionKind}
+use Rattle.yaml_toml.proofs.Common.{WriterState, WroteEvent, zero, gave_events_then, count_after, IsStopOf, Stop, yaml_error_t, CollectionKind}
+use Rattle.std.specs.Prelude.{OnErr, pred}
+use Rattle.yaml_writer.{proofs.OpenLevels.gave_none, specs.Answering.Answers, specs.Answering.FailsAt}
+use Rattle.yaml_toml.specs.Walk.{StepsStop}
 
 -- one that is open ends
 pub fewer_fit : (most n : ℕ) → n ≤ most → pred n ≤ most
@@ -15,12 +13,7 @@ fewer_fit most (suc n) fits = omega (arith, fits)
 module _ {most : ℕ} {due : List Event} {before : List CollectionKind} (was : WriterState) where
   -- nothing was given
   pub halts_at_once : StepsStop most was due before was
-  halts_at_once = record {
-    given = [];
-    begins = record { rest = due; parts = refl };
-    gave = gave_none was;
-    few = λ fits. (length before, (fits, refl));
-  }
+  halts_at_once = record { given = []; begins = record { rest = due; parts = refl }; gave = gave_none was; few = λ fits. (length before, (fits, refl)) }
 
 module _ {most : ℕ} {was now : WriterState} where
   -- an event was given, or nothing
@@ -46,8 +39,7 @@ module _ {most : ℕ} {was now : WriterState} where
 module _ {most : ℕ} {was now : WriterState} {due same : List Event} {before these : List CollectionKind} where
   pub halts_same : due ≡ same → before ≡ these → StepsStop most was due before now → StepsStop most was same these now
   halts_same is kinds stop =
-      subst (λ (ks : List CollectionKind). StepsStop most was same ks now) kinds
-      (subst (λ (events : List Event). StepsStop most was events before now) is stop)
+      subst (λ (ks : List CollectionKind). StepsStop most was same ks now) kinds (subst (λ (events : List Event). StepsStop most was events before now) is stop)
 
 -- after a scalar
 module _ {most : ℕ} {was between now : WriterState} {content : Scalar} {due : List Event} {kinds : List CollectionKind} where

@@ -1,14 +1,12 @@
 -- Integers are numbers of JSON, so both schemas read them as themselves.
 use Rattle.yaml_toml.proofs.Common.{ℕ, ◌<◌, codes, Bool, false, not, true, ◌&&◌, [], ◌++◌, ◌∷◌, ◌≡◌, arith, ap, sym, ◌∙◌, subst, append-nil, Text, Schema}
-use Rattle.yaml_toml.proofs.Common.{if◌then◌else◌, fraction_or_default, is_json_integer}
-use Rattle.yaml_base.proofs.Common.{meant_integer, meant_decimal, signed, digits_value}
+use Rattle.yaml_toml.proofs.Common.{if◌then◌else◌, fraction_or_default, is_json_integer, digits_value, signed_decimal, ℤ, pos, suc, ◌^◌}
+use Rattle.yaml_base.{proofs.Common.meant_integer, proofs.Common.meant_decimal, proofs.Common.signed, specs.values.JsonNumbers.value_with, specs.Words.is_word}
 use Rattle.yaml_toml.specs.Walk.{FewDigits}
 use Rattle.yaml_writer.proofs.NumberTexts.{first_digit, integer, valid_integer}
 use Rattle.yaml_writer.proofs.ScalarMeanings.{IsPlainWord, ReadsScalars, plain_numbers}
-use Rattle.std.specs.Fmt.{decimal, signed_decimal}
-use Rattle.std.specs.Prelude.{ℤ, pos, negsuc, suc, ◌^◌}
+use Rattle.std.specs.{Fmt.decimal, Prelude.negsuc}
 use Rattle.std.proofs.{Common.FitsSigned, Common.get_or, Common.w64, lemmas.Fmt.decimal_is_IsNumeral_wide, lemmas.Bool.ne_eqb}
-use Rattle.yaml_base.specs.{values.JsonNumbers.value_with, Words.is_word}
 
 -- no integer but 0 is written `0`
 not_zero : (n : ℕ) → suc n < 10 ^ 64 → is_word (decimal (suc n)) (codes "0") ≡ false
@@ -43,13 +41,10 @@ module _ (schema : Schema) (reads : ReadsScalars schema) where
   integer_read (negsuc n) h = read_neg n (omega (arith, h))
 
 pub integer_plain : (z : ℤ) → FewDigits z → IsPlainWord (signed_decimal z)
-integer_plain (pos n) h =
-    subst IsPlainWord (no_more (decimal n)) (plain_numbers (integer false (decimal n)) (valid_integer false n (omega (arith, h))))
+integer_plain (pos n) h = subst IsPlainWord (no_more (decimal n)) (plain_numbers (integer false (decimal n)) (valid_integer false n (omega (arith, h))))
 integer_plain (negsuc n) h =
-    subst IsPlainWord
-    (ap (λ (x : Bool). 45 ∷ (decimal (suc n) ++ (if x then [] else codes ".0"))) (ap not (not_zero n (omega (arith, h))))
-    ∙ ap (λ (t : Text). 45 ∷ t) (no_more (decimal (suc n))))
-    (plain_numbers (integer true (decimal (suc n))) (valid_integer true (suc n) (omega (arith, h))))
+    subst IsPlainWord (ap (λ (x : Bool). 45 ∷ (decimal (suc n) ++ (if x then [] else codes ".0"))) (ap not (not_zero n (omega (arith, h))))
+    ∙ ap (λ (t : Text). 45 ∷ t) (no_more (decimal (suc n)))) (plain_numbers (integer true (decimal (suc n))) (valid_integer true (suc n) (omega (arith, h))))
 
 -- an integer of 64 bits
 pub few_digits : (z : ℤ) → FitsSigned w64 z → FewDigits z

@@ -1,20 +1,19 @@
 -- The moments of dates of TOML, and dates by the core schema.
 use Rattle.yaml_toml.proofs.Common.{ℕ, ◌==◌, Option, None, Some, codes, Bool, false, not, true, ◌&&◌, ◌||◌, [], ◌++◌, ◌∷◌, refl, ◌≡◌, arith, ap, subst}
-use Rattle.yaml_toml.proofs.Common.{and_parts, and_from, false≢true, list_all, option_and_then, Text, are_digits, resolved_by_core, if◌then◌else◌}
+use Rattle.yaml_toml.proofs.Common.{and_parts, and_from, false≢true, list_all, option_and_then, Text, are_digits, resolved_by_core, if◌then◌else◌, ClockTime}
+use Rattle.yaml_toml.proofs.Common.{Moment, moment_of, ◌+◌, nat_lt, ℤ, unwrap_or, none-some}
+use Rattle.yaml_base.{proofs.NumberCuts.digit_unlike, proofs.NumberCuts.no_word_of_core, specs.values.Resolved.some_if}
 use Rattle.yaml_base.proofs.Common.{is_decimal, is_point, is_exponent_letter, past_sign, first_reading, core_integer, core_based, core_decimal, Resolved}
 use Rattle.yaml_base.proofs.Common.{meant_text, slice_split, or_from, nat_tests}
-use Rattle.yaml_base.proofs.NumberCuts.{digit_unlike, no_word_of_core}
-use Rattle.yaml_base.specs.values.Resolved.{some_if}
 use Rattle.yaml_writer.specs.Dates.{CalendarDate, calendar_date, date_text, is_calendar_date, two_digits}
-use Rattle.yaml_writer.specs.Times.{ClockOffset, ClockTime, Moment, clock_time, is_clock_reading, is_clock_time, is_zone_offset, is_moment}
+use Rattle.yaml_writer.specs.Times.{ClockOffset, clock_time, is_clock_reading, is_clock_time, is_zone_offset, is_moment}
+use Rattle.yaml_writer.specs.TomlDates.{date_of, is_west, offset_of, time_by, time_of, moment_by}
 use Rattle.yaml_writer.proofs.DateLemmas.{DateSays, date_says, date_passes, behind_first, first_digit}
-use Rattle.toml_datetime.specs.Valid.{magnitude}
-use Rattle.yaml_writer.specs.TomlDates.{date_of, is_west, offset_of, time_by, time_of, moment_by, moment_of}
-use Rattle.std.specs.List.{All}
-use Rattle.std.specs.Prelude.{◌+◌, ◌/◌, ◌%◌, nat_lt, nat_le, ℤ, unwrap_or}
-use Rattle.toml_datetime.specs.declared.datetime.{Time.Time, Offset.Offset, Datetime.Datetime, Offset.TheVariants.Z, Offset.TheVariants.Custom}
-use Rattle.std.proofs.{lemmas.Option.cond_some, lemmas.Option.none-some, lemmas.Option.option_and_then_some, lemmas.Option.same_Some}
+use Rattle.toml_datetime.specs.{Valid.magnitude, declared.datetime.Time.Time, declared.datetime.Offset.Offset, declared.datetime.Datetime.Datetime}
+use Rattle.toml_datetime.specs.declared.datetime.Offset.TheVariants.{Z, Custom}
+use Rattle.std.specs.{List.All, Prelude.◌/◌, Prelude.◌%◌, Prelude.nat_le}
 use Rattle.std.proofs.{NetLemmas.Options.map_some, lemmas.List.Splits.slice_split_none, lemmas.List.Sums.AllPass-from_list_all, Common.get_or}
+use Rattle.std.proofs.lemmas.Option.{cond_some, option_and_then_some, same_Some}
 
 -- ---- dates by the core schema
 
@@ -72,8 +71,7 @@ module _ (date : CalendarDate) (valid : is_calendar_date date ≡ true) where
   integer_none = rw (unsigned, no_digits_at_all)
 
   based_none : (letter base : ℕ) → is_decimal letter ≡ false → core_based letter base (date_text date) ≡ None
-  based_none letter base other =
-      rw (digit_unlike (0x30 + date.year / 100 % 10) letter other second_digit) (not_based _ _ _)
+  based_none letter base other = rw (digit_unlike (0x30 + date.year / 100 % 10) letter other second_digit) (not_based _ _ _)
 
   decimal_none : core_decimal (date_text date) ≡ None
   decimal_none =
@@ -125,7 +123,6 @@ valid_by date _ _ moment valid e = absurd (none-some moment e)
 
 pub valid_moment : (d : Datetime) (moment : Moment) → moment_of d ≡ Some moment → is_moment moment ≡ true
 valid_moment d moment e =
-    option_and_then_some _ (option_and_then date_of d.date) moment e λ day dated timed.
-    option_and_then_some date_of d.date day dated λ date given made.
+    option_and_then_some _ (option_and_then date_of d.date) moment e λ day dated timed. option_and_then_some date_of d.date day dated λ date given made.
     let both = cond_some (is_calendar_date (calendar_date date.year date.month date.day)) (calendar_date date.year date.month date.day) day made in
     valid_by day d.time d.offset moment (subst (λ (c : CalendarDate). is_calendar_date c ≡ true) both.1 both.0) timed

@@ -1,19 +1,17 @@
 -- Each decimal that a word of TOML writes is a number of JSON, and each integer has few digits.
-use Rattle.std.proofs.Common.{◌≡◌, ℕ, ℤ, zero, ◌^◌, ◌≤◌, Bool, true, false, cond, not, ◌&&◌, ◌||◌, ◌==◌, List, length, drop, codes, Option, None, Some}
-use Rattle.std.proofs.Common.{option_map, Float, pos, neg_ℤ, refl, subst, arith, inl, inr, bytes_eq}
+use Rattle.yaml_toml.proofs.Common.{◌≡◌, ℕ, ℤ, zero, ◌^◌, ◌≤◌, Bool, true, false, cond, not, ◌&&◌, ◌||◌, ◌==◌, List, length, codes, Option, None, Some, pos}
+use Rattle.yaml_toml.proofs.Common.{refl, subst, arith, inl, inr, HasNumbers, IfSome, nat_lt, digits_value, list_all, and_parts}
+use Rattle.std.proofs.{lemmas.Bool.eqb-true, lemmas.Bool.ltb-true, lemmas.Bool.or_cases, lemmas.Option.IfSome_then}
+use Rattle.std.proofs.Common.{drop, option_map, Float, neg_ℤ, bytes_eq}
+use Rattle.std.specs.{Char.is_digit, Float.float_is_finite, Float.binary64, Float.Ieee.inf, Float.Ieee.nan}
+use Rattle.std.specs.Float.Numeral.{nearest_float as nearest, numeral_digits as digits_of, scan_numeral as scan}
 use Rattle.toml_datetime.specs.Parse.{parse_datetime}
 use Rattle.toml_ordered.specs.Data.{decimal, infinity, not_a_number}
 use Rattle.toml_ordered.specs.Grammar.{float_node, without_sign, plain_word, scalar_node}
-use Rattle.yaml_toml.specs.Walk.{FewDigits, HasNumbers, ScalarsHaveNumbers}
-use Rattle.yaml_toml.proofs.FloatWords.{float_word}
-use Rattle.toml_parser.specs.Lexical.{first}
+use Rattle.yaml_toml.{specs.Walk.FewDigits, specs.Walk.ScalarsHaveNumbers, proofs.FloatWords.float_word}
+use Rattle.toml_parser.specs.{Lexical.first, declared.scalar.Scalar.Scalar}
 use Rattle.toml_parser.specs.Numbers.{decimal_number, float_of, integer_of, is_decimal, looks_like_datetime, number, plain_number, prefixed_integer, radix_of}
 use Rattle.toml_parser.specs.Numbers.{underscore_radix, underscores_fit, word_value}
-use Rattle.toml_parser.specs.declared.scalar.Scalar.{Scalar}
-use Rattle.std.specs.{Prelude.IfSome, Prelude.nat_lt, Str.Parse.digits_value, List.list_all, Char.is_digit, Float.float_is_finite, Float.binary64}
-use Rattle.std.specs.{Float.Ieee.inf, Float.Ieee.nan}
-use Rattle.std.proofs.lemmas.{Bool.and_parts, Bool.eqb-true, Bool.ltb-true, Bool.or_cases, Option.IfSome_then}
-use Rattle.std.specs.Float.Numeral.{nearest_float as nearest, numeral_digits as digits_of, scan_numeral as scan}
 use Rattle.toml_parser.specs.declared.scalar.Scalar.TheVariants as scalar
 
 -- ---- facts of a value that there may be
@@ -39,8 +37,7 @@ IsSmall _ = Unit {0}
 
 small_prefixed : (radix : ℕ) (digits : List ℕ) → IfSome (prefixed_integer radix digits) IsSmall
 unfolding prefixed_integer
-small_prefixed radix digits =
-    by ((nat_lt 0 (length digits) && list_all (λ c. is_digit c radix) digits) && nat_lt (digits_value radix digits) (2 ^ 63)) refl
+small_prefixed radix digits = by ((nat_lt 0 (length digits) && list_all (λ c. is_digit c radix) digits) && nat_lt (digits_value radix digits) (2 ^ 63)) refl
   where
     by : (b : Bool) → ((nat_lt 0 (length digits) && list_all (λ c. is_digit c radix) digits) && nat_lt (digits_value radix digits) (2 ^ 63)) ≡ b
         → IfSome (cond b (Some (scalar.Integer (pos (digits_value radix digits)))) None) IsSmall
@@ -71,20 +68,17 @@ small_decimal : (negative : Bool) (word : List ℕ) → IfSome (decimal_number n
 unfolding decimal_number
 small_decimal negative word =
     let p = scan word in
-    cond_some IsSmall (bytes_eq word (codes "inf")) (Some (scalar.Float (inf negative))) _ tt
-    (cond_some IsSmall (bytes_eq word (codes "nan")) (Some (scalar.Float nan)) _ tt
-    (cond_some IsSmall (not (p.len == length word && is_decimal p)) None _ tt
-    (cond_some IsSmall (p.point || nat_lt 0 (length p.exponent)) (float_of negative p) (integer_of negative (digits_of p))
-    (cond_some IsSmall (float_is_finite (nearest binary64 negative p)) (Some (scalar.Float (nearest binary64 negative p))) None tt tt)
-    (small_integer negative (digits_of p)))))
+    cond_some IsSmall (bytes_eq word (codes "inf")) (Some (scalar.Float (inf negative))) _ tt (cond_some IsSmall (bytes_eq word (codes "nan"))
+    (Some (scalar.Float nan)) _ tt (cond_some IsSmall (not (p.len == length word && is_decimal p)) None _ tt (cond_some IsSmall
+    (p.point || nat_lt 0 (length p.exponent)) (float_of negative p) (integer_of negative (digits_of p)) (cond_some IsSmall
+    (float_is_finite (nearest binary64 negative p)) (Some (scalar.Float (nearest binary64 negative p))) None tt tt) (small_integer negative (digits_of p)))))
 
 small_plain : (word : List ℕ) → IfSome (plain_number word) IsSmall
 unfolding plain_number
 small_plain word =
-    cond_some IsSmall (not (radix_of word == 10)) (prefixed_integer (radix_of word) (drop 2 word)) _ (small_prefixed (radix_of word) (drop 2 word))
-    (cond_some IsSmall (first word == 45) (decimal_number true (drop 1 word)) _ (small_decimal true (drop 1 word))
-    (cond_some IsSmall (first word == 43) (decimal_number false (drop 1 word)) (decimal_number false word) (small_decimal false (drop 1 word))
-    (small_decimal false word)))
+    cond_some IsSmall (not (radix_of word == 10)) (prefixed_integer (radix_of word) (drop 2 word)) _ (small_prefixed (radix_of word) (drop 2 word)) (cond_some
+    IsSmall (first word == 45) (decimal_number true (drop 1 word)) _ (small_decimal true (drop 1 word)) (cond_some IsSmall (first word == 43)
+    (decimal_number false (drop 1 word)) (decimal_number false word) (small_decimal false (drop 1 word)) (small_decimal false word)))
 
 -- a float that is read, by its word without underscores
 float_numbers : (word : List ℕ) (x : Float) → plain_number word ≡ Some (scalar.Float x) → HasNumbers (float_node word)
@@ -124,12 +118,10 @@ number_numbers word =
 word_numbers : (word : List ℕ) → IfSome (word_value word) (WordHasNumbers word)
 unfolding word_value
 word_numbers word =
-    cond_some (WordHasNumbers word) (bytes_eq word (codes "true")) (Some (scalar.Boolean true)) _ tt
-    (cond_some (WordHasNumbers word) (bytes_eq word (codes "false")) (Some (scalar.Boolean false)) _ tt
-    (cond_some (WordHasNumbers word) (looks_like_datetime word) (option_map scalar.Datetime (parse_datetime word)) (number word)
-    (map_some scalar.Datetime (WordHasNumbers word) (parse_datetime word)
-    (all_some (λ d. WordHasNumbers word (scalar.Datetime d)) (parse_datetime word) (λ d. tt)))
-    (number_numbers word)))
+    cond_some (WordHasNumbers word) (bytes_eq word (codes "true")) (Some (scalar.Boolean true)) _ tt (cond_some (WordHasNumbers word)
+    (bytes_eq word (codes "false")) (Some (scalar.Boolean false)) _ tt (cond_some (WordHasNumbers word) (looks_like_datetime word)
+    (option_map scalar.Datetime (parse_datetime word)) (number word) (map_some scalar.Datetime (WordHasNumbers word) (parse_datetime word)
+    (all_some (λ d. WordHasNumbers word (scalar.Datetime d)) (parse_datetime word) (λ d. tt))) (number_numbers word)))
 
 pub scalars_numbers : ScalarsHaveNumbers
 scalars_numbers word s read = subst (λ (o : Option Scalar). IfSome o (WordHasNumbers word)) read (word_numbers word)

@@ -1,16 +1,12 @@
 -- The pending events, as collections are begun and go on.
 use Rattle.yaml_toml.proofs.Common.{◌≡◌, ℕ, suc, length, length-append, Scalar, ◌+◌, ◌<◌, ◌≤◌, arith, ◌∷◌, ◌++◌, [], List, Bool, refl, ap, subst, sym, ◌∙◌}
 use Rattle.yaml_toml.proofs.Common.{append-nil, append_assoc, Event, WriterState, WroteEvent, start_event, scalar, text_content, chars, sequence_end}
-use Rattle.yaml_toml.proofs.Common.{mapping_end}
-use Rattle.toml_ordered.specs.Data.{TomlNode, TomlNodes, node, items_view, node_view}
+use Rattle.yaml_toml.proofs.Common.{mapping_end, TomlNode, TomlNodes, node, items_view, node_view, toml_events, toml_items_events, keys_events, count_after}
+use Rattle.yaml_toml.proofs.Common.{Moved, GaveSome, PendingHaveNumbers, RestHasNumbers, rest_kind, kinds_of, pending, rest_events, rest_size, pending_size}
+use Rattle.yaml_toml.proofs.Common.{Rest, CollectionKind, Mapping, Sequence}
 use Rattle.std.proofs.lemmas.List.{length-map}
 use Rattle.yaml_toml.proofs.Answering.{moved_event, moved_within, moved_then}
-use Rattle.yaml_toml.specs.Events.{toml_events, toml_items_events, keys_events}
-use Rattle.yaml_toml.specs.OpenCounts.{OpensAtMost, count_after}
-use Rattle.yaml_toml.specs.Walk.{Moved, GaveSome, PendingHaveNumbers, RestHasNumbers, items_left, keys_left, rest_kind, kinds_of, pending, rest_events}
-use Rattle.yaml_toml.specs.Walk.{rest_size, pending_size}
-use Rattle.yaml_toml.specs.declared.walk.Rest.{Rest}
-use Rattle.yaml_base.specs.declared.kinds.CollectionKind.{CollectionKind, TheVariants.Mapping, TheVariants.Sequence}
+use Rattle.yaml_toml.specs.{OpenCounts.OpensAtMost, Walk.items_left, Walk.keys_left}
 use Rattle.toml_ordered.specs.declared.tree.Node.{Node as CodeNode}
 
 module _ (canonical in_flow : Bool) where
@@ -93,8 +89,7 @@ module _ (most : ℕ) (in_flow : Bool) (was now : WriterState) where
         moved =
             subst (λ (ks : List CollectionKind). Moved was (start_event in_flow (rest_kind r) ∷ []) (kinds_of opened) ks now) (sym (kinds-push opened r))
             (subst (λ (ks : List CollectionKind). Moved was (start_event in_flow (rest_kind r) ∷ []) ks (kinds_of opened ++ rest_kind r ∷ []) now)
-            (append-nil (kinds_of opened))
-            (moved_within was now (start_event in_flow (rest_kind r) ∷ []) (kinds_of opened) [] (rest_kind r ∷ []) moved));
+            (append-nil (kinds_of opened)) (moved_within was now (start_event in_flow (rest_kind r) ∷ []) (kinds_of opened) [] (rest_kind r ∷ []) moved));
         parts = ap (λ (events : List Event). start_event in_flow (rest_kind r) ∷ events) (pending-push was.canonical in_flow opened r);
         numbers_in = numbers-push opened r;
         less = omega (arith, size-push opened r);

@@ -1,12 +1,9 @@
 -- The statements of an error on the text and on the writer.
-use Rattle.yaml_toml.proofs.Common.{◌≡◌, List, ℕ, Option, None, refl, ap, subst, sym, ◌∙◌, WriterState, inl}
+use Rattle.yaml_toml.proofs.Common.{◌≡◌, List, ℕ, Option, None, refl, ap, subst, sym, ◌∙◌, WriterState, inl, none-some, IfSome, Fault, yaml_error_t, Memory}
+use Rattle.yaml_toml.proofs.Common.{fault_error, toml_writers_error, TomlError}
 use Rattle.yaml_writer.specs.Failing.{HasErrorSaid}
-use Rattle.std.proofs.lemmas.Option.{none-some}
-use Rattle.std.specs.Prelude.{IfSome}
-use Rattle.toml_ordered.specs.{Places.FaultIsPlaced, Places.place_left, Reading.IsMemory, declared.fault.Fault.Fault}
-use Rattle.yaml_base.specs.declared.errors.yaml_error_t.{yaml_error_t, TheVariants.Memory}
-use Rattle.yaml_toml.specs.{Walk.DeniesToml, Walk.fault_error, Walk.toml_writers_error, Places.HasTomlPlace, Places.IsBeforeLeft}
-use Rattle.yaml_toml.specs.{declared.error.TomlError.TomlError}
+use Rattle.toml_ordered.specs.{Places.FaultIsPlaced, Places.place_left, Reading.IsMemory}
+use Rattle.yaml_toml.specs.{Walk.DeniesToml, Places.HasTomlPlace, Places.IsBeforeLeft}
 use Rattle.toml_ordered.specs.declared.fault.Fault.TheVariants as fault
 use Rattle.yaml_toml.specs.declared.error.TomlError.TheVariants as errors
 

@@ -1,9 +1,6 @@
 -- How deep some documents nest, computed.
-use Rattle.yaml_toml.proofs.Common.{◌≡◌, codes, refl}
-use Rattle.std.specs.Prelude.{pos}
-use Rattle.toml_ordered.specs.Data.{integer, array, table, tables, no_items, item, no_nodes, node}
-use Rattle.toml_ordered.specs.declared.tree.Origin.TheVariants.{Closed}
-use Rattle.yaml_toml.specs.Depth.{document_nesting}
+use Rattle.yaml_toml.proofs.Common.{◌≡◌, codes, refl, pos, table, node, document_nesting}
+use Rattle.toml_ordered.specs.{Data.integer, Data.array, Data.tables, Data.no_items, Data.item, Data.no_nodes, declared.tree.Origin.TheVariants.Closed}
 
 -- nothing
 empty : document_nesting no_nodes ≡ 1
@@ -14,8 +11,7 @@ flat : document_nesting (node (codes "a") (integer (pos 1)) no_nodes) ≡ 1
 flat = refl
 
 -- a = [[], [[1]]]
-arrays :
-    document_nesting
+arrays : document_nesting
     (node (codes "a") (array (item (array no_items) (item (array (item (array (item (integer (pos 1)) no_items)) no_items)) no_items))) no_nodes) ≡ 4
 arrays = refl
 

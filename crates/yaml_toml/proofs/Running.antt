@@ -1,19 +1,13 @@
 -- The walk from its start on.
-use Rattle.yaml_base.specs.declared.kinds.CollectionKind.{CollectionKind}
-use Rattle.yaml_base.proofs.Common.{sequence_start, open_count}
+use Rattle.yaml_toml.proofs.Common.{CollectionKind, sequence_start, open_count, ◌≡◌, ℕ, length, ◌≤◌, ◌∷◌, ◌++◌, [], List, Bool, Ok, refl, ap, subst, sym, ◌∙◌}
+use Rattle.yaml_toml.proofs.Common.{append-nil, append_assoc, arith, Event, WriterState, WasGiven, toml_events, count_after, Moved, GaveSome, KeysHaveNumbers}
+use Rattle.yaml_toml.proofs.Common.{PendingHaveNumbers, RestHasNumbers, kinds_of, rest_kind, pending, rest_events, value_due, walk_at, Rest, Stop, kept_then}
+use Rattle.yaml_toml.proofs.Common.{gave_events_then, TomlNodes, table, Header, IsBare, ValueSettings}
 use Rattle.yaml_emitter.proofs.AcceptedLists.{Stays, after_event, few_open}
-use Rattle.yaml_toml.proofs.Common.{◌≡◌, ℕ, length, ◌≤◌, ◌∷◌, ◌++◌, [], List, Bool, Ok, refl, ap, subst, sym, ◌∙◌, append-nil, append_assoc, arith, Event}
-use Rattle.yaml_toml.proofs.Common.{WriterState, WasGiven}
-use Rattle.yaml_toml.proofs.Answering.{moved_then}
-use Rattle.yaml_toml.proofs.Fitting.{DocumentFits, nests_first, nests_never}
-use Rattle.yaml_toml.proofs.Pending.{kinds-push, pending-push}
-use Rattle.yaml_toml.specs.{Events.toml_events, Failing.GaveFirst, OpenCounts.OpensAtMost, OpenCounts.count_after, Walk.Moved, Walk.GaveSome, Walk.StepsStop}
-use Rattle.yaml_toml.specs.{Walk.KeptAfterStop, Walk.KeysHaveNumbers, Walk.PendingHaveNumbers, Walk.RestHasNumbers, Walk.kinds_of, Walk.rest_kind}
-use Rattle.yaml_toml.specs.{Walk.pending, Walk.rest_events, Walk.HasInnermost, WalkSteps.RootStopped, WalkSteps.StepGiven, WalkSteps.StepStopped}
-use Rattle.yaml_toml.specs.{WalkSteps.value_due, WalkSteps.walk_at, declared.walk.Rest.Rest, declared.walk.Stop.Stop}
-use Rattle.yaml_writer.proofs.{AnswerLemmas.kept_then, GivenLemmas.leaves_same, OpenLevels.gave_events_then}
-use Rattle.toml_ordered.specs.{Data.TomlNodes, Data.table, declared.tree.Origin.TheVariants.Header}
-use Rattle.yaml_writer.specs.{WasGiven.GivenLeaving, WasGiven.IsBare, WasGiven.levels_after, declared.settings.ValueSettings.ValueSettings}
+use Rattle.yaml_toml.proofs.{Answering.moved_then, Fitting.DocumentFits, Fitting.nests_first, Fitting.nests_never, Pending.kinds-push, Pending.pending-push}
+use Rattle.yaml_toml.specs.{Failing.GaveFirst, OpenCounts.OpensAtMost, WalkSteps.RootStopped, WalkSteps.StepGiven, WalkSteps.StepStopped}
+use Rattle.yaml_toml.specs.Walk.{StepsStop, KeptAfterStop, HasInnermost}
+use Rattle.yaml_writer.{proofs.GivenLemmas.leaves_same, specs.WasGiven.GivenLeaving, specs.WasGiven.levels_after}
 
 numbers-pull : (opened : List Rest) (r : Rest) → RestHasNumbers r → PendingHaveNumbers opened → PendingHaveNumbers (opened ++ r ∷ [])
 numbers-pull [] r have rest = (have, tt)
@@ -91,12 +85,7 @@ module _ (settings : ValueSettings) (start now : WriterState) (root : TomlNodes)
       let few = stops.few (omega arith) in
       record {
         nests = nests_never settings.depth root stopped after step.nests;
-        stopped = record {
-          given = stops.given;
-          begins = stops.begins;
-          few = few_of settings.depth few.0 stops.given few.1;
-          gave = stops.gave bare;
-        };
+        stopped = record { given = stops.given; begins = stops.begins; few = few_of settings.depth few.0 stops.given few.1; gave = stops.gave bare };
         kept = step.kept;
       }
 
@@ -118,8 +107,7 @@ module _ {most : ℕ} {in_flow : Bool} {start between : WriterState} {all : List
 
   -- the innermost is of its kind
   pub innermost : HasInnermost between (kinds_of left) (rest_kind r)
-  innermost =
-      (start.levels, so_far.levels ∙ ap (λ (ks : List CollectionKind). start.levels ++ ks) (kinds-push left r))
+  innermost = (start.levels, so_far.levels ∙ ap (λ (ks : List CollectionKind). start.levels ++ ks) (kinds-push left r))
 
   -- the walk stopped
   pub runs_stopped : (now : WriterState) → StepsStop most between (rest_events between.canonical in_flow r ++ pending between.canonical in_flow left)
@@ -133,8 +121,7 @@ module _ {most : ℕ} {in_flow : Bool} {start between : WriterState} {all : List
           parts = append_assoc so.given stop.given stop.begins.rest ∙ ap (λ (events : List Event). so.given ++ events) stop.begins.parts ∙ due_is;
         };
         few =
-            few_of most few.0 (so.given ++ stop.given)
-            (opens_then most 0 (length (kinds_of left ++ rest_kind r ∷ [])) few.0 so.given stop.given so_few few.1);
+            few_of most few.0 (so.given ++ stop.given) (opens_then most 0 (length (kinds_of left ++ rest_kind r ∷ [])) few.0 so.given stop.given so_few few.1);
         gave = gave_events_then start between now so.given stop.given (so.moved start.levels (sym (append-nil start.levels))).0 (stop.gave so_far.bare);
       }
 

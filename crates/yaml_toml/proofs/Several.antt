@@ -1,18 +1,16 @@
 -- The streams of several documents of TOML, and their reading.
-use Rattle.yaml_writer.proofs.DocumentsOf.{AreUnsigned, events_apart, tree_by, trees_found}
-use Rattle.yaml_base.proofs.Common.{Node, document_end, stream_trees, root_place, settings_for}
 use Rattle.yaml_toml.proofs.Common.{ℕ, Some, Bool, true, List, [], map, ◌++◌, ◌∷◌, refl, ◌≡◌, subst, ◌∙◌, and_from, list_all, Event, directives_in_force}
-use Rattle.yaml_toml.proofs.Common.{opening, closing, has_scalar_texts, IsAccepted, Settings, Effective, Tree, State, ap₂, list_all-append}
+use Rattle.yaml_toml.proofs.Common.{opening, closing, has_scalar_texts, IsAccepted, Settings, Effective, Tree, State, ap₂, list_all-append, by_11, by_core}
+use Rattle.yaml_toml.proofs.Common.{KeysHaveNumbers}
+use Rattle.yaml_writer.proofs.{GivenAndTaken.stream_finished, WholeStreams.IsWhole, WholeStreams.stream_whole, WholeStreams.whole_by_either, Common.plain_start}
+use Rattle.yaml_writer.proofs.DocumentsOf.{AreUnsigned, events_apart, tree_by, trees_found}
+use Rattle.yaml_writer.specs.{Means.plain_document, Writing.Finishes}
+use Rattle.yaml_base.proofs.Common.{Node, document_end, stream_trees, root_place, settings_for}
 use Rattle.yaml_emitter.specs.State.{bytes_taken}
 use Rattle.yaml_toml.proofs.TomlTrees.{node_flat, root_of, toml_node, value_unsigned}
 use Rattle.yaml_toml.proofs.TomlMeanings.{ReadsToml, node_means, toml_by_11, toml_by_core}
-use Rattle.yaml_toml.specs.Means.{SchemaReader, by_11, by_core}
+use Rattle.yaml_toml.specs.Means.{SchemaReader}
 use Rattle.yaml_toml.specs.Several.{AllTablesMean, AreDocuments, DocumentsAreRead, IsYamlOfSeveral, ReadsAsTables, several_events}
-use Rattle.yaml_toml.specs.Walk.{KeysHaveNumbers}
-use Rattle.yaml_writer.proofs.GivenAndTaken.{stream_finished}
-use Rattle.yaml_writer.proofs.WholeStreams.{IsWhole, stream_whole, whole_by_either}
-use Rattle.yaml_writer.proofs.Common.{plain_start}
-use Rattle.yaml_writer.specs.{Means.plain_document, Writing.Finishes}
 use Rattle.toml_ordered.specs.Data as toml
 
 -- ---- the stream
@@ -72,8 +70,7 @@ module _ (given : Settings) (in_flow : Bool) (part : List ℕ × toml.TomlNodes)
         trees_found given (toml_node (root_of part.1) given.canonical in_flow) (nodes_of given.canonical in_flow (roots_of rest)) bytes refl
         (are_unsigned given.canonical in_flow roots) (several_events given.canonical in_flow (part ∷ rest)) (parts_are given.canonical in_flow part rest)
 
-    reads_as_tables : list_all has_scalar_texts all ≡ true → IsAccepted given.canonical all → IsWhole given all bytes
-        → ReadsAsTables given.breaks12 bytes roots
+    reads_as_tables : list_all has_scalar_texts all ≡ true → IsAccepted given.canonical all → IsWhole given all bytes → ReadsAsTables given.breaks12 bytes roots
     reads_as_tables texts taken whole =
         let s = settings_for given all in
         record {
@@ -113,5 +110,4 @@ several_read given in_flow part rest emitter taken bytes each set are were scala
 pub documents_read : DocumentsAreRead
 documents_read in_flow part rest was now taken bytes each emits opened canonical scalars finishes =
     several_read was.emitter.given in_flow part rest now.emitter (bytes_taken was.emitter ++ taken) bytes each emits.given
-    (emits.appended ∙ ap₂ (λ (before : List Event) (c : Bool). before ++ several_events c in_flow (part ∷ rest)) opened canonical)
-    emits.taken scalars finishes
+    (emits.appended ∙ ap₂ (λ (before : List Event) (c : Bool). before ++ several_events c in_flow (part ∷ rest)) opened canonical) emits.taken scalars finishes

@@ -1,27 +1,19 @@
 -- The calls of a walk over a document, from the calls of its writer and of its list.
 use Rattle.yaml_toml.proofs.Common.{◌≡◌, ℕ, suc, length, ◌+◌, ◌<◌, ◌≤◌, arith, ◌∷◌, ◌++◌, [], List, Bool, Result, Ok, Err, OnOk, refl, ap, subst, sym, ◌∙◌}
-use Rattle.yaml_toml.proofs.Common.{append_assoc, Event, Scalar, scalar, WriterState, WroteEvent, start_event, end_event}
-use Rattle.std.specs.Prelude.{◌↔◌, max, pred}
-use Rattle.yaml_base.specs.declared.errors.yaml_error_t.{yaml_error_t}
-use Rattle.yaml_writer.proofs.GivenLemmas.{on_ok}
-use Rattle.yaml_toml.proofs.Answering.{on_both}
-use Rattle.yaml_writer.proofs.AnswerLemmas.{kept_by, kept_memory, kept_then, ok_by}
+use Rattle.yaml_toml.proofs.Common.{append_assoc, Event, Scalar, scalar, WriterState, WroteEvent, start_event, end_event, max, yaml_error_t, on_ok, kept_then}
+use Rattle.yaml_toml.proofs.Common.{toml_nesting, toml_events, count_after, GaveSome, HasNumbers, IsStopOf, Moved, PendingHaveNumbers, RestHasNumbers, kinds_of}
+use Rattle.yaml_toml.proofs.Common.{pending, pending_size, rest_events, rest_kind, rest_size, TomlStep, collection_due, rest_due, value_due, walk_at}
+use Rattle.yaml_toml.proofs.Common.{CollectionKind, Mapping, Sequence, Rest, Stop, TomlNode, ValueSettings}
+use Rattle.std.specs.Prelude.{◌↔◌, pred}
+use Rattle.yaml_toml.proofs.{Answering.on_both, Halting.fewer_fit, Halting.halts_after, Halting.halts_at_once, Halting.halts_of, Halting.halts_same}
 use Rattle.yaml_toml.proofs.Fitting.{fits_end, fits_enter, fits_failed, fits_leaf, fits_memory, fits_next, fits_same}
-use Rattle.yaml_toml.proofs.Halting.{fewer_fit, halts_after, halts_at_once, halts_of, halts_same}
 use Rattle.yaml_toml.proofs.Pending.{kinds_length, kinds-push, numbers-push, pending-push, size-push, steps_after, steps_end, steps_enter, steps_leaf}
 use Rattle.yaml_toml.proofs.Pending.{steps_same}
-use Rattle.yaml_toml.specs.Depth.{toml_nesting}
-use Rattle.yaml_toml.specs.Events.{toml_events}
 use Rattle.yaml_toml.specs.Fitting.{NodeFits, PendingFits, RestFits, rest_nesting}
-use Rattle.yaml_toml.specs.OpenCounts.{count_after}
-use Rattle.yaml_toml.specs.Walk.{GaveSome, HasNumbers, IsOwnMemory, IsStopOf, KeptAfterStop, Moved, PendingHaveNumbers, RestHasNumbers, kinds_of, node_size}
-use Rattle.yaml_toml.specs.Walk.{pending, stop_error, pending_size, rest_events, rest_kind, rest_size}
-use Rattle.yaml_toml.specs.WalkSteps.{Due, DueFits, DueHasNumbers, TomlStep, all_due, collection_due, due_size, events_due, kinds_around, rest_due, value_due}
-use Rattle.yaml_toml.specs.WalkSteps.{WroteScalar, value_of_rest, walk_at}
-use Rattle.yaml_base.specs.declared.kinds.CollectionKind.{CollectionKind, TheVariants.Mapping, TheVariants.Sequence}
-use Rattle.yaml_toml.specs.declared.walk.{Rest.Rest, Stop.Stop}
-use Rattle.toml_ordered.specs.{Data.TomlNode, declared.tree.Origin.Origin}
-use Rattle.yaml_writer.specs.{declared.settings.ValueSettings.ValueSettings, Answering.Answers}
+use Rattle.yaml_toml.specs.Walk.{IsOwnMemory, KeptAfterStop, node_size, stop_error}
+use Rattle.yaml_toml.specs.WalkSteps.{Due, DueFits, DueHasNumbers, all_due, due_size, events_due, kinds_around, WroteScalar, value_of_rest}
+use Rattle.yaml_writer.{proofs.AnswerLemmas.kept_by, proofs.AnswerLemmas.kept_memory, proofs.AnswerLemmas.ok_by, specs.Answering.Answers}
+use Rattle.toml_ordered.specs.declared.tree.Origin.{Origin}
 use Rattle.yaml_toml.specs.declared.walk.Stop.TheVariants as stop
 use Rattle.yaml_toml.specs.declared.walk.Rest.TheVariants as rest
 
@@ -116,12 +108,9 @@ module _ (settings : ValueSettings) (was : WriterState) where
         let content = wrote.content in
         let rest = pending was.canonical settings.flow opened in
         let parts = ap (λ (es : List Event). es ++ rest) (wrote.events settings.flow) in
-        step_by (value_due x) opened opened (scalar content) rest answer result parts (λ fits. fits)
-        (subst (λ n. PendingFits settings.depth 0 opened ↔ NodeFits settings.depth n opened) wrote.nesting (fits_leaf settings.depth opened)) is
-        wrote.gives.kept
-        (on_ok answer (λ have. steps_same parts refl (λ all. all) (omega (arith, wrote.size))
-        (steps_leaf settings.depth settings.flow was now content (HasNumbers x) opened have.0 have.1))
-        (on_both (HasNumbers x) (WroteEvent was (scalar content) now) answer wrote.numbers wrote.gives.written))
+        step_by (value_due x) opened opened (scalar content) rest answer result parts (λ fits. fits) (subst (λ n. PendingFits settings.depth 0 opened ↔ NodeFits
+        settings.depth n opened) wrote.nesting (fits_leaf settings.depth opened)) is wrote.gives.kept (on_ok answer (λ have. steps_same parts refl (λ all. all)
+        (omega (arith, wrote.size)) (steps_leaf _ _ _ _ _ (HasNumbers x) _ have.0 have.1)) (on_both _ _ _ wrote.numbers wrote.gives.written))
 
     opened_fits : (kind : CollectionKind) (before : ℕ) → suc before ≤ settings.depth → count_after (start_event settings.flow kind) before ≤ settings.depth
     opened_fits Sequence before room = room
@@ -135,11 +124,9 @@ module _ (settings : ValueSettings) (was : WriterState) where
     step_enter opened after r kind answer result is room same stops answers moved =
         step_by (collection_due r) opened after (start_event settings.flow (rest_kind r))
         (rest_events was.canonical settings.flow r ++ pending was.canonical settings.flow opened) answer result refl
-        (λ fits. opened_fits (rest_kind r) (length (kinds_of opened)) (omega (arith, room, kinds_length opened)))
-        (fits_enter settings.depth opened after r is room) stops
-        (subst (λ (k : CollectionKind). Answers was (start_event settings.flow k) answer now) same answers)
-        (on_ok answer (λ begun. steps_enter settings.depth settings.flow was now r opened after is room
-        (subst (λ (k : CollectionKind). Moved was (start_event settings.flow k ∷ []) [] (k ∷ []) now) same begun)) moved)
+        (λ fits. opened_fits (rest_kind r) (length (kinds_of opened)) (omega (arith, room, kinds_length opened))) (fits_enter settings.depth opened _ r is room)
+        stops (subst (λ (k : CollectionKind). Answers was (start_event settings.flow k) answer now) same answers) (on_ok answer (λ begun. steps_enter _ _ _ _ r
+        opened _ is room (subst (λ (k : CollectionKind). Moved was (start_event settings.flow k ∷ []) [] (k ∷ []) now) same begun)) moved)
 
     falls : (kind : CollectionKind) (n : ℕ) → count_after (end_event kind) n ≡ pred n
     falls Sequence n = refl
@@ -156,12 +143,10 @@ module _ (settings : ValueSettings) (was : WriterState) where
         let rest = pending was.canonical settings.flow opened in
         let parts = ap (λ (es : List Event). es ++ rest) events in
         let around = kinds_of opened ++ kind ∷ [] in
-        step_by (rest_due r) opened opened (end_event kind) rest answer result parts
-        (λ fits. subst (λ n. n ≤ settings.depth) (sym (falls kind (length around))) (fewer_fit settings.depth (length around) fits))
-        (subst (λ n. PendingFits settings.depth 0 opened ↔ RestFits settings.depth n opened) nesting
-        (fits_end settings.depth opened)) is answers
-        (on_ok answer (λ ends. steps_same parts refl (λ all. all) (omega (arith, size))
-        (steps_end settings.depth settings.flow was now (end_event kind) kind (RestHasNumbers r) opened have (λ n. falls kind (suc n)) ends)) moved)
+        step_by (rest_due r) opened opened (end_event kind) rest answer result parts (λ fits. subst (λ n. n ≤ settings.depth) (sym (falls kind (length around)))
+        (fewer_fit settings.depth (length around) fits)) (subst (λ n. PendingFits settings.depth 0 opened ↔ RestFits settings.depth n opened) nesting
+        (fits_end settings.depth opened)) is answers (on_ok answer (λ ends. steps_same parts refl (λ all. all) (omega (arith, size)) (steps_end settings.depth
+        settings.flow was now (end_event kind) kind (RestHasNumbers r) opened have (λ n. falls kind (suc n)) ends)) moved)
 
     -- ---- a call of the walk
 
@@ -185,14 +170,12 @@ module _ (settings : ValueSettings) (was : WriterState) where
         → TomlStep settings (collection_due r) (walk_at was opened) result (walk_at now after)
         → TomlStep settings (value_due x) (walk_at was opened) result (walk_at now after)
     step_begun origin r x opened after result seen step =
-        subst (λ (z : TomlNode). TomlStep settings (value_due z) (walk_at was opened) result (walk_at now after)) (sym seen)
-        (step_same (collection_due r) (value_due (value_of_rest origin r)) opened opened after result
-        (due_begun settings.depth was.canonical settings.flow origin r opened) step)
+        subst (λ (z : TomlNode). TomlStep settings (value_due z) (walk_at was opened) result (walk_at now after)) (sym seen) (step_same (collection_due r)
+        (value_due (value_of_rest origin r)) opened opened after result (due_begun settings.depth was.canonical settings.flow origin r opened) step)
 
     same_events : (between : WriterState) (content : Scalar) (part : Due) (kept : List Rest) → between.canonical ≡ was.canonical
         → scalar content ∷ all_due settings.flow part (walk_at between kept) ≡ scalar content ∷ all_due settings.flow part (walk_at was kept)
-    same_events between content part kept same =
-        ap (λ (c : Bool). scalar content ∷ (events_due c settings.flow part ++ pending c settings.flow kept)) same
+    same_events between content part kept same = ap (λ (c : Bool). scalar content ∷ (events_due c settings.flow part ++ pending c settings.flow kept)) same
 
     -- the same was due, after a scalar
     pub step_behind : (between : WriterState) (content : Scalar) (part whole : Due) (kept opened after : List Rest) (answer : Result (Unit {0}) yaml_error_t)

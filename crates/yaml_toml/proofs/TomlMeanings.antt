@@ -1,33 +1,24 @@
 -- The meaning of the tree of a TOML value, at any place of each scalar.
-use Rattle.yaml_toml.proofs.Common.{Option, None, Some, codes, Bool, false, true, List, [], ◌++◌, ◌∷◌, refl, ◌≡◌, if◌then◌else◌, is_some, append-nil, ap}
-use Rattle.yaml_toml.proofs.Common.{subst, append_assoc, sym, ◌∙◌, and_parts, chars, node_tree, Text, plain, Scalar, scalar_tag, scalar_node, Nodes, Pairs}
-use Rattle.yaml_toml.proofs.Common.{no_nodes, nodes_and, no_pairs, pairs_and, Effective, is_empty, is_plain, Tree, int_tag, text_content, collection_in}
-use Rattle.yaml_toml.proofs.Common.{float_tag}
+use Rattle.yaml_toml.proofs.Common.{Option, None, Some, codes, Bool, false, true, List, [], ◌++◌, ◌∷◌, refl, ◌≡◌, if◌then◌else◌, is_some, append-nil, ap, subst}
+use Rattle.yaml_toml.proofs.Common.{append_assoc, sym, ◌∙◌, and_parts, chars, node_tree, Text, plain, Scalar, scalar_tag, scalar_node, Nodes, Pairs, no_nodes}
+use Rattle.yaml_toml.proofs.Common.{nodes_and, no_pairs, pairs_and, Effective, is_empty, is_plain, Tree, int_tag, text_content, collection_in, float_tag}
+use Rattle.yaml_toml.proofs.Common.{signed_decimal, json_word, infinite, moment_content, date_content, by_11, by_core, HasNumbers, ItemsHaveNumbers}
+use Rattle.yaml_toml.proofs.Common.{KeysHaveNumbers, Moment, ClockTime, special_text, moment_of, datetime_text}
+use Rattle.yaml_base.{proofs.PlainUnderQuotes.plain_under, specs.values.Resolved.meant_infinity}
 use Rattle.yaml_base.proofs.Common.{TagDirective, as_item, as_key, as_value, Place, has_no_nodes, has_no_pairs, is_simple, is_simple_at, charset_of, choice_of}
 use Rattle.yaml_base.proofs.Common.{style_asked_at, allowed_under, is_written_in_flow, entry_place, allowances, chosen, stood_plain, stood_quoted, Tagging}
 use Rattle.yaml_base.proofs.Common.{without_tag, sequence_tree, mapping_tree, mapping_node, meant_integer}
-use Rattle.yaml_base.proofs.PlainUnderQuotes.{plain_under}
 use Rattle.yaml_base.proofs.stream_nodes.StreamAgrees.{tagging_in, nodes_tree, pairs_tree}
-use Rattle.yaml_writer.proofs.ScalarMeanings.{IsPlainWord, ReadsScalars, flag_at, number_at, plain_word, reads_by_11, reads_by_core, text_at, untagged}
-use Rattle.yaml_writer.proofs.ScalarMeanings.{word_at}
-use Rattle.yaml_writer.proofs.DateLemmas.{dates_read, dates_plain}
-use Rattle.yaml_writer.proofs.FloatLemmas.{special_floats_read}
-use Rattle.yaml_writer.proofs.TimeLemmas.{timestamps_read}
-use Rattle.std.specs.Fmt.{signed_decimal}
-use Rattle.yaml_base.specs.values.Resolved.{meant_infinity}
-use Rattle.yaml_toml.specs.Events.{json_word, infinite, moment_content, date_content}
-use Rattle.yaml_toml.specs.Means.{SchemaReader, by_11, by_core, IsDated, MeansDate, MeansToml, ItemsMeanToml, KeysMean}
-use Rattle.yaml_toml.specs.Walk.{HasNumbers, ItemsHaveNumbers, KeysHaveNumbers}
-use Rattle.yaml_toml.proofs.Moments.{valid_moment, core_date}
-use Rattle.yaml_toml.proofs.Integers.{integer_read, integer_plain}
-use Rattle.yaml_toml.proofs.TomlTrees.{toml_node, items_nodes, keys_pairs}
+use Rattle.yaml_writer.proofs.{DateLemmas.dates_read, DateLemmas.dates_plain, FloatLemmas.special_floats_read, TimeLemmas.timestamps_read}
+use Rattle.yaml_writer.proofs.ScalarMeanings.{IsPlainWord, ReadsScalars, flag_at, number_at, plain_word, reads_by_11, reads_by_core, text_at, untagged, word_at}
+use Rattle.yaml_writer.specs.{Times.is_moment, Times.moment_in, Times.timestamp_text, Floats.special_meaning, declared.floats.SpecialFloat.SpecialFloat}
 use Rattle.yaml_writer.specs.Means.{canonical_tag, trees_in_order, pairs_in_order}
 use Rattle.yaml_writer.specs.Dates.{CalendarDate, date_text, is_calendar_date}
-use Rattle.yaml_writer.specs.Times.{Moment, ClockTime, is_moment, moment_in, timestamp_text}
-use Rattle.yaml_writer.specs.Floats.{special_text, special_meaning}
-use Rattle.yaml_writer.specs.TomlDates.{moment_of}
-use Rattle.yaml_writer.specs.declared.floats.SpecialFloat.{SpecialFloat, TheVariants.Infinity, TheVariants.NegativeInfinity, TheVariants.NotANumber}
-use Rattle.toml_datetime.specs.{Text.datetime_text, declared.datetime.Datetime.Datetime}
+use Rattle.yaml_writer.specs.declared.floats.SpecialFloat.TheVariants.{Infinity, NegativeInfinity, NotANumber}
+use Rattle.yaml_toml.specs.Means.{SchemaReader, IsDated, MeansDate, MeansToml, ItemsMeanToml, KeysMean}
+use Rattle.yaml_toml.proofs.{Moments.valid_moment, Moments.core_date, Integers.integer_read, Integers.integer_plain}
+use Rattle.yaml_toml.proofs.TomlTrees.{toml_node, items_nodes, keys_pairs}
+use Rattle.toml_datetime.specs.declared.datetime.Datetime.{Datetime}
 use Rattle.toml_ordered.specs.Data as toml
 
 -- a reader's types of the scalars of TOML
@@ -62,8 +53,7 @@ infinite_meant false = refl
 module _ (reader : SchemaReader) (reads : ReadsToml reader) (s : Effective) (place : Place) (simple : Bool) where
   abbrev tagging_for : (canonical : Bool) → Scalar → Tagging
   tagging_for canonical content =
-      tagging_in (scalar_tag canonical content)
-      (chosen (allowed_under s content) (style_asked_at s place content) (is_empty content.value)
+      tagging_in (scalar_tag canonical content) (chosen (allowed_under s content) (style_asked_at s place content) (is_empty content.value)
       (is_some (scalar_tag canonical content)) content.plain_implicit content.quoted_implicit place.in_flow simple canonical)
 
   dated : (date : CalendarDate) (time : Option ClockTime) (canonical : Bool) → is_moment (record { date = date; time = time }) ≡ true
@@ -73,19 +63,16 @@ module _ (reader : SchemaReader) (reads : ReadsToml reader) (s : Effective) (pla
   dated date (Some time) true valid = refl
   dated date (Some time) false valid = refl
   dated date None false valid =
-      subst (λ (x : Bool). IsDated reader (record { date = date; time = None }) (without_tag (if x then stood_plain else stood_quoted)) (date_text date))
-      (sym (ap is_plain
-      (plain_under s.double_quotes (allowances (charset_of s) (date_text date)) plain (is_empty (date_text date)) false true true place.in_flow simple false
-      (dates_plain date (charset_of s) false true true place.in_flow simple is refl))))
-      (refl, reads.dates date is)
+      subst (λ (x : Bool). IsDated reader (record { date = date; time = None }) (without_tag (if x then stood_plain else stood_quoted)) (date_text date)) (sym
+      (ap is_plain (plain_under s.double_quotes (allowances (charset_of s) (date_text date)) plain (is_empty (date_text date)) false true true place.in_flow
+      simple false (dates_plain date (charset_of s) false true true place.in_flow simple is refl)))) (refl, reads.dates date is)
     where
       is : is_calendar_date date ≡ true
       is = (and_parts (is_calendar_date date) true valid).0
 
   moment_means : (moment : Moment) → is_moment moment ≡ true
       → IsDated reader moment (tagging_in (scalar_tag s.canonical (moment_content s.canonical moment))
-      (choice_of s place simple (moment_content s.canonical moment)))
-      (timestamp_text moment) × (moment_in (timestamp_text moment) ≡ Some moment)
+      (choice_of s place simple (moment_content s.canonical moment))) (timestamp_text moment) × (moment_in (timestamp_text moment) ≡ Some moment)
   moment_means moment valid = (dated moment.date moment.time s.canonical valid, (timestamps_read moment valid).1)
 
 -- ---- values
@@ -116,25 +103,21 @@ module _ (reader : SchemaReader) (reads : ReadsToml reader) (s : Effective) (dir
     pub node_means : (x : toml.TomlNode) → HasNumbers x → (place : Place) → MeansToml reader x (node_tree (toml_node x s.canonical in_flow) s directives place)
     node_means (toml.string text) numbers place = text_at reader.schema reads.reads s directives text place
     node_means (toml.integer z) fits place =
-        word_at reader.schema reads.reads s directives int_tag (signed_decimal z) (meant_integer z) (integer_read reader.schema reads.reads z fits) refl
-        (integer_plain z fits) place
+        word_at _ reads.reads s directives int_tag (signed_decimal z) _ (integer_read _ reads.reads z fits) refl (integer_plain z fits) place
     node_means (toml.decimal word) is place = number_at reader.schema reads.reads s directives (json_word word) is place
     node_means (toml.infinity negative) numbers place =
         let value = infinite negative in
-        word_at reader.schema reads.reads s directives float_tag (special_text value) (special_meaning value) (reads.specials value) (special_tagged value)
-        (special_plain value) place
+        word_at _ reads.reads s directives _ (special_text value) _ (reads.specials value) (special_tagged value) (special_plain value) place
         ∙ infinite_meant negative
     node_means toml.not_a_number numbers place =
-        word_at reader.schema reads.reads s directives float_tag (special_text NotANumber) (special_meaning NotANumber) (reads.specials NotANumber) refl
-        (special_plain NotANumber) place
+        word_at _ reads.reads s directives float_tag (special_text NotANumber) _ (reads.specials NotANumber) refl (special_plain NotANumber) place
     node_means (toml.boolean flag) numbers place = flag_at reader.schema reads.reads s directives flag place
     node_means (toml.datetime date) numbers place = date_at date place (moment_of date) refl
     node_means (toml.array items) numbers place =
         let flow = is_written_in_flow s place (collection_in in_flow) (has_no_nodes (items_nodes items s.canonical in_flow no_nodes)) in
         let after = items_mean items numbers no_nodes flow in
-        subst (λ (tag : Option Text). MeansToml reader (toml.array items) (sequence_tree None tag
-        (nodes_tree (items_nodes items s.canonical in_flow no_nodes) s directives flow)))
-        (sym (untagged s.canonical in_flow)) (subst (ItemsMeanToml reader items) (sym after.1) after.2)
+        subst (λ (tag : Option Text). MeansToml reader (toml.array items) (sequence_tree None tag (nodes_tree (items_nodes items s.canonical in_flow no_nodes) s
+        directives flow))) (sym (untagged s.canonical in_flow)) (subst (ItemsMeanToml reader items) (sym after.1) after.2)
     node_means (toml.table origin keys) numbers place =
         let flow = is_written_in_flow s place (collection_in in_flow) (has_no_pairs (keys_pairs keys s.canonical in_flow no_pairs)) in
         let after = keys_mean keys numbers no_pairs flow in

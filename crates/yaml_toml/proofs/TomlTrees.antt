@@ -1,18 +1,15 @@
 -- The tree of the events of a TOML document, which is written alike in every mode.
-use Rattle.yaml_writer.proofs.DocumentsOf.{stream_of, stream_flat as one_flat}
-use Rattle.yaml_writer.proofs.Unsigned.{collection_unsigned, number_unsigned, text_unsigned, word_unsigned}
 use Rattle.yaml_toml.proofs.Common.{None, Some, Option, Bool, true, false, List, [], ◌++◌, ◌∷◌, ◌||◌, refl, ◌≡◌, append-nil, append_assoc, ap, sym, ◌∙◌, chars}
 use Rattle.yaml_toml.proofs.Common.{Event, scalar, sequence_start, sequence_end, Nodes, mapping_start, mapping_end, scalar_node, Pairs, no_nodes, nodes_and}
 use Rattle.yaml_toml.proofs.Common.{no_pairs, pairs_and, Stream, collection_tag, directives_in_force, text_content, bool_content, collection_in, opening}
-use Rattle.yaml_toml.proofs.Common.{closing, bool_tag, bool_text, int_tag, float_tag, number_tag, number_in, yaml_number, is_json_integer}
+use Rattle.yaml_toml.proofs.Common.{closing, bool_tag, bool_text, int_tag, float_tag, number_tag, number_in, yaml_number, is_json_integer, signed_decimal}
+use Rattle.yaml_toml.proofs.Common.{Header, json_word, integer_content, decimal_content, infinite, special_content, moment_content, date_content, toml_events}
+use Rattle.yaml_toml.proofs.Common.{toml_items_events, keys_events, special_text, Moment, ClockTime, moment_of, datetime_text}
+use Rattle.yaml_writer.{proofs.DocumentsOf.stream_of, proofs.DocumentsOf.stream_flat as one_flat, specs.declared.floats.SpecialFloat.TheVariants.NotANumber}
+use Rattle.yaml_writer.proofs.Unsigned.{collection_unsigned, number_unsigned, text_unsigned, word_unsigned}
 use Rattle.yaml_base.proofs.Common.{Node, sequence_node, mapping_node, node_events, nodes_events, pairs_events, stream_events, or_from}
 use Rattle.yaml_base.specs.StreamLaw.{tag_has_flow_indicator, node_has_flow_indicator, nodes_have_flow_indicator, pairs_have_flow_indicator}
-use Rattle.std.specs.Fmt.{signed_decimal}
-use Rattle.toml_ordered.specs.declared.tree.Origin.TheVariants.{Header}
-use Rattle.yaml_toml.specs.Events.{json_word, integer_content, decimal_content, infinite, special_content, moment_content, date_content, toml_events}
-use Rattle.yaml_toml.specs.Events.{toml_items_events, keys_events}
-use Rattle.yaml_writer.specs.{Floats.special_text, Times.Moment, Times.ClockTime, declared.floats.SpecialFloat.TheVariants.NotANumber, TomlDates.moment_of}
-use Rattle.toml_datetime.specs.{Text.datetime_text, declared.datetime.Datetime.Datetime}
+use Rattle.toml_datetime.specs.declared.datetime.Datetime.{Datetime}
 use Rattle.toml_ordered.specs.Data as toml
 
 -- a value as a node; items, and keys with their values, after others
@@ -57,9 +54,8 @@ mutual
   node_flat (toml.tables done last) canonical in_flow =
       ap (λ (events : List Event). sequence_start (collection_in in_flow) ∷ ((events ++ (mapping_start (collection_in in_flow)
       ∷ (pairs_events (keys_pairs last canonical in_flow no_pairs) ++ mapping_end ∷ []))) ++ sequence_end ∷ [])) (items_flat done canonical in_flow no_nodes)
-      ∙ ap
-      (λ (events : List Event). sequence_start (collection_in in_flow) ∷ ((toml_items_events canonical in_flow done ++ (mapping_start (collection_in in_flow)
-      ∷ (events ++ mapping_end ∷ []))) ++ sequence_end ∷ [])) (keys_flat last canonical in_flow no_pairs)
+      ∙ ap (λ (events : List Event). sequence_start (collection_in in_flow) ∷ ((toml_items_events canonical in_flow done ++
+      (mapping_start (collection_in in_flow) ∷ (events ++ mapping_end ∷ []))) ++ sequence_end ∷ [])) (keys_flat last canonical in_flow no_pairs)
       ∙ ap (λ (events : List Event). sequence_start (collection_in in_flow) ∷ events)
       (last_table (mapping_start (collection_in in_flow)) (toml_items_events canonical in_flow done) (keys_events canonical in_flow last))
   node_flat _ canonical in_flow = refl

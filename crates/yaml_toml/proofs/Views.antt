@@ -1,10 +1,9 @@
 -- A value of the reader beside the one that contracts see, and a step seen so.
-use Rattle.yaml_toml.proofs.Common.{◌≡◌, Bool}
-use Rattle.std.proofs.Common.{ℤ, String, Global, string_bytes, rules}
+use Rattle.yaml_toml.proofs.Common.{◌≡◌, Bool, ℤ, string_bytes, node_view}
+use Rattle.std.proofs.Common.{String, Global, rules}
 use Rattle.toml_datetime.specs.declared.datetime.Datetime.{Datetime as DatetimeValue}
-use Rattle.toml_ordered.specs.Data as toml
-use Rattle.toml_ordered.specs.Data.{node_view}
 use Rattle.toml_ordered.specs.declared.tree.Node.{Text, Integer, Decimal, Infinity, NotANumber, Boolean, Datetime, the_lemmas}
+use Rattle.toml_ordered.specs.Data as toml
 
 pub node_view-Text : (s : String Global) → node_view (Text s) ≡ toml.string (string_bytes s)
 node_view-Text s = search (rules, the_lemmas)

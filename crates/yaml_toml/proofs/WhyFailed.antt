@@ -1,23 +1,18 @@
 -- The reasons why a writer failed that was given the events of a document.
 use Rattle.yaml_toml.proofs.Common.{ℕ, ◌+◌, ◌≤◌, ◌<◌, Option, None, Some, Bool, true, List, [], ◌++◌, ◌∷◌, refl, ◌≡◌, append-nil, append_assoc, inl, inr, ap}
 use Rattle.yaml_toml.proofs.Common.{subst, sym, ◌∙◌, arith, cond, IfSome, Event, IsPrefix, Settings, State, WriterState, most_open, list_all, Stream, is_sound}
-use Rattle.yaml_toml.proofs.Common.{open_count, begins_collection, opening, closing, subst₂}
-use Rattle.std.proofs.lemmas.Option.{none-some, same_Some}
+use Rattle.yaml_toml.proofs.Common.{open_count, begins_collection, opening, closing, subst₂, none-some, IsBare, document_nesting, toml_events, fault_error}
+use Rattle.yaml_toml.proofs.Common.{toml_writers_error, TomlError, yaml_error_t, Memory, ordered_document, Fault}
+use Rattle.std.proofs.lemmas.Option.{same_Some}
 use Rattle.yaml_base.proofs.Common.{stream_start, stream_events, sum_by-append, count_by, ends_collection}
+use Rattle.yaml_base.specs.declared.errors.yaml_error_t.TheVariants.{WriteError, TooDeep}
+use Rattle.yaml_toml.proofs.{TomlTrees.all_events, TomlTrees.root_of, TomlTrees.stream_flat, TomlTrees.toml_stream, YamlOf.new_events}
 use Rattle.yaml_toml.proofs.Accepting.{document_shallow, stream_shallow, stream_sound, toml_accepted}
-use Rattle.yaml_toml.proofs.TomlTrees.{all_events, root_of, stream_flat, toml_stream}
-use Rattle.yaml_toml.proofs.YamlOf.{new_events}
-use Rattle.yaml_writer.proofs.Common.{plain_start}
-use Rattle.yaml_writer.proofs.WhyFailed.{NeverPasses, fails_by, first_passes, overflowed_more, refused_deeper, refused_depth, unfinished_deeper}
-use Rattle.yaml_writer.proofs.WhyFailed.{unfinished_depth}
-use Rattle.yaml_writer.proofs.OpenLevels.{gave_none}
+use Rattle.yaml_toml.specs.{Depth.NestsDeeper, Depth.NestsWithin, Walk.WroteToml}
+use Rattle.yaml_toml.specs.Failing.{DocumentOverLimit, TomlFailsBy, GaveFirst, StopsInDocument}
+use Rattle.yaml_writer.proofs.{Common.plain_start, WhyFailed.NeverPasses, WhyFailed.fails_by, WhyFailed.first_passes, WhyFailed.overflowed_more}
+use Rattle.yaml_writer.proofs.{WhyFailed.refused_deeper, WhyFailed.refused_depth, WhyFailed.unfinished_deeper, WhyFailed.unfinished_depth, OpenLevels.gave_none}
 use Rattle.yaml_writer.specs.{Failing.HasErrorSaid, Unfinished.IsNoStream, Unfinished.IsUnfinished, Unfinished.PassesLimit, Writing.IsNewWriter}
-use Rattle.yaml_writer.specs.{WasGiven.IsBare}
-use Rattle.yaml_toml.specs.{Depth.NestsDeeper, Depth.NestsWithin, Depth.document_nesting, Events.toml_events, Failing.DocumentOverLimit, Failing.TomlFailsBy}
-use Rattle.yaml_toml.specs.{Failing.GaveFirst, Failing.StopsInDocument, Walk.WroteToml, Walk.fault_error, Walk.toml_writers_error}
-use Rattle.yaml_toml.specs.{declared.error.TomlError.TomlError}
-use Rattle.yaml_base.specs.declared.errors.yaml_error_t.{yaml_error_t, TheVariants.Memory, TheVariants.WriteError, TheVariants.TooDeep}
-use Rattle.toml_ordered.specs.{Grammar.ordered_document, declared.fault.Fault.Fault}
 use Rattle.yaml_emitter.proofs.{Common.IsRefusal, Common.StandsAfter, standing.StandingPromises.promises_refusal}
 use Rattle.toml_ordered.specs.Data as toml
 use Rattle.toml_ordered.specs.declared.fault.Fault.TheVariants as fault
@@ -76,14 +71,11 @@ module _ (given : Settings) (in_flow : Bool) (depth : ℕ) (text : List ℕ) (ro
 
     whole : (opening ++ first) ++ later ≡ all
     whole =
-        ap (λ (more : List Event). opening ++ more)
-        (sym (append_assoc first begins.rest closing) ∙ ap (λ (more : List Event). more ++ closing) begins.parts)
+        ap (λ (more : List Event). opening ++ more) (sym (append_assoc first begins.rest closing) ∙ ap (λ (more : List Event). more ++ closing) begins.parts)
 
     full : error ≡ WriteError → DocumentOverLimit given in_flow text
     full same =
-        over_limit
-        (subst (PassesLimit given) whole
-        (overflowed_more given later (opening ++ first) state stands.so (is ∙ ap (λ (e : yaml_error_t). Some e) same)))
+        over_limit (subst (PassesLimit given) whole (overflowed_more _ later (opening ++ first) state stands.so (is ∙ ap (λ (e : yaml_error_t). Some e) same)))
 
     too_deep : IsRefusal error → (error ≡ TooDeep) × ((most_open < depth) × NestsDeeper most_open text)
     too_deep refusal =
@@ -129,12 +121,7 @@ module _ (given : Settings) (in_flow : Bool) (depth : ℕ) (text : List ℕ) (ro
 
 -- nothing was
 gave_nothing : (depth : ℕ) (due : List Event) (was : WriterState) → IsBare was → GaveFirst depth due was was
-gave_nothing depth due was bare = record {
-  given = [];
-  begins = record { rest = due; parts = refl };
-  few = none_open;
-  gave = gave_none was bare;
-}
+gave_nothing depth due was bare = record { given = []; begins = record { rest = due; parts = refl }; few = none_open; gave = gave_none was bare }
   where
     none_open : (prefix rest : List Event) → prefix ++ rest ≡ [] → open_count prefix ≤ depth
     none_open [] rest is = omega arith

@@ -1,13 +1,10 @@
 -- The stream of a TOML document, and its reading.
+use Rattle.yaml_toml.proofs.Common.{yaml_error_t, ℕ, Some, Bool, true, List, [], map, ◌++◌, ◌∷◌, ◌≡◌, ◌∙◌, ap₂, list_all, Event, Result, has_scalar_texts}
+use Rattle.yaml_toml.proofs.Common.{Settings, Tree, WriterState, opening, toml_events, by_11, by_core}
 use Rattle.yaml_base.proofs.Common.{stream_trees}
-use Rattle.yaml_base.specs.declared.errors.yaml_error_t.{yaml_error_t}
 use Rattle.yaml_emitter.specs.Emits.{Emits}
-use Rattle.yaml_toml.proofs.Common.{ℕ, Some, Bool, true, List, [], map, ◌++◌, ◌∷◌, ◌≡◌, ◌∙◌, ap₂, list_all, Event, Result, has_scalar_texts, Settings, Tree}
-use Rattle.yaml_toml.proofs.Common.{WriterState, opening}
-use Rattle.yaml_toml.proofs.Several.{several_read}
-use Rattle.yaml_toml.proofs.TomlTrees.{root_of}
-use Rattle.yaml_toml.specs.{Events.toml_events, Means.ReadsAsToml, Means.IsYamlOfToml, Means.by_11, Means.by_core, Several.AllTablesMean}
-use Rattle.yaml_toml.specs.{Several.ReadsAsTables, Walk.WroteToml}
+use Rattle.yaml_toml.proofs.{Several.several_read, TomlTrees.root_of}
+use Rattle.yaml_toml.specs.{Means.ReadsAsToml, Means.IsYamlOfToml, Several.AllTablesMean, Several.ReadsAsTables, Walk.WroteToml}
 use Rattle.yaml_writer.specs.{Means.plain_document, Writing.Finishes, Writing.IsNewWriter}
 use Rattle.toml_ordered.specs.Data as toml
 

@@ -8,26 +8,22 @@ returns-in_default c = record { refused = λ denied. absurd denied; deep = tt; f
 
 pub returns-in-Err : goal.returns-in-Err
 returns-in-Err c =
-    let s = c.args.settings in
     let first = c.in-Ok in
     let unwritten = c.in-Err.ensures in
     record {
       refused = unwritten.refused;
       deep = unwritten.deep;
-      failed = text_failed (seen_settings s.emitter) s.flow s.depth c.args.text.now first.writer c.write_toml.new.writer first.ensures.made
-          c.promised.ensures.stands c.in-Err.error unwritten.stopped unwritten.sound;
+      failed = text_failed _ _ _ _ _ _ first.ensures.made c.promised.ensures.stands _ unwritten.stopped unwritten.sound;
       place = unwritten.place;
       reason = unwritten.reason;
     }
 
 pub returns-in-Ok-finish : goal.returns-in-Ok-finish
 returns-in-Ok-finish c =
-    let s = c.args.settings in
     let first = c.in-Ok in
     let wrote = c.in_default-write_toml.ensures in
     record {
-      stream = yaml_of (seen_settings s.emitter) s.flow c.args.text.now c.in-Ok-finish.bytes.items first.writer c.write_toml.new.writer
-          first.ensures.made wrote.written c.promised-2.ensures.stands.texts c.in-Ok-finish.ensures.finishes;
+      stream = yaml_of _ _ _ _ _ _ first.ensures.made wrote.written c.promised-2.ensures.stands.texts c.in-Ok-finish.ensures.finishes;
       nests = wrote.nests;
     }
 

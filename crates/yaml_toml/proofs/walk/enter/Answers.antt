@@ -1,6 +1,5 @@
-use Rattle.std.proofs.lemmas.Grind.{common_steps}
-use Rattle.yaml_toml.specs.WalkSteps.{collection_due}
-use Rattle.yaml_toml.proofs.{Common.arith, Stepping.step_enter, Stepping.step_memory}
+use Rattle.yaml_toml.proofs.Common.{common_steps, collection_due, arith}
+use Rattle.yaml_toml.proofs.Stepping.{step_enter, step_memory}
 use Rattle.yaml_toml.proofs.walk.enter.Goals as goal
 
 pub returns-in-Err : goal.returns-in-Err

@@ -1,11 +1,7 @@
-use Rattle.yaml_toml.proofs.Common.{◌≡◌, ◌∷◌, ◌++◌, [], ◌+◌, List, refl, ap, subst, sym, ◌∙◌, append_assoc, arith}
-use Rattle.std.proofs.lemmas.Grind.{common_steps}
-use Rattle.toml_ordered.specs.Data.{items_view, node_view}
-use Rattle.yaml_base.specs.declared.kinds.CollectionKind.TheVariants.{Sequence}
-use Rattle.yaml_toml.proofs.Pending.{items_left-more}
-use Rattle.yaml_toml.proofs.Stepping.{due_next, step_end, step_memory, step_same}
-use Rattle.yaml_toml.specs.{Depth.items_nesting, Walk.ItemsHaveNumbers, Walk.items_left, Walk.items_size, Walk.kinds_of, WalkSteps.rest_due}
-use Rattle.yaml_toml.specs.{WalkSteps.value_due}
+use Rattle.yaml_toml.proofs.Common.{◌≡◌, ◌∷◌, ◌++◌, [], ◌+◌, List, refl, ap, subst, sym, ◌∙◌, append_assoc, arith, common_steps, items_view, node_view}
+use Rattle.yaml_toml.proofs.Common.{Sequence, items_nesting, ItemsHaveNumbers, kinds_of, rest_due, value_due}
+use Rattle.yaml_toml.proofs.{Pending.items_left-more, Stepping.due_next, Stepping.step_end, Stepping.step_memory, Stepping.step_same}
+use Rattle.yaml_toml.specs.Walk.{items_left, items_size}
 use Rattle.toml_ordered.specs.declared.tree.Node.{Node as CodeNode}
 use Rattle.yaml_toml.specs.declared.walk.Rest.TheVariants as rest
 use Rattle.yaml_toml.proofs.walk.write_item.Goals as goal
@@ -40,10 +36,6 @@ returns-in_default g c =
     let xs = c.in-Some.others.now in
     let all : x ∷ xs ≡ a.items.now = grind (arith, common_steps) in
     let sizes = ap (λ (items : List CodeNode). items_size (items_view items)) all in
-    step_same s was c.write_node.new.writer (value_due (node_view x)) (rest_due (rest.Items a.items)) kept opened c.write_node.new.opened.items
-    c.write_node.result
-    (due_next [] s.depth was.canonical s.flow (node_view x) (rest.Items c.in-Some.others) (rest.Items a.items) opened kept c.in_default.ensures.kept refl
-    (sym (items_left-more was.canonical s.flow x xs) ∙ ap (items_left was.canonical s.flow) all)
-    (subst (λ (items : List CodeNode). ItemsHaveNumbers (items_view items)) all) (omega (arith, sizes))
-    (ap (λ (items : List CodeNode). items_nesting (items_view items)) all))
-    c.write_node.ensures
+    step_same s _ _ _ _ _ _ _ _ (due_next [] _ _ _ _ _ _ _ _ c.in_default.ensures.kept refl
+    (sym (items_left-more _ _ x xs) ∙ ap (items_left was.canonical s.flow) all) (subst (λ (items : List CodeNode). ItemsHaveNumbers (items_view items)) all)
+    (omega (arith, sizes)) (ap (λ (items : List CodeNode). items_nesting (items_view items)) all)) c.write_node.ensures

@@ -1,13 +1,9 @@
 use Rattle.yaml_toml.proofs.Common.{◌≡◌, ◌∷◌, ◌++◌, [], ◌+◌, ℕ, List, Result, refl, ap, subst, sym, ◌∙◌, append_assoc, arith, Event, scalar, chars}
-use Rattle.yaml_toml.proofs.Common.{text_content}
-use Rattle.std.proofs.lemmas.Grind.{common_steps}
-use Rattle.std.specs.Prelude.{string_bytes}
-use Rattle.yaml_base.specs.declared.kinds.CollectionKind.TheVariants.{Mapping}
-use Rattle.yaml_toml.proofs.Pending.{keys_left-more}
-use Rattle.yaml_toml.proofs.Stepping.{due_next, step_behind, step_end, step_failed, step_memory}
-use Rattle.yaml_toml.specs.{Depth.keys_nesting, Events.toml_events, Walk.IsStopOf, Walk.KeysHaveNumbers, Walk.keys_left, Walk.keys_size, Walk.kinds_of}
-use Rattle.yaml_toml.specs.{Walk.pending, WalkSteps.rest_due, WalkSteps.value_due, declared.walk.Stop.Stop}
-use Rattle.toml_ordered.specs.{Data.TomlNodes, Data.no_nodes, Data.node, Data.node_view, Keys.live_view}
+use Rattle.yaml_toml.proofs.Common.{text_content, common_steps, string_bytes, Mapping, keys_nesting, toml_events, IsStopOf, KeysHaveNumbers, kinds_of, pending}
+use Rattle.yaml_toml.proofs.Common.{rest_due, value_due, Stop, TomlNodes, node, node_view}
+use Rattle.yaml_toml.proofs.{Pending.keys_left-more, Stepping.due_next, Stepping.step_behind, Stepping.step_end, Stepping.step_failed, Stepping.step_memory}
+use Rattle.yaml_toml.specs.Walk.{keys_left, keys_size}
+use Rattle.toml_ordered.specs.{Data.no_nodes, Keys.live_view}
 use Rattle.yaml_toml.specs.declared.walk.Rest.TheVariants as rest
 use Rattle.yaml_toml.proofs.walk.write_member.Goals as goal
 
@@ -20,10 +16,8 @@ returns-in-None g c =
     let none : no_nodes ≡ live_view a.keys = sym c.in-None.ensures in
     let (outer, levels) = c.requires.innermost in
     let within = levels ∙ sym (append_assoc outer (kinds_of opened) (Mapping ∷ [])) in
-    step_end s was c.end_innermost.new.writer opened (rest.Members a.keys) c.end_innermost.result c.stop_of.result
-    (ap (keys_left was.canonical s.flow) none) (subst KeysHaveNumbers none tt) (ap (λ (ns : TomlNodes). 1 + keys_size ns) none) (ap keys_nesting none)
-    c.stop_of.ensures
-    (c.end_innermost.ensures.kept (outer ++ kinds_of opened) Mapping within) (c.end_innermost.ensures.ended Mapping)
+    step_end s _ _ _ _ _ _ (ap (keys_left was.canonical s.flow) none) (subst KeysHaveNumbers none tt) (ap (λ (ns : TomlNodes). 1 + keys_size ns) none)
+    (ap keys_nesting none) c.stop_of.ensures (c.end_innermost.ensures.kept (outer ++ kinds_of opened) Mapping within) (c.end_innermost.ensures.ended Mapping)
 
 pub returns-in-Err : goal.returns-in-Err
 returns-in-Err g c =
@@ -46,9 +40,7 @@ returns-in-Err-stop_of g c =
     let events =
     ap (λ (bytes : List ℕ). scalar (text_content (chars bytes)) ∷ more) named ∙ sym (keys_left-more canonical s.flow k x ns)
     ∙ ap (keys_left canonical s.flow) all in
-    step_failed s a.writer.now c.write_text.new.writer (rest_due (rest.Members a.keys)) opened c.keep.new.opened.items
-    (scalar (text_content (chars c.as_str.result.now))) (more ++ behind) c.write_text.result c.in-Err-stop_of.stop
-    (ap (λ (es : List Event). es ++ behind) events) (λ fits. fits)
+    step_failed s _ _ _ _ _ _ _ _ _ (ap (λ (es : List Event). es ++ behind) events) (λ fits. fits)
     (subst (λ (r : Result (Unit {0}) Stop). IsStopOf c.write_text.result r) c.in-Err-stop_of.is c.stop_of-in-Some.ensures) c.write_text.ensures.kept
 
 pub returns-in_default-stop_of : goal.returns-in_default-stop_of
@@ -69,10 +61,6 @@ returns-in_default-stop_of g c =
     ap (λ (bytes : List ℕ). scalar (text_content (chars bytes)) ∷ more) named ∙ sym (keys_left-more canonical s.flow k x ns)
     ∙ ap (keys_left canonical s.flow) all in
     let sizes = ap keys_size all in
-    step_behind s a.writer.now c.write_node.new.writer c.write_text.new.writer key (value_due x) (rest_due (rest.Members a.keys)) kept opened
-    c.write_node.new.opened.items c.write_text.result c.write_node.result
-    (due_next (scalar key ∷ []) s.depth canonical s.flow x (rest.Members c.in-Some.others) (rest.Members a.keys) opened kept
-    c.in_default.ensures.kept refl events (subst KeysHaveNumbers all) (omega (arith, sizes))
-    (ap keys_nesting all))
-    (subst (λ (r : Result (Unit {0}) Stop). IsStopOf c.write_text.result r) c.in_default-stop_of.is c.stop_of-in-Some.ensures) c.write_text.ensures.written
-    c.write_text.ensures.kept c.write_node.ensures
+    step_behind s _ _ _ _ _ _ _ _ _ _ _ (due_next _ _ _ _ x _ _ _ _ c.in_default.ensures.kept refl events (subst KeysHaveNumbers all) (omega (arith, sizes))
+    (ap keys_nesting all)) (subst (λ (r : Result (Unit {0}) Stop). IsStopOf c.write_text.result r) c.in_default-stop_of.is c.stop_of-in-Some.ensures)
+    c.write_text.ensures.written c.write_text.ensures.kept c.write_node.ensures

@@ -1,13 +1,10 @@
 use Rattle.yaml_toml.proofs.Common.{◌≡◌, ◌∷◌, ◌++◌, [], List, refl, ap, subst, sym, ◌∙◌, append_assoc, mapping_start, mapping_end, sequence_end, collection_in}
-use Rattle.yaml_toml.proofs.Common.{arith, Event}
+use Rattle.yaml_toml.proofs.Common.{arith, Event, max, suc, items_nesting, keys_nesting, toml_events, toml_items_events, keys_events, ItemsHaveNumbers}
+use Rattle.yaml_toml.proofs.Common.{TomlStep, rest_due, value_due, walk_at, Rest, items_view, node_view, Header}
 use Rattle.std.proofs.lemmas.List.{nil_from_length}
-use Rattle.std.specs.Prelude.{max, suc}
-use Rattle.yaml_toml.proofs.Stepping.{due_next, step_begun, step_memory, step_same}
-use Rattle.yaml_toml.specs.{Depth.items_nesting, Depth.keys_nesting, Events.toml_events, Events.toml_items_events, Events.keys_events, Walk.ItemsHaveNumbers}
-use Rattle.yaml_toml.specs.{Walk.items_size, WalkSteps.TomlStep, WalkSteps.rest_due, WalkSteps.value_due, WalkSteps.walk_at, declared.walk.Rest.Rest}
-use Rattle.toml_ordered.specs.{Data.items_view, Data.node_view, Keys.live_view, declared.tree.Origin.TheVariants.Header}
+use Rattle.yaml_toml.{proofs.Stepping.due_next, proofs.Stepping.step_begun, proofs.Stepping.step_memory, proofs.Stepping.step_same, specs.Walk.items_size}
+use Rattle.toml_ordered.specs.{Keys.live_view, declared.tree.Node.Node as CodeNode}
 use Rattle.toml_ordered.specs.Data as toml
-use Rattle.toml_ordered.specs.declared.tree.Node.{Node as CodeNode}
 use Rattle.yaml_toml.specs.declared.walk.Rest.TheVariants as rest
 use Rattle.yaml_toml.proofs.walk.write_rest.Goals as goal
 
@@ -19,8 +16,7 @@ returns-in-Err g c =
 pub returns-in-Err-keep : goal.returns-in-Err-keep
 returns-in-Err-keep g c =
     let a = c.args in
-    step_memory a.settings.now a.writer.now (rest_due a.rest) a.opened.now.items c.keep-in-Some.new.opened.items c.in-Err-keep.stop
-    c.in-Err-keep.ensures.failed
+    step_memory a.settings.now a.writer.now (rest_due a.rest) a.opened.now.items c.keep-in-Some.new.opened.items c.in-Err-keep.stop c.in-Err-keep.ensures.failed
 
 pub returns-in_default : goal.returns-in_default
 returns-in_default g c =
@@ -62,8 +58,7 @@ returns-in_default-keep g c =
     let x = c.in-Some.table.now in
     let xs = c.in-Some.others.now in
     let all : x ∷ xs ≡ done.now = sym c.in-Some.ensures.cases.0 in
-    let behind =
-    mapping_start (collection_in s.flow) ∷ (keys_events was.canonical s.flow (live_view last) ++ mapping_end ∷ sequence_end ∷ []) in
+    let behind = mapping_start (collection_in s.flow) ∷ (keys_events was.canonical s.flow (live_view last) ++ mapping_end ∷ sequence_end ∷ []) in
     let nested = suc (keys_nesting (live_view last)) in
     let nests = ap (λ (ds : List CodeNode). max (items_nesting (items_view ds)) nested) all in
     let sizes = ap (λ (ds : List CodeNode). items_size (items_view ds)) all in
@@ -73,6 +68,5 @@ returns-in_default-keep g c =
     c.in_default-keep.ensures.kept refl
     (sym (append_assoc (toml_events was.canonical s.flow (node_view x)) (toml_items_events was.canonical s.flow (items_view xs)) behind)
     ∙ ap (λ (ds : List CodeNode). toml_items_events was.canonical s.flow (items_view ds) ++ behind) all)
-    (λ have. (subst (λ (ds : List CodeNode). ItemsHaveNumbers (items_view ds)) all (have.0, have.1.0), have.1.1)) (omega (arith, sizes))
-    (omega (arith, nests)))
+    (λ have. (subst (λ (ds : List CodeNode). ItemsHaveNumbers (items_view ds)) all (have.0, have.1.0), have.1.1)) (omega (arith, sizes)) (omega (arith, nests)))
     c.write_node.ensures)

@@ -1,13 +1,8 @@
-use Rattle.yaml_writer.specs.declared.settings.ValueSettings.{ValueSettings}
-use Rattle.yaml_toml.proofs.Common.{◌≡◌, ◌+◌, [], List, Result, Ok, Err, WriterState, subst, ap, sym, arith}
-use Rattle.yaml_writer.proofs.AnswerLemmas.{kept_then}
-use Rattle.yaml_toml.proofs.Pending.{size-push}
-use Rattle.yaml_toml.proofs.Fitting.{nests_on, nests_stopped}
+use Rattle.yaml_toml.proofs.Common.{ValueSettings, ◌≡◌, ◌+◌, [], List, Result, Ok, Err, WriterState, subst, ap, sym, arith, kept_then, toml_events}
+use Rattle.yaml_toml.proofs.Common.{pending_size, rest_size, TomlStep, collection_due, value_due, walk_at, Rest, Stop, TomlNodes, table, table_view, Header}
+use Rattle.yaml_toml.proofs.{Pending.size-push, Fitting.nests_on, Fitting.nests_stopped, Stepping.step_begun}
 use Rattle.yaml_toml.proofs.Running.{innermost, runs_first, runs_on, runs_out, runs_stopped, so_given, stopped_first}
-use Rattle.yaml_toml.proofs.Stepping.{step_begun}
-use Rattle.yaml_toml.specs.{Events.toml_events, Walk.pending_size, Walk.rest_size, WalkSteps.TomlStep, WalkSteps.collection_due, WalkSteps.value_due}
-use Rattle.yaml_toml.specs.{WalkSteps.value_of_rest, WalkSteps.walk_at, declared.walk.Rest.Rest, declared.walk.Stop.Stop}
-use Rattle.toml_ordered.specs.{Data.TomlNodes, Data.table, Keys.table_view, declared.tree.Origin.TheVariants.Header}
+use Rattle.yaml_toml.specs.WalkSteps.{value_of_rest}
 use Rattle.yaml_toml.specs.declared.walk.Rest.TheVariants as rest
 use Rattle.yaml_toml.proofs.walk.write_root.Goals as goal
 
@@ -16,25 +11,20 @@ first_step : (settings : ValueSettings) (start now : WriterState) (root : TomlNo
     → opened ≡ [] → table Header root ≡ value_of_rest Header r → TomlStep settings (collection_due r) (walk_at start opened) result (walk_at now after)
     → TomlStep settings (value_due (table Header root)) (walk_at start []) result (walk_at now after)
 first_step settings start now root r opened after result none seen step =
-    step_begun settings start now Header r (table Header root) [] after result seen
-    (subst (λ (o : List Rest). TomlStep settings (collection_due r) (walk_at start o) result (walk_at now after)) none step)
+    step_begun _ _ _ _ r _ [] _ _ seen (subst (λ (o : List Rest). TomlStep settings (collection_due r) (walk_at start o) result (walk_at now after)) none step)
 
 pub rests-init : goal.rests-init
 rests-init g c =
     let root = table_view c.args.root.now in
-    runs_first c.args.settings.now c.args.writer.now c.enter.new.writer root c.enter.new.opened.items
-    (first_step c.args.settings.now c.args.writer.now c.enter.new.writer root (rest.Members c.live_keys.result) c.new-opened.result.items
-    c.enter.new.opened.items (Ok tt) c.new-opened.ensures.items
-    (ap (table Header) (sym c.live_keys.ensures)) c.in_default.ensures)
+    runs_first _ _ _ _ _ (first_step c.args.settings.now c.args.writer.now c.enter.new.writer root (rest.Members c.live_keys.result) c.new-opened.result.items
+    c.enter.new.opened.items (Ok tt) c.new-opened.ensures.items (ap (table Header) (sym c.live_keys.ensures)) c.in_default.ensures)
 
 pub returns-in-Err : goal.returns-in-Err
 returns-in-Err g c =
     let root = table_view c.args.root.now in
     let stopped = c.in-Err.stop in
-    stopped_first c.args.settings.now c.args.writer.now c.enter.new.writer root c.enter.new.opened.items stopped c.requires
-    (first_step c.args.settings.now c.args.writer.now c.enter.new.writer root (rest.Members c.live_keys.result) c.new-opened.result.items
-    c.enter.new.opened.items (Err stopped) c.new-opened.ensures.items
-    (ap (table Header) (sym c.live_keys.ensures)) c.in-Err.ensures)
+    stopped_first _ _ _ _ _ _ c.requires (first_step c.args.settings.now c.args.writer.now c.enter.new.writer root (rest.Members c.live_keys.result)
+    c.new-opened.result.items c.enter.new.opened.items (Err stopped) c.new-opened.ensures.items (ap (table Header) (sym c.live_keys.ensures)) c.in-Err.ensures)
 
 pub write_rest-requires-clause-innermost : goal.write_rest-requires-clause-innermost
 write_rest-requires-clause-innermost g c =
