@@ -1,26 +1,16 @@
 -- The texts of several files, sent one after another.
+use Rattle.std.proofs.{lemmas.List.Elements.All-append, lemmas.List.Elements.All-nil, lemmas.List.Elements.All-push, KnownBytes.Appends-trans}
 use Rattle.std.proofs.Common.{ℕ, Option, List, [], ◌∷◌, ◌++◌, map, flat_map, Bool, refl, ◌≡◌, ap, subst, sym, ◌∙◌, append-nil, append_assoc}
+use Rattle.std.specs.{Io.KnownBytes.Appends, List.All, Str.IsUtf8}
 use Rattle.yaml_base.proofs.Common.{flat_map-append, map-append, Event}
-use Rattle.std.specs.Io.KnownBytes.{Appends}
-use Rattle.std.specs.List.{All}
-use Rattle.std.specs.Str.{IsUtf8}
-use Rattle.std.proofs.lemmas.List.Elements.{All-append, All-nil, All-push}
 use Rattle.json.specs.Json.{Json}
 use Rattle.yaml_pen.specs.Page.{output_left}
-use Rattle.yaml_writer.specs.Writing.{WriterState}
-use Rattle.yaml_writer.specs.WasGiven.{between, WroteTaking}
-use Rattle.std.proofs.KnownBytes.{Appends-trans}
+use Rattle.yaml_writer.specs.{Writing.WriterState, WasGiven.between, WasGiven.WroteTaking}
 use Rattle.yaml_writer.proofs.GivenAndTaken.{begun_taken, stream_finished, taking_then}
-use Rattle.yaml_json.specs.JsonEvents.{json_events}
-use Rattle.yaml_json.specs.Refused.{HaveNamesOnce}
-use Rattle.yaml_json.specs.Texts.{texts_in}
-use Rattle.yaml_json.specs.Wrote.{AreJson, parts_events}
-use Rattle.yaml_json.specs.declared.settings.JsonSettings.{JsonSettings}
-use Rattle.yaml_json.proofs.TextsInTurn.{some_text}
-use Rattle.yaml_json.proofs.YamlOf.{opened_events}
+use Rattle.yaml_json.{specs.JsonEvents.json_events, specs.Refused.HaveNamesOnce, specs.Texts.texts_in, specs.Wrote.AreJson, specs.Wrote.parts_events}
+use Rattle.yaml_json.{specs.declared.settings.JsonSettings.JsonSettings, proofs.TextsInTurn.some_text, proofs.YamlOf.opened_events}
 use Rattle.json2yaml.specs.Conversions.{IsYamlOfJsonFiles, SentJsonFile}
-use Rattle.yaml_program.specs.Conversions.{WroteStream}
-use Rattle.yaml_program.specs.Streams.{BeganDocument, SentFiles, SentStream}
+use Rattle.yaml_program.specs.{Conversions.WroteStream, Streams.BeganDocument, Streams.SentFiles, Streams.SentStream}
 use Rattle.yaml_program.proofs.FilesInTurn.{each_sent}
 
 -- ---- texts after others
@@ -37,8 +27,7 @@ both_names unique (text ∷ texts) more once others = (once.0, both_names unique
 both_events : (canonical in_flow : Bool) (first : List ℕ × Json) (rest : List (List ℕ × Json)) (next : List ℕ × Json) (more : List (List ℕ × Json))
     → (parts_events canonical in_flow (first ∷ rest) ++ between) ++ parts_events canonical in_flow (next ∷ more)
     ≡ parts_events canonical in_flow ((first ∷ rest) ++ next ∷ more)
-both_events canonical in_flow first [] next more =
-    append_assoc (json_events canonical in_flow first.1) between (parts_events canonical in_flow (next ∷ more))
+both_events canonical in_flow first [] next more = append_assoc (json_events canonical in_flow first.1) between (parts_events canonical in_flow (next ∷ more))
 both_events canonical in_flow first (second ∷ rest) next more =
     let later = parts_events canonical in_flow (second ∷ rest) in
     let last = parts_events canonical in_flow (next ∷ more) in
@@ -116,11 +105,8 @@ module _ (settings : JsonSettings) where
         handed = (sent.handed ++ begins.bytes) ++ other.handed;
         sends = Appends-trans start holds after (sent.handed ++ begins.bytes) other.handed
             (Appends-trans start held holds sent.handed begins.bytes sent.sends begins.sends) other.sends;
-        wrote = subst (λ (events : List Event). WroteTaking was events ((sent.handed ++ begins.bytes) ++ other.handed) now)
-            (both_events was.canonical settings.values.flow sent.first sent.rest other.first other.rest)
-            (taking_then was begun now (parts_events was.canonical settings.values.flow parts ++ between) (parts_events was.canonical settings.values.flow more)
-            (sent.handed ++ begins.bytes) other.handed
-            (taking_then was middle begun (parts_events was.canonical settings.values.flow parts) between sent.handed begins.bytes sent.wrote begins.wrote)
+        wrote = subst (λ (events : List Event). WroteTaking was events ((sent.handed ++ begins.bytes) ++ other.handed) now) (both_events was.canonical
+            settings.values.flow sent.first sent.rest other.first other.rest) (taking_then _ _ _ _ _ _ _ (taking_then _ _ _ _ _ _ _ sent.wrote begins.wrote)
             (subst (λ (canonical : Bool). WroteTaking begun (parts_events canonical settings.values.flow more) other.handed now) same other.wrote));
       }
 
@@ -128,9 +114,8 @@ module _ (settings : JsonSettings) where
   pub all_sent : (files : List (List ℕ)) (was now : WriterState) (before after : Option (List ℕ)) → SentFiles (SentJsonFile settings) files was before now after
       → SentJsonFiles settings files was before now after
   all_sent files was now before after =
-      each_sent (SentJsonFile settings) (λ all now holds. SentJsonFiles settings all was before now holds)
-      (λ some file middle begun now held holds later. next_sent some file was middle begun now before held holds later) files was now before after
-      (λ file now holds. file_sent file was now before holds)
+      each_sent (SentJsonFile settings) (λ all now holds. SentJsonFiles settings all was before now holds) (λ some file middle begun now held holds later.
+      next_sent some file was middle begun now before held holds later) files was now before after (λ file now holds. file_sent file was now before holds)
 
   pub all_wrote : (files : List (List ℕ)) (before after : Option (List ℕ)) → SentStream (SentJsonFile settings) settings.values.emitter files before after
       → WroteStream (IsYamlOfJsonFiles settings) files before after
@@ -149,8 +134,7 @@ module _ (settings : JsonSettings) where
           cut = sent.cut;
           each = sent.each;
           names = sent.names;
-          stream = stream_finished whole.last.emitter bytes (emits.given ∙ new.settings)
-              (opened_events (λ c. parts_events c settings.values.flow parts) emits.appended new.events new.canonical)
-              (emits.taken ∙ ap (λ (taken : List ℕ). taken ++ sent.handed) new.untaken) finishes;
+          stream = stream_finished whole.last.emitter bytes (emits.given ∙ new.settings) (opened_events (λ c. parts_events c settings.values.flow parts)
+              emits.appended new.events new.canonical) (emits.taken ∙ ap (λ (taken : List ℕ). taken ++ sent.handed) new.untaken) finishes;
         },
       )

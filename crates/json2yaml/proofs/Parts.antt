@@ -1,17 +1,11 @@
 -- Texts with their values, and the events of these.
+use Rattle.std.{proofs.lemmas.List.Elements.All-head, proofs.lemmas.List.Elements.All-tail, specs.List.All, specs.Str.IsUtf8}
 use Rattle.std.proofs.Common.{ℕ, Option, Some, List, [], ◌∷◌, ◌++◌, map, Bool, ◌≡◌, refl, ap, sym, ◌∙◌, append-nil, append_assoc, unwrap_or}
 use Rattle.yaml_base.proofs.Common.{Event}
-use Rattle.std.proofs.lemmas.List.Elements.{All-head, All-tail}
-use Rattle.std.specs.List.{All}
-use Rattle.std.specs.Str.{IsUtf8}
-use Rattle.json.specs.Json.{Json, value}
-use Rattle.json.specs.Lex.{tokens}
-use Rattle.json.specs.Token.{Token}
+use Rattle.json.specs.{Json.Json, Json.value, Lex.tokens, Token.Token}
 use Rattle.yaml_writer.specs.WasGiven.{between}
-use Rattle.yaml_json.specs.Failing.{events_with_separators}
-use Rattle.yaml_json.specs.JsonEvents.{json_events}
+use Rattle.yaml_json.specs.{Failing.events_with_separators, JsonEvents.json_events, Wrote.AreJson, Wrote.parts_events}
 use Rattle.yaml_json.specs.Refused.{HasNamesOnce, HaveNamesOnce}
-use Rattle.yaml_json.specs.Wrote.{AreJson, parts_events}
 
 -- ---- texts and their values
 

@@ -1,47 +1,27 @@
 -- Files of which one is refused have no stream.
-use Rattle.std.proofs.Common.{ℕ, Option, Some, List, [], ◌∷◌, ◌++◌, map, flat_map, Bool, Err, ◌≡◌, ◌⊎◌, inl, inr, refl, ap, subst, sym}
-use Rattle.std.proofs.Common.{◌∙◌, append-nil, append_assoc, arith}
-use Rattle.yaml_base.proofs.Common.{flat_map-append, map-append, Event}
-use Rattle.std.specs.List.{All}
-use Rattle.std.specs.Str.{IsUtf8}
-use Rattle.json.specs.Json.{Json, value}
-use Rattle.json.specs.Lex.{tokens}
-use Rattle.json.specs.Token.{Token, key}
-use Rattle.json.specs.Tree.{json_tokens}
+use Rattle.std.proofs.Common.{ℕ, Option, Some, List, [], ◌∷◌, ◌++◌, map, flat_map, Bool, Err, ◌≡◌, ◌⊎◌, inl, inr, refl, ap, subst, sym, ◌∙◌, append-nil}
+use Rattle.std.proofs.Common.{append_assoc, arith}
+use Rattle.std.specs.{List.All, Str.IsUtf8}
+use Rattle.yaml_base.{proofs.Common.flat_map-append, proofs.Common.map-append, proofs.Common.Event, specs.declared.errors.yaml_error_t.yaml_error_t}
+use Rattle.json.specs.{Json.Json, Json.value, Lex.tokens, Token.Token, Token.key, Tree.json_tokens}
 use Rattle.json.proofs.Unique.Spelling.{value-json_tokens_back}
-use Rattle.yaml_base.specs.declared.errors.yaml_error_t.{yaml_error_t}
-use Rattle.yaml_pen.specs.Page.{output_left}
-use Rattle.yaml_pen.proofs.Writing.{some_from_result}
-use Rattle.yaml_emitter.specs.Given.{seen_settings}
-use Rattle.yaml_emitter.specs.Emits.{IsPromised}
-use Rattle.yaml_emitter.specs.State.{bytes_taken}
-use Rattle.yaml_writer.specs.Writing.{IsNewWriter, WriterState, closing, opening}
-use Rattle.yaml_writer.specs.WasGiven.{EmitsTaking, between}
+use Rattle.yaml_pen.{specs.Page.output_left, proofs.Writing.some_from_result}
+use Rattle.yaml_emitter.specs.{Given.seen_settings, Emits.IsPromised, State.bytes_taken}
+use Rattle.yaml_writer.specs.{Writing.IsNewWriter, Writing.WriterState, Writing.closing, Writing.opening, WasGiven.EmitsTaking, WasGiven.between}
 use Rattle.yaml_writer.proofs.GivenAndTaken.{emits_taking_then, begun_taken}
-use Rattle.yaml_json.specs.Failing.{events_with_separators}
-use Rattle.yaml_json.specs.JsonEvents.{json_events}
+use Rattle.yaml_json.specs.{Failing.events_with_separators, JsonEvents.json_events, Sent.IsSoundSending, Sent.StopsPartAt, Texts.texts_in}
+use Rattle.yaml_json.specs.{TokenEvents.tokens_events, Wrote.AreJson, Wrote.parts_events, declared.error.JsonError.JsonError}
+use Rattle.yaml_json.specs.{declared.error.StreamError.StreamError, declared.settings.JsonSettings.JsonSettings}
 use Rattle.yaml_json.specs.Refused.{ExplainsError, HasNamesOnce, HaveNamesOnce, IsOfText, NamesTwiceAt, TokensStopAt}
-use Rattle.yaml_json.specs.Sent.{IsSoundSending, StopsPartAt}
-use Rattle.yaml_json.specs.Texts.{texts_in}
-use Rattle.yaml_json.specs.TokenEvents.{tokens_events}
-use Rattle.yaml_json.specs.Wrote.{AreJson, parts_events}
-use Rattle.yaml_json.specs.declared.error.JsonError.{JsonError}
-use Rattle.yaml_json.specs.declared.error.JsonError.TheVariants as errors
-use Rattle.yaml_json.specs.declared.error.StreamError.{StreamError}
-use Rattle.yaml_json.specs.declared.error.StreamError.TheVariants as faults
-use Rattle.yaml_json.specs.declared.settings.JsonSettings.{JsonSettings}
-use Rattle.yaml_json.proofs.Refusing.{why_no_json}
-use Rattle.yaml_json.proofs.TextsInTurn.{some_text}
-use Rattle.yaml_json.proofs.TokenLemmas.{some_then, value_given}
-use Rattle.yaml_program.specs.Conversions.{HaveNoYaml}
-use Rattle.yaml_program.specs.Faults.{emitter_status}
+use Rattle.yaml_json.proofs.{Refusing.why_no_json, TextsInTurn.some_text, TokenLemmas.some_then, TokenLemmas.value_given}
+use Rattle.yaml_program.specs.{Conversions.HaveNoYaml, Faults.emitter_status}
 use Rattle.yaml_program.specs.Streams.{BeganDocument, RefusesDocument, RefusesEnd, RefusesNext, RefusesSome, RefusesStream, SentFiles}
 use Rattle.yaml_program.proofs.Refusals.{events_given, never_fails, never_unended}
-use Rattle.json2yaml.specs.Conversions.{IsYamlOfJsonFiles, RefusedJsonFile, SentJsonFile}
-use Rattle.json2yaml.specs.Statuses.{json_status}
-use Rattle.json2yaml.proofs.Files.{SentJsonFiles, all_sent, both_json}
+use Rattle.json2yaml.specs.{Conversions.IsYamlOfJsonFiles, Conversions.RefusedJsonFile, Conversions.SentJsonFile, Statuses.json_status}
+use Rattle.json2yaml.proofs.{Files.SentJsonFiles, Files.all_sent, Files.both_json, Texts.text_utf8}
 use Rattle.json2yaml.proofs.Parts.{file_utf8, first_same, names_once, next_begins, parts_begin, regroup, same_parts, with_between}
-use Rattle.json2yaml.proofs.Texts.{text_utf8}
+use Rattle.yaml_json.specs.declared.error.JsonError.TheVariants as errors
+use Rattle.yaml_json.specs.declared.error.StreamError.TheVariants as faults
 
 -- ---- files before the one that is refused
 
@@ -87,10 +67,8 @@ module _ (settings : JsonSettings) where
 -- A text that is JSON is refused for no tokens of its own.
 module _ (depth : ℕ) (unique : Bool) (text : List ℕ) (taken left : List Token) (split : taken ++ left ≡ tokens text) where
   explained : (error : JsonError) → TokensStopAt depth unique text taken left error → ExplainsError depth unique text error
-  explained (errors.NotJson position says) why =
-      (record { taken = taken; left = left; parts = split; begins = why.0.begins; breaks = why.0.breaks }, why.1)
-  explained (errors.Marked position) why =
-      (record { taken = taken; left = left; parts = split; begins = why.0.begins; breaks = why.0.breaks }, why.1)
+  explained (errors.NotJson position says) why = (record { taken = taken; left = left; parts = split; begins = why.0.begins; breaks = why.0.breaks }, why.1)
+  explained (errors.Marked position) why = (record { taken = taken; left = left; parts = split; begins = why.0.begins; breaks = why.0.breaks }, why.1)
   explained (errors.TooDeep position) why =
       record {
         taken = taken;
@@ -130,8 +108,7 @@ module _ (depth : ℕ) (unique : Bool) (text : List ℕ) (taken left : List Toke
     never_refused : (error : JsonError) → TokensStopAt depth unique text taken left error → IsOfText error → ⊥
     never_refused (errors.NotJson position says) why is =
         why_no_json depth unique text (errors.NotJson position says) (explained (errors.NotJson position says) why) tt json read
-    never_refused (errors.Marked position) why is =
-        why_no_json depth unique text (errors.Marked position) (explained (errors.Marked position) why) tt json read
+    never_refused (errors.Marked position) why is = why_no_json depth unique text (errors.Marked position) (explained (errors.Marked position) why) tt json read
     never_refused (errors.TooDeep position) why is =
         why_no_json depth unique text (errors.TooDeep position) (explained (errors.TooDeep position) why) tt json read
     never_refused (errors.DuplicateName position) why is = named_once why
@@ -140,12 +117,10 @@ module _ (depth : ℕ) (unique : Bool) (text : List ℕ) (taken left : List Toke
     -- nor is it stopped otherwise with status 1, if the emitter has no error of that status
     never_stopped : (was now : WriterState) → IsUtf8 text → ((code : yaml_error_t) → now.emitter.error ≡ Some code → emitter_status code ≡ 1 → ⊥)
         → (error : StreamError) → json_status error ≡ 1 → IsSoundSending was (Err error) now → StopsPartAt depth unique text taken left error → ⊥
-    never_stopped was now utf8 never (faults.Refused (errors.NotJson position says)) status sound why =
-        never_refused (errors.NotJson position says) why.0 tt
+    never_stopped was now utf8 never (faults.Refused (errors.NotJson position says)) status sound why = never_refused (errors.NotJson position says) why.0 tt
     never_stopped was now utf8 never (faults.Refused (errors.Marked position)) status sound why = never_refused (errors.Marked position) why.0 tt
     never_stopped was now utf8 never (faults.Refused (errors.TooDeep position)) status sound why = never_refused (errors.TooDeep position) why.0 tt
-    never_stopped was now utf8 never (faults.Refused (errors.DuplicateName position)) status sound why =
-        never_refused (errors.DuplicateName position) why.0 tt
+    never_stopped was now utf8 never (faults.Refused (errors.DuplicateName position)) status sound why = never_refused (errors.DuplicateName position) why.0 tt
     never_stopped was now utf8 never (faults.Refused (errors.Emitter code)) status (inl memory) why =
         let three : 3 ≡ 1 = sym (ap emitter_status memory.0) ∙ status in
         absurd (omega (arith, three))
@@ -212,11 +187,9 @@ module _ (settings : JsonSettings) (files : List (List ℕ)) (bytes : List ℕ) 
     events_are : now.emitter.events
         ≡ (opening ++ events_before reached.parts) ++ (events_before refused.stops.parts ++ given_of refused.stops.taken)
     events_are =
-        events_given
-        (λ c. events_with_separators c settings.values.flow refused.stops.parts ++ tokens_events c settings.values.flow refused.stops.taken)
-        refused.stops.emits.appended
-        (events_given (λ c. events_with_separators c settings.values.flow reached.parts) reached.emits.appended new.events new.canonical)
-        (reached.canonical ∙ new.canonical)
+        events_given (λ c. events_with_separators c settings.values.flow refused.stops.parts ++ tokens_events c settings.values.flow refused.stops.taken)
+        refused.stops.emits.appended (events_given (λ c. events_with_separators c settings.values.flow reached.parts) reached.emits.appended new.events
+        new.canonical) (reached.canonical ∙ new.canonical)
 
     by_rest : (rest : List (List ℕ × Json)) → earlier ++ rest ≡ whole.parts → map (λ part. part.0) rest ≡ refused.stops.next ∷ others
         → AreJson settings.values.depth rest → ⊥
@@ -236,20 +209,15 @@ module _ (settings : JsonSettings) (files : List (List ℕ)) (bytes : List ℕ) 
         ∙ value_given one.1 settings.values.emitter.canonical settings.values.flow)
         ∙ next in
         let begins : ((opening ++ events_before reached.parts) ++ (events_before refused.stops.parts ++ taken)) ++ (left ++ (more ++ closing)) ≡ all =
-        ap (λ (events : List Event). opening ++ events)
-        (regroup (events_before reached.parts) (events_before refused.stops.parts) taken left more closing
-        ∙ ap (λ (events : List Event). events ++ closing)
-        (ap (λ (events : List Event). events ++ ((taken ++ left) ++ more))
+        ap (λ (events : List Event). opening ++ events) (regroup (events_before reached.parts) (events_before refused.stops.parts) taken left more closing
+        ∙ ap (λ (events : List Event). events ++ closing) (ap (λ (events : List Event). events ++ ((taken ++ left) ++ more))
         (sym (flat_map-append (λ (part : List ℕ × Json). json_events settings.values.emitter.canonical settings.values.flow part.1 ++ between) reached.parts
         refused.stops.parts))
         ∙ ap (λ (events : List Event). events_before earlier ++ events) value_events
         ∙ parts_begin settings.values.emitter.canonical settings.values.flow earlier one rest ∙ ap events_of same)) in
         never_stopped settings.values.depth settings.unique_names refused.stops.next refused.stops.taken refused.stops.left refused.stops.split one.1 read names
-        begun now utf8
-        (λ code has status. never_fails (seen_settings settings.values.emitter) all bytes whole.stream
-        ((opening ++ events_before reached.parts) ++ (events_before refused.stops.parts ++ taken)) (left ++ (more ++ closing)) now.emitter code set events_are
-        promised begins has status)
-        refused.error refused.status refused.sound refused.stops.why
+        begun now utf8 (λ code has status. never_fails _ _ _ whole.stream _ (left ++ (more ++ closing)) now.emitter code set events_are promised begins has
+        status) refused.error refused.status refused.sound refused.stops.why
 
     text_refused : ⊥
     text_refused =
@@ -275,15 +243,13 @@ module _ (settings : JsonSettings) (files : List (List ℕ)) (bytes : List ℕ) 
         let emits = refuses.passed.emits in
         let events = events_given (λ c. parts_events c settings.values.flow some) sent.wrote.emits.appended new.events new.canonical in
         let begins : ((opening ++ events_of some) ++ between) ++ (events_of (one ∷ rest) ++ closing) ≡ all =
-        ap (λ (events : List Event). opening ++ events)
-        (sym (append_assoc (events_of some ++ between) (events_of (one ∷ rest)) closing)
+        ap (λ (events : List Event). opening ++ events) (sym (append_assoc (events_of some ++ between) (events_of (one ∷ rest)) closing)
         ∙ ap (λ (events : List Event). events ++ closing)
         (ap (λ (events : List Event). events ++ events_of (one ∷ rest)) (with_between settings.values.emitter.canonical settings.values.flow sent.first sent.rest)
         ∙ parts_begin settings.values.emitter.canonical settings.values.flow some one rest ∙ ap events_of same)) in
-        never_fails (seen_settings settings.values.emitter) all bytes whole.stream ((opening ++ events_of some) ++ between) (events_of (one ∷ rest) ++ closing)
-        now.emitter refuses.error (emits.set.given ∙ sent.wrote.emits.given ∙ new.settings)
-        (emits.set.events ∙ ap (λ (first : List Event). first ++ between) events) promised begins
-        (some_from_result now.emitter.error refuses.error emits.answered) refuses.status
+        never_fails _ _ _ whole.stream ((opening ++ events_of some) ++ between) (events_of (one ∷ rest) ++ closing) now.emitter refuses.error
+        (emits.set.given ∙ sent.wrote.emits.given ∙ new.settings) (emits.set.events ∙ ap (λ (first : List Event). first ++ between) events) promised begins
+        (some_from_result _ refuses.error emits.answered) refuses.status
 
     document_refused : ⊥
     document_refused =
@@ -338,9 +304,7 @@ module _ (settings : JsonSettings) (files : List (List ℕ)) (before after : Opt
   by_why : RefusesSome (SentJsonFile settings) (RefusedJsonFile settings) files refuses.first before refuses.last after
       ⊎ (SentFiles (SentJsonFile settings) files refuses.first before refuses.last after × RefusesEnd refuses.last.emitter) → ⊥
   by_why (inl some) = at_some files refl some
-  by_why (inr (sent, end)) =
-      end_refused settings files bytes whole refuses.first refuses.is_new refuses.last before after
-      (all_sent settings files refuses.first refuses.last before after sent) end
+  by_why (inr (sent, end)) = end_refused settings files bytes whole refuses.first refuses.is_new refuses.last before after (all_sent _ _ _ _ _ _ sent) end
 
 pub refused_none : (settings : JsonSettings) (files : List (List ℕ)) (before after : Option (List ℕ))
     → RefusesStream (SentJsonFile settings) (RefusedJsonFile settings) settings.values.emitter files before after → HaveNoYaml (IsYamlOfJsonFiles settings) files

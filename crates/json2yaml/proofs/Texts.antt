@@ -1,10 +1,8 @@
 -- The texts of a file that is UTF-8.
-use Rattle.std.proofs.Common.{ℕ, zero, suc, ◌+◌, ◌≤◌, ◌<◌, Option, None, Some, List, [], ◌∷◌, ◌++◌, ◌≡◌, ◌⊎◌, inl, inr, refl, sym, subst, ◌∙◌, arith}
-use Rattle.std.proofs.Common.{drop, length, slice_index_or as get_or, take}
-use Rattle.std.proofs.lemmas.Str.{IsUtf8-drop, IsUtf8-nil, IsUtf8-take}
-use Rattle.std.specs.Str.{IsUtf8}
-use Rattle.yaml_json.specs.Cuts.{HasScanned}
-use Rattle.yaml_json.specs.Texts.{CutsFirstText, after_byte, texts_in}
+use Rattle.std.{proofs.lemmas.Str.IsUtf8-drop, proofs.lemmas.Str.IsUtf8-nil, proofs.lemmas.Str.IsUtf8-take, specs.Str.IsUtf8}
+use Rattle.std.proofs.Common.{ℕ, zero, suc, ◌+◌, ◌≤◌, ◌<◌, Option, None, Some, List, [], ◌∷◌, ◌++◌, ◌≡◌, ◌⊎◌, inl, inr, refl, sym, subst, ◌∙◌, arith, drop}
+use Rattle.std.proofs.Common.{length, slice_index_or as get_or, take}
+use Rattle.yaml_json.specs.{Cuts.HasScanned, Texts.CutsFirstText, Texts.after_byte, Texts.texts_in}
 use Rattle.yaml_json.proofs.Cutting.{cuts_first, may_cut, one_cut, one_scanned, whole_first}
 
 -- The first text and the rest, which are UTF-8 if the whole is.
@@ -23,27 +21,21 @@ by_next text cut has less goes_on None ends =
       first = take cut.scanned text;
       more = drop cut.scanned text;
       cuts = cuts_first text cut.scanned at;
-      both = λ utf8. (
-        IsUtf8-take text cut.scanned utf8 (may_cut text cut.scanned at),
-        IsUtf8-drop text cut.scanned utf8 (may_cut text cut.scanned at),
-      );
+      both = λ utf8. (IsUtf8-take text cut.scanned utf8 (may_cut text cut.scanned at), IsUtf8-drop text cut.scanned utf8 (may_cut text cut.scanned at));
     }
 by_next text cut has less goes_on (Some next) goes = goes_on next goes
 
 first_from : (fuel : ℕ) (text : List ℕ) (cut : _) → HasScanned text cut → fuel + cut.scanned ≡ length text → FirstText text
-first_from zero text cut has is =
-    record { first = text; more = []; cuts = whole_first text cut has (omega (arith, is)); both = λ utf8. (utf8, IsUtf8-nil) }
+first_from zero text cut has is = record { first = text; more = []; cuts = whole_first text cut has (omega (arith, is)); both = λ utf8. (utf8, IsUtf8-nil) }
 first_from (suc fuel) text cut has is =
     let less : cut.scanned < length text = omega (arith, is) in
-    by_next text cut has less
-    (λ next goes. first_from fuel text (record { scan = next; scanned = cut.scanned + 1 }) (one_scanned text cut has less next goes) (omega (arith, is)))
-    (after_byte cut.scan (get_or text cut.scanned 0)) refl
+    by_next text cut has less (λ next goes. first_from fuel text (record { scan = next; scanned = cut.scanned + 1 }) (one_scanned text cut has less next goes)
+    (omega (arith, is))) (after_byte cut.scan (get_or text cut.scanned 0)) refl
 
 first_text : (text : List ℕ) → FirstText text
 first_text text =
     first_from (length text) text (record { scan = _; scanned = 0 })
-    (record { within = omega arith; scanned = record { texts = λ more. refl; few = omega arith; fresh = λ none. refl } })
-    (omega arith)
+    (record { within = omega arith; scanned = record { texts = λ more. refl; few = omega arith; fresh = λ none. refl } }) (omega arith)
 
 first_of : (text next : List ℕ) (texts later : List (List ℕ)) → text ∷ texts ≡ next ∷ later → text ≡ next
 first_of text next texts later is = cc
@@ -68,8 +60,7 @@ module _ (text next : List ℕ) (later : List (List ℕ)) where
       → ((found.more ≡ []) × (texts_in text ≡ found.first ∷ []))
       ⊎ ((found.more ≡ [] → ⊥) × (length found.more < length text) × (texts_in text ≡ found.first ∷ texts_in found.more))
       → (front : List (List ℕ)) → front ++ next ∷ later ≡ texts_in text → IsUtf8 next
-  by_cut found utf8 others (inl (none, cut)) =
-      at_first found.first (found.both utf8).0 [] cut (λ inner same. absurd (none_is_some inner next later same))
+  by_cut found utf8 others (inl (none, cut)) = at_first found.first (found.both utf8).0 [] cut (λ inner same. absurd (none_is_some inner next later same))
   by_cut found utf8 others (inr (some, less, cut)) =
       at_first found.first (found.both utf8).0 (texts_in found.more) cut (λ inner same. others inner less (sym same))
 
