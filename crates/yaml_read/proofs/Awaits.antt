@@ -43,10 +43,9 @@ taken_off old new found h1 h2 = grind (arith, no_awaits, outside, seen_awaits, a
 
 -- the indentation of an entry is that of its collection, and two spaces
 pub entry_line : (depth : ℕ) (word : Text) → line_at (depth * 2) ++ (codes "  " ++ word) ≡ line_at (suc depth * 2) ++ word
-entry_line depth word = sym (line_deeper (depth * 2) word) ∙ ap (λ n. line_at n ++ word) twice
-  where
-    twice : depth * 2 + 2 ≡ suc depth * 2
-    twice = omega arith
+entry_line depth word =
+    let twice : depth * 2 + 2 ≡ suc depth * 2 = omega arith in
+    sym (line_deeper (depth * 2) word) ∙ ap (λ n. line_at n ++ word) twice
 
 item_lead : (depth : ℕ) → line_at (depth * 2) ++ codes "  " ≡ line_at (suc depth * 2)
 item_lead depth = entry_line depth [] ∙ append-nil (line_at (suc depth * 2))
@@ -134,13 +133,11 @@ lead_at awaits found count text lead entry innermost counted is stands =
 pub lead_or_end : (levels : List Pending) (a b : List ℕ) → can_end levels ≡ true → lead_text levels ++ a ≡ closing_text levels ++ b → ⊥
 lead_or_end (item_awaited true ∷ outer) a b can is = no_word (codes "]") (lead_text (item_awaited true ∷ outer) ++ a) b refl is
 lead_or_end (item_awaited false ∷ outer) a b can is =
-    no_word (codes "]") (codes "  " ++ a) b refl
-    (append_cancel_left (line_at (length outer * 2)) (codes "  " ++ a) (codes "]" ++ b)
+    no_word (codes "]") (codes "  " ++ a) b refl (append_cancel_left (line_at (length outer * 2)) (codes "  " ++ a) (codes "]" ++ b)
     (entry_line (length outer) a ∙ is ∙ append_assoc (line_at (length outer * 2)) (codes "]") b))
 lead_or_end (key_awaited true ∷ outer) a b can is = no_word (codes "}") (lead_text (key_awaited true ∷ outer) ++ a) b refl is
 lead_or_end (key_awaited false ∷ outer) a b can is =
-    no_word (codes "}") (codes "  ? " ++ a) b refl
-    (append_cancel_left (line_at (length outer * 2)) (codes "  ? " ++ a) (codes "}" ++ b)
+    no_word (codes "}") (codes "  ? " ++ a) b refl (append_cancel_left (line_at (length outer * 2)) (codes "  ? " ++ a) (codes "}" ++ b)
     (entry_line (length outer) (codes "? " ++ a) ∙ sym (append_assoc (line_at (suc (length outer) * 2)) (codes "? ") a) ∙ is
     ∙ append_assoc (line_at (length outer * 2)) (codes "}") b))
 lead_or_end _ a b can is = absurd (false≢true can)

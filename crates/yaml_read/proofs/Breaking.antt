@@ -131,11 +131,9 @@ levels_go (suc depth) More more begins = (refl, levels_go depth More more begins
 pub level_first : (level : ℕ) (bytes rest : List ℕ) → bytes ≡ replicate (suc level * 2) space ++ rest
     → bytes ≡ codes "  " ++ (replicate (level * 2) space ++ rest)
 level_first level bytes rest is =
+    let twice : suc level * 2 ≡ 2 + level * 2 = omega arith in
     is ∙ ap (λ t. t ++ rest) (ap (λ n. replicate n space) twice ∙ sym (replicate-append-replicate 2 (level * 2) space))
     ∙ append_assoc (codes "  ") (replicate (level * 2) space) rest
-  where
-    twice : suc level * 2 ≡ 2 + level * 2
-    twice = omega arith
 
 levels_lack : (depth level : ℕ) (bytes rest : List ℕ) (More : List (List ℕ) → Type 0) (error : Stop) (more : List (List ℕ)) → level < depth
     → bytes ≡ replicate (level * 2) space ++ rest → past_word (codes "  ") rest ≡ None → IsHere rest error → More more
@@ -176,8 +174,7 @@ line_passed depth bytes rest More error is breaks =
 -- the words of the end of an entry
 pub entry_goes : (depth : ℕ) (lead end : List ℕ)
     → line_then depth (these_or_those (word_then lead nothing) (word_then end nothing)) (codes "\n" ∷ (replicate depth (codes "  ") ++ lead ∷ []))
-entry_goes depth lead end =
-    (refl, levels_go depth (these_or_those (word_then lead nothing) (word_then end nothing)) (lead ∷ []) (inl (refl, tt)))
+entry_goes depth lead end = (refl, levels_go depth (these_or_those (word_then lead nothing) (word_then end nothing)) (lead ∷ []) (inl (refl, tt)))
 
 -- the place at which the words stop
 pub no_comma : (depth : ℕ) (lead end text : List ℕ) (error : Stop) → past_word (codes ",") text ≡ None → IsHere text error

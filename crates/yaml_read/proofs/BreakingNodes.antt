@@ -1,5 +1,5 @@
 -- The places at which the bytes of a node break off, and the bytes after a node.
-use Rattle.yaml_read.proofs.Common.{ℕ, ◌<◌, ◌≤◌, suc, true, Option, None, Some, List, [], ◌∷◌, ◌++◌, refl, ◌≡◌, ap, subst, sym, ◌∙◌, ◌⊎◌, inl, inr, pos, arith}
+use Rattle.yaml_read.proofs.Common.{ℕ, ◌<◌, ◌≤◌, suc, true, None, Some, List, [], ◌∷◌, ◌++◌, refl, ◌≡◌, ap, subst, sym, ◌∙◌, ◌⊎◌, inl, inr, pos, arith}
 use Rattle.yaml_read.proofs.Common.{append_assoc, append-nil, codes, flat_map, length, encode_utf8_all, encode_utf8, character_text, Text, TypedValue}
 use Rattle.yaml_read.proofs.Common.{most_nested, quote, in_quotes, IsUtf8-past_char, encode_ascii, encodes-append, ℤ, ◌^◌, signed_decimal, mag, IsUtf8}
 use Rattle.yaml_read.proofs.Common.{behind_tag, characters, these_or_those, integer, line_then, node, nothing, quoted_text, unless_deep, word_then}
@@ -36,8 +36,7 @@ unread word bytes utf8 lacks =
 pub utf8_left : (whole value bytes : List ℕ) → IsUtf8 whole → ReadSoFar whole value bytes → IsUtf8 bytes
 utf8_left whole value bytes utf8 so_far =
     let inside = flat_map (character_text true) so_far.read in
-    utf8_behind inside (encode_utf8_all inside ++ bytes) bytes
-    (IsUtf8-past_char whole (encode_utf8_all inside ++ bytes) quote utf8
+    utf8_behind inside (encode_utf8_all inside ++ bytes) bytes (IsUtf8-past_char whole (encode_utf8_all inside ++ bytes) quote utf8
     (so_far.whole_is ∙ ap (λ b. b ++ (encode_utf8_all inside ++ bytes)) (sym (encode_ascii quote (omega arith))))) refl
 
 -- the bytes of a text break off at the place at which those after its characters do
@@ -68,8 +67,7 @@ passes_character whole bytes rest c passes none character =
 pub no_character : (whole bytes : List ℕ) (error : Stop) → PassesCharacters whole bytes → IsUtf8 bytes → past_word (codes "\"") bytes ≡ None
     → ReadsCharacter bytes None → IsHere bytes error → BreaksAt quoted_text whole error
 no_character whole bytes error passes utf8 none reads place =
-    subst (BreaksAt quoted_text whole) (sym place)
-    (passes.passes (length bytes)
+    subst (BreaksAt quoted_text whole) (sym place) (passes.passes (length bytes)
     (record { read = []; rest = bytes; parts = refl; place = refl; due = codes "\""; more = []; begins = inl (refl, tt); none = lacks }))
   where
     lacks : (next : List ℕ) (after : List (List ℕ)) → characters (next ∷ after) → past_word next bytes ≡ None
@@ -91,12 +89,10 @@ pub no_integer : (bytes : List ℕ) (error : Stop) → IsUtf8 bytes → IsHereOr
     → BreaksAt integer bytes error
 no_integer bytes error utf8 (inl memory) reads = subst (BreaksAt integer bytes) (sym memory) tt
 no_integer bytes error utf8 (inr place) reads =
+    let few : mag (pos 0) < 2 ^ 63 = omega arith in
     here integer bytes error (encode_utf8_all (in_quotes (signed_decimal (pos 0)))) [] place (pos 0, few, (refl, tt))
     (λ next after is. subst (λ (w : List ℕ). past_word w bytes ≡ None) (sym is.2.0)
     (unread (in_quotes (signed_decimal is.0)) bytes utf8 (λ rest starts. subst IsMemory place (reads is.0 rest is.1 starts))))
-  where
-    few : mag (pos 0) < 2 ^ 63
-    few = omega arith
 
 -- ---- tags
 
@@ -118,8 +114,7 @@ pub tag_passed : (depth : ℕ) (k read : Kind) (bytes rest : List ℕ) (error : 
     → BreaksAt (behind_tag depth k) rest error → BreaksAt (node depth) bytes error
 tag_passed depth k read bytes rest error same is breaks =
     passed_at (node depth) (behind_tag depth k) (tag_word k) bytes rest error (subst (λ (j : Kind). bytes ≡ tag_word j ++ rest) same is)
-    (λ words more. (k, (refl, more)))
-    (λ words these. subst (λ (j : Kind). behind_tag depth j words) (sym (same_kind k these.0 these.1.0)) these.1.1) breaks
+    (λ words more. (k, (refl, more))) (λ words these. subst (λ (j : Kind). behind_tag depth j words) (sym (same_kind k these.0 these.1.0)) these.1.1) breaks
 
 -- some words come after a bracket
 words_inside : (depth : ℕ) (More : List (List ℕ) → Type 0) (words : List (List ℕ)) → More words
@@ -144,8 +139,7 @@ pub no_map : (depth : ℕ) (bytes rest : List ℕ) (error : Stop) → bytes ≡ 
 no_map depth bytes rest error is none place =
     let inside = words_inside depth (these_or_those (word_then (codes "}") nothing) (line_then (suc depth) (word_then (codes "? ") nothing))) (codes "}" ∷ [])
     (inl (refl, tt)) in
-    tag_passed depth kind.Map kind.Map bytes rest error refl is
-    (missing (codes "{") rest
+    tag_passed depth kind.Map kind.Map bytes rest error refl is (missing (codes "{") rest
     (unless_deep depth (these_or_those (word_then (codes "}") nothing) (line_then (suc depth) (word_then (codes "? ") nothing)))) error
     inside.0 none place inside.1)
 
@@ -189,8 +183,7 @@ pub list_line_breaks : (depth : ℕ) (bytes rest : List ℕ) (error : Stop) → 
 list_line_breaks depth bytes rest error room found breaks =
     tag_passed depth kind.List kind.List bytes (codes "[" ++ rest) error refl found.0
     (passed_at (behind_tag depth kind.List) (these_or_those (word_then (codes "]") nothing) (line_then (suc depth) nothing)) (codes "[")
-    (codes "[" ++ rest) rest
-    error refl (λ words more. (refl, inl (room, more)))
+    (codes "[" ++ rest) rest error refl (λ words more. (refl, inl (room, more)))
     (λ words these. inside_out depth (these_or_those (word_then (codes "]") nothing) (line_then (suc depth) nothing)) words room these.1)
     (second_of (codes "]") (line_then (suc depth) nothing) rest error found.1 breaks))
 
@@ -202,8 +195,7 @@ map_line_breaks depth bytes rest error room found breaks =
     (passed_at (behind_tag depth kind.Map) (these_or_those (word_then (codes "}") nothing) (line_then (suc depth) (word_then (codes "? ") nothing))) (codes "{")
     (codes "{" ++ rest) rest error refl (λ words more. (refl, inl (room, more)))
     (λ words these. inside_out depth (these_or_those (word_then (codes "}") nothing) (line_then (suc depth) (word_then (codes "? ") nothing))) words room
-    these.1)
-    (second_of (codes "}") (line_then (suc depth) (word_then (codes "? ") nothing)) rest error found.1 breaks))
+    these.1) (second_of (codes "}") (line_then (suc depth) (word_then (codes "? ") nothing)) rest error found.1 breaks))
 
 -- ---- too deep
 

@@ -1,11 +1,11 @@
 -- Texts between quotes can be read in one way only.
 use Rattle.yaml_read.proofs.Common.{ℕ, true, true≢false, None, Some, Option, List, [], ◌∷◌, ◌++◌, refl, ◌≡◌, ap, sym, ◌∙◌, ◌⊎◌, inl, inr, append_assoc}
-use Rattle.yaml_read.proofs.Common.{append-nil, arith, codes, flat_map, all_scalars, encode_utf8, encode_utf8_all, character_text, ◌==◌, ◌&&◌, and_parts}
+use Rattle.yaml_read.proofs.Common.{append-nil, arith, codes, flat_map, all_scalars, encode_utf8, encode_utf8_all, character_text, ◌&&◌, and_parts}
 use Rattle.yaml_read.proofs.Common.{escape_after_backslash, hex_digits, letter_among, needs_escape, short_escapes, Text, quote, in_quotes, backslash}
 use Rattle.yaml_read.proofs.Common.{letter_meaning, encode_same, encodes-append, characters, integer, quoted_text}
 use Rattle.yaml_read.proofs.OneWays.{OneWay, nothing_more, word_way, words_same}
 use Rattle.yaml_read.proofs.Escapes.{Stands, as_escape, as_itself, stands}
-use Rattle.yaml_read.proofs.Firsts.{AfterBackslash, after_backslash, by_four, by_letter, by_two}
+use Rattle.yaml_read.proofs.Firsts.{AfterBackslash, after_backslash}
 use Rattle.yaml_read.proofs.{Encoded.word_encoded, HeadsRead.word_bytes, Scalars.int_scalars, WordTexts.flat}
 
 -- ---- characters
@@ -48,9 +48,7 @@ stand_same c d _ _ more scalar also (as_escape needs) (as_itself plain) is =
     absurd (true≢false (ap (needs_escape true) (sym (heads d backslash [] (escape_after_backslash (letter_among short_escapes c) c ++ more) is)) ∙ plain))
 stand_same c d _ _ more scalar also (as_escape needs) (as_escape other) is =
     let behind : escape_after_backslash (letter_among short_escapes d) d ≡ escape_after_backslash (letter_among short_escapes c) c ++ more = cc in
-    ap (λ t. backslash ∷ t)
-    (escapes_same c d (escape_after_backslash (letter_among short_escapes c) c) (escape_after_backslash (letter_among short_escapes d) d) more
-    (after_backslash c scalar needs) (after_backslash d also other) behind)
+    ap (λ t. backslash ∷ t) (escapes_same _ _ _ _ more (after_backslash c scalar needs) (after_backslash d also other) behind)
 
 -- no character's text begins with a quote
 no_quote : (c : ℕ) (text more : Text) → Stands c text → text ≡ quote ∷ more → ⊥
@@ -86,8 +84,7 @@ word_alike one other a b first second is =
   where
     by : ((more : Text) × (second.text ≡ first.text ++ more)) ⊎ ((more : Text) × (first.text ≡ second.text ++ more)) → one ≡ other
     by (inl goes) = first.is ∙ ap encode_utf8_all (between_same first.text second.text goes.0 first.between second.between goes.1) ∙ sym second.is
-    by (inr goes) =
-        first.is ∙ ap encode_utf8_all (sym (between_same second.text first.text goes.0 second.between first.between goes.1)) ∙ sym second.is
+    by (inr goes) = first.is ∙ ap encode_utf8_all (sym (between_same second.text first.text goes.0 second.between first.between goes.1)) ∙ sym second.is
 
 -- after a character
 inner : (word : List ℕ) (read : List (List ℕ)) (next : List ℕ) (words : List (List ℕ)) → characters (word ∷ (read ++ next ∷ words))
@@ -143,8 +140,7 @@ pub words_are : (text : Text) → all_scalars text ≡ true → quoted_text (tex
 words_are text scalars = (refl, inner_are text scalars)
 
 pub words_flat : (text : Text) → flat (text_words text) ≡ encode_utf8_all (in_quotes text)
-words_flat text =
-    ap (λ t. codes "\"" ++ t) (inner_flat text) ∙ sym (word_encoded (codes "\"") (flat_map (character_text true) text ++ quote ∷ []) refl)
+words_flat text = ap (λ t. codes "\"" ++ t) (inner_flat text) ∙ sym (word_encoded (codes "\"") (flat_map (character_text true) text ++ quote ∷ []) refl)
 
 -- ---- integers
 

@@ -1,5 +1,5 @@
 -- A character that was read was written in its one spelling.
-use Rattle.yaml_read.proofs.Common.{ℕ, ◌+◌, ◌*◌, ◌/◌, ◌%◌, ◌-◌, ◌<◌, ◌≤◌, not, ◌||◌, None, Some, List, [], ◌∷◌, ◌++◌, refl, ◌≡◌, ap, sym, ◌∙◌, Text, ◌==◌}
+use Rattle.yaml_read.proofs.Common.{ℕ, ◌+◌, ◌*◌, ◌-◌, ◌<◌, ◌≤◌, not, ◌||◌, None, Some, List, [], ◌∷◌, ◌++◌, refl, ◌≡◌, ap, sym, ◌∙◌, Text, ◌==◌}
 use Rattle.yaml_read.proofs.Common.{if◌then◌else◌, encode_utf8_all, character_text, flat_map-append, chars-encodes, short_escapes, escape_after_backslash, Bool}
 use Rattle.yaml_read.proofs.Common.{true, false, ◌&&◌, subst, arith, nat_tests, and_parts, eqb-true, nat_le, hex_digit, flat_map, codes, chars, Option}
 use Rattle.yaml_read.proofs.Common.{append_assoc, append-nil, encode_utf8, all_scalars, hex_digits, is_between, letter_among, needs_escape, escape_text, length}
@@ -109,8 +109,7 @@ long_read bytes tail rest first c number many few starts is =
       needs = number.needs;
       text =
           behind_first bytes rest tail 117 (hex_digits 4 c) (escape_after_backslash (letter_among short_escapes c) c)
-          (starts ∙ ap (λ f. encode_utf8 f ++ tail) is) number.text
-          (ap (λ o. escape_after_backslash o c) number.none ∙ by_tests c false true more at_most);
+          (starts ∙ ap (λ f. encode_utf8 f ++ tail) is) number.text (ap (λ o. escape_after_backslash o c) number.none ∙ by_tests c false true more at_most);
     }
 
 -- ---- characters
@@ -159,8 +158,7 @@ one_more whole value bytes rest c so_far character =
           ap (λ v. v ++ encode_utf8 c) so_far.value_is ∙ ap (λ t. encode_utf8_all so_far.read ++ t) (sym (append-nil (encode_utf8 c)))
           ∙ sym (encodes-append so_far.read (c ∷ []));
       whole_is =
-          so_far.whole_is
-          ∙ ap (λ t. codes "\"" ++ t)
+          so_far.whole_is ∙ ap (λ t. codes "\"" ++ t)
           (ap (λ b. encode_utf8_all before ++ b) character.text ∙ sym (append_assoc (encode_utf8_all before) (encode_utf8_all text) rest)
           ∙ ap (λ b. b ++ rest) (sym (encodes-append before text)
           ∙ ap encode_utf8_all (ap (λ t. before ++ t) (sym (append-nil text)) ∙ sym (flat_map-append (character_text true) so_far.read (c ∷ [])))));

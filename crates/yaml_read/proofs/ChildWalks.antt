@@ -18,8 +18,7 @@ walk_same one other same (suc depth) before number =
       | false ↦
           let walk = steps_from depth one in
           let inside = before ++ enters number ∷ [] in
-          ap (λ (numbers : List ℕ). fold walk inside numbers ++ leaves number ∷ []) (same number)
-          ∙ ap (λ (steps : List Step). steps ++ leaves number ∷ [])
+          ap (λ (numbers : List ℕ). fold walk inside numbers ++ leaves number ∷ []) (same number) ∙ ap (λ (steps : List Step). steps ++ leaves number ∷ [])
           (fold_along walk (steps_from depth other) (λ (some others : List Step). some ≡ others)
           (λ some others child is. ap (λ (steps : List Step). walk steps child) is ∙ walk_same one other same depth others child) inside inside
           (children other number) refl)
@@ -27,5 +26,4 @@ walk_same one other same (suc depth) before number =
 
 -- their walks are the same if they have as many nodes
 pub walks_same : (one other : Graph) → length one.nodes ≡ length other.nodes → HaveSameChildren one other → graph_steps one ≡ graph_steps other
-walks_same one other many same =
-    ap (λ (count : ℕ). steps_from (suc count) one [] 1) many ∙ walk_same one other same (suc (length other.nodes)) [] 1
+walks_same one other many same = ap (λ (count : ℕ). steps_from (suc count) one [] 1) many ∙ walk_same one other same (suc (length other.nodes)) [] 1

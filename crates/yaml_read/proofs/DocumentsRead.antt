@@ -1,6 +1,6 @@
 -- From the events of a node's text to the document of these bytes, and to why there is none.
 use Rattle.yaml_read.proofs.Common.{ℕ, ◌==◌, Bool, true, false, None, List, [], ◌∷◌, ◌++◌, refl, ◌≡◌, ap, subst, sym, ◌∙◌, ◌⊎◌, inl, inr, All, codes, flat_map}
-use Rattle.yaml_read.proofs.Common.{length, encode_utf8_all, line_feed, Text, if◌then◌else◌, Graph, document_event_list, graph_steps, step_events, Event, arith}
+use Rattle.yaml_read.proofs.Common.{length, encode_utf8_all, line_feed, Text, if◌then◌else◌, Graph, document_event_list, graph_steps, step_events, Event}
 use Rattle.yaml_read.proofs.Common.{document_end, graph_of, Isomorphic, IsWholeGraph, document_start, IfErr, IfOk, Result, Ok, Err, IsUtf8, AreRunBytes}
 use Rattle.yaml_read.proofs.Common.{DocumentStops, IsDocumentPlaced, AreDumpedBytes, unstyled_graph, Tells, IsHere, RunStops, in_document, IsMemory, past_word}
 use Rattle.yaml_read.proofs.Common.{HasRunText, IsInNode, ReadError, Stop}
@@ -81,12 +81,11 @@ module _ (bytes : List ℕ) (all events : List Event) (run : AreRunBytes bytes e
   pub composed_answers : {A : Type 0} (answer : Result (yaml_document_t A) ReadError) → ComposesNode events answer → DocumentAnswers bytes answer
   composed_answers (Ok document) composes =
       record {
-        read = run_is_dumped (graph_of document) events run.node bytes composes.0 composes.1 run.run run.in_node run.parts;
+        read = run_is_dumped _ _ _ _ composes.0 composes.1 run.run run.in_node run.parts;
         exact = λ graph dumped. let list = dumped_list graph dumped in composes.2 (unstyled_graph graph) list.0 list.1;
         one = λ graph dumped.
             let list = dumped_list graph dumped in
-            styled_isomorphic graph (graph_of document)
-            (same_events (unstyled_graph graph) (graph_of document) list.0 composes.0 (list.1 ∙ sym composes.1));
+            styled_isomorphic graph _ (same_events _ _ list.0 composes.0 (list.1 ∙ sym composes.1));
         complete = tt;
         placed = tt;
       }

@@ -1,9 +1,9 @@
 -- The canonical reader finds a graph's content in the bytes of its dump, however deep it nests and however long they are.
-use Rattle.yaml_read.proofs.Common.{◌==◌, [], ◌∷◌, ◌++◌, if◌then◌else◌, ◌≡◌, ◌∙◌, ℕ, Bool, true, false, Option, None, Some, List, refl, ap, subst, sym, All}
-use Rattle.yaml_read.proofs.Common.{All-head, All-tail, arith, and_from, append_assoc, codes, eqb-true, flat_map-append, list_all, Text, line_feed, encode}
+use Rattle.yaml_read.proofs.Common.{[], ◌∷◌, ◌++◌, ◌≡◌, ◌∙◌, ℕ, true, false, Option, None, Some, List, refl, ap, subst, sym, All}
+use Rattle.yaml_read.proofs.Common.{All-head, All-tail, arith, and_from, list_all, Text, encode}
 use Rattle.yaml_read.proofs.Common.{utf8, Event, document_end, documents_and, no_documents, document_events, node_events, Graph, canonical_content, Isomorphic}
-use Rattle.yaml_read.proofs.Common.{option_and_then, unwrap_or, dumped_text, node_text, node_content, anchor_fault, content_unfolds, same_shape, Unfolds}
-use Rattle.yaml_read.proofs.Common.{content_shape, BeginsNode, IsAnchor, IsInNode, begins_node, is_alias, is_mapping, is_scalar, is_sequence, AreDumpedBytes}
+use Rattle.yaml_read.proofs.Common.{option_and_then, unwrap_or, dumped_text, node_content, anchor_fault, content_unfolds, same_shape, Unfolds}
+use Rattle.yaml_read.proofs.Common.{content_shape, BeginsNode, IsAnchor, IsInNode, is_alias, is_mapping, is_scalar, is_sequence, AreDumpedBytes}
 use Rattle.yaml_read.proofs.Common.{unstyled_graph, bare_start, in_document}
 use Rattle.yaml_base.proofs.Common.{DocumentContent, Node, TreeUnfolds, Content}
 use Rattle.yaml_base.{proofs.DumpedLeaves.s, proofs.DumpedOutputs.bare_document, proofs.DumpedOutputs.stream_alone, proofs.DumpedOutputs.tree_text}
@@ -19,8 +19,7 @@ anchor_good anchor h1 = grind arith
 
 opening_good : (event : Event) → BeginsNode event → is_good_canonical event ≡ true
 opening_good _ (is_alias name sound) = rw sound refl
-opening_good _ (is_scalar anchor tag value parts) =
-    rw (anchor_good anchor parts.anchor_sound, parts.tag_sound, parts.tag_scalars, parts.value_scalars) refl
+opening_good _ (is_scalar anchor tag value parts) = rw (anchor_good anchor parts.anchor_sound, parts.tag_sound, parts.tag_scalars, parts.value_scalars) refl
 opening_good _ (is_sequence anchor tag parts) = rw (anchor_good anchor parts.anchor_sound, parts.tag_sound, parts.tag_scalars) refl
 opening_good _ (is_mapping anchor tag parts) = rw (anchor_good anchor parts.anchor_sound, parts.tag_sound, parts.tag_scalars) refl
 
@@ -64,9 +63,7 @@ dumped_reads graph bytes dumped =
     record {
       root = has.document.root;
       unfolds = without.is_dumped.unfolds;
-      read =
-          ap (canonical_content false) (sym without.is_encoded ∙ ap (λ (t : Text). encode (Some utf8) t) has.is_text)
-          ∙ root_read has.document.root good;
+      read = ap (canonical_content false) (sym without.is_encoded ∙ ap (λ (t : Text). encode (Some utf8) t) has.is_text) ∙ root_read has.document.root good;
     }
 
 -- the content of the first root
@@ -81,8 +78,7 @@ one_graph one other bytes dumped also =
     let second = dumped_reads other bytes also in
     let same : node_content first.root ≡ node_content second.root =
     ap (λ (found : Option (List DocumentContent)). first_root (unwrap_or found [])) (sym first.read ∙ second.read) in
-    isomorphic_styled one other
-    (styled_isomorphic one (unstyled_graph other)
+    isomorphic_styled one other (styled_isomorphic one (unstyled_graph other)
     (same_shape (unstyled_graph one) (unstyled_graph other) (content_shape (node_content first.root))
     (content_unfolds (unstyled_graph one) first.root first.unfolds)
     (subst (λ (content : Content). Unfolds false (unstyled_graph other) (content_shape content)) (sym same)

@@ -24,7 +24,6 @@ same_parts start other events others end also same =
     let first : start ≡ other = cc in
     let rest : events ++ document_end end ∷ [] ≡ others ++ document_end also ∷ [] = cc in
     let parts = same_from_push events others (document_end end) (document_end also) rest in
-    let last : document_end end ≡ document_end also = parts.1 in
     let ending : end ≡ also = cc in
     record { starts = first; inside = parts.0; ends = ending }
 
@@ -70,8 +69,7 @@ dumped_bytes_run graph bytes dumped =
       is = sym dumped.is_encoded ∙ ap (λ (t : Text). encode (Some utf8) t) text ∙ text_encoded (node_text 0 root);
       whole = whole_unstyled graph dumped.whole;
       is_list =
-          document_unstyled graph
-          ∙ ap (λ (events : List Event). map unstyled events) (root_between graph dumped.whole)
+          document_unstyled graph ∙ ap (λ (events : List Event). map unstyled events) (root_between graph dumped.whole)
           ∙ ap (λ (events : List Event). unstyled (document_start graph.start) ∷ events)
           (map-append unstyled (root_events graph) (document_end graph.end_implicit ∷ []))
           ∙ ap (λ (event : Event). event ∷ (without ++ document_end graph.end_implicit ∷ [])) start
@@ -121,7 +119,5 @@ run_is_dumped graph events node bytes whole is_list run in_node is =
         events = record { document = unfolded.document; is_document = unfolded.is_document; is_text = refl };
         unfolds = unfolded.unfolds;
       };
-      is_encoded =
-          text_encoded (node_text 0 root)
-          ∙ ap (λ (t : Text). codes "---\n" ++ encode_utf8_all (t ++ line_feed ∷ [])) (sym text) ∙ sym is;
+      is_encoded = text_encoded (node_text 0 root) ∙ ap (λ (t : Text). codes "---\n" ++ encode_utf8_all (t ++ line_feed ∷ [])) (sym text) ∙ sym is;
     }

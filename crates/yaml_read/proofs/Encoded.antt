@@ -1,5 +1,5 @@
 -- Words of ASCII in UTF-8.
-use Rattle.yaml_read.proofs.Common.{ℕ, [], ◌∷◌, ◌++◌, ◌≡◌, ◌∙◌, suc, zero, Bool, true, refl, nat_lt, ltb-true, and_parts, list_all, replicate, space}
+use Rattle.yaml_read.proofs.Common.{ℕ, [], ◌∷◌, ◌++◌, ◌≡◌, suc, zero, Bool, true, refl, nat_lt, ltb-true, and_parts, list_all, replicate, space}
 use Rattle.yaml_read.proofs.Common.{encode_utf8_all, Text, line_at, encode_ascii, arith}
 
 -- characters of ASCII; computes at a literal

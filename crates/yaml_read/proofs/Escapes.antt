@@ -1,5 +1,5 @@
 -- Escapes and digits.
-use Rattle.yaml_base.proofs.Common.{ℕ, ◌<◌, ◌==◌, ◌&&◌, [], ◌∷◌, ◌≡◌, ◌∙◌, true≢false, if◌then◌else◌, Bool, true, false, Option, None, Some, List, refl, arith}
+use Rattle.yaml_base.proofs.Common.{ℕ, ◌<◌, ◌==◌, ◌&&◌, [], ◌∷◌, ◌≡◌, true≢false, if◌then◌else◌, Bool, true, false, Option, None, Some, List, refl, arith}
 use Rattle.yaml_base.proofs.Common.{nat_tests, nat_lt, ltb-true, and_parts, agree_below_at, eqb-true, Text, hex_digit, scalar_cases, all_scalars}
 use Rattle.yaml_base.proofs.Common.{character_text}
 use Rattle.yaml_base.specs.scalars.DoubleQuoted.{ShortEscape, short_escapes, letter_among, needs_escape, escape_after_backslash, escape_text}

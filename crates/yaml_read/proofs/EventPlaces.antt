@@ -56,8 +56,7 @@ node_placed Read levels opened text rest event answer read =
 -- after what leads to it
 pub lead_placed : {T : Type 0} (levels : List Pending) (text rest : List ℕ) (answer : Result T Stop) → text ≡ lead_text levels ++ rest
     → IfErr answer (StopsBy (IsNodePlace levels rest)) → IfErr answer (StopsBy (IsEventPlace levels text))
-lead_placed levels text rest answer parts =
-    placed_then (IsNodePlace levels rest) (IsEventPlace levels text) answer (λ left is. in_event_at rest parts is)
+lead_placed levels text rest answer parts = placed_then (IsNodePlace levels rest) (IsEventPlace levels text) answer (λ left is. in_event_at rest parts is)
 
 -- after a bracket
 pub bracket_placed : {T : Type 0} (Read : T → Type 0) (levels outer : List Pending) (text rest : List ℕ) (answer : Result T Stop)

@@ -213,8 +213,7 @@ due_more events found levels bytes rest after event due same read =
     let next = next_of events found levels bytes due in
     let parts = subst (λ (e : Event). bytes ≡ encode_utf8_all (event_text levels e) ++ rest) same read.parts in
     let opened = subst (λ (e : Event). next_open levels e ≡ after) same read.opened in
-    subst (λ (e : Event). IsRunDue events (found ++ e ∷ []) after rest) (sym same)
-    (due_by events found next.others levels rest after next.event next.tail
+    subst (λ (e : Event). IsRunDue events (found ++ e ∷ []) after rest) (sym same) (due_by events found next.others levels rest after next.event next.tail
     (due.all ∙ ap (λ (e : List Event). found ++ (e ++ document_end true ∷ [])) next.later_are)
     (subst (All IsInNode) next.later_are due.in_node) (behind_text levels bytes rest next.event next.tail parts next.bytes_are)
     (subst (λ (o : Option (List Pending)). Follows o next.others next.tail) opened next.follows))
@@ -233,13 +232,12 @@ pub run_goes : (whole : List ℕ) (found new : List Event) (levels : List Pendin
     → RunRead whole new after rest × RunDue whole new after rest
 run_goes whole found new levels bytes rest after begun due one =
     subst (λ (f : List Event). RunRead whole f after rest × RunDue whole f after rest) (sym one.pushed) (
-      event_more whole found levels bytes rest after one.event begun one.read,
+      event_more _ _ _ _ _ _ _ begun one.read,
       record {
         due = λ events node run in_node whole_is.
             let here = due.due events node run in_node whole_is in
-            let next = next_of events found levels bytes here in
-            due_more events found levels bytes rest after one.event here
-            (one.only next.event next.tail next.in_node next.comes next.ends next.bytes_are) one.read;
+            let next = next_of _ _ _ _ here in
+            due_more _ _ _ _ _ _ _ here (one.only next.event next.tail next.in_node next.comes next.ends next.bytes_are) one.read;
       },
     )
 

@@ -108,10 +108,8 @@ node_read levels text middle rest after event begins is over opened behind =
       begins = begins;
       opened = opened;
       parts =
-          is ∙ ap (λ t. encode_utf8_all (opening_text event) ++ t) behind
-          ∙ sym (append_assoc (encode_utf8_all (opening_text event)) trail rest)
-          ∙ ap (λ t. t ++ rest)
-          (ap (λ t. encode_utf8_all (opening_text event) ++ t)
+          is ∙ ap (λ t. encode_utf8_all (opening_text event) ++ t) behind ∙ sym (append_assoc (encode_utf8_all (opening_text event)) trail rest)
+          ∙ ap (λ t. t ++ rest) (ap (λ t. encode_utf8_all (opening_text event) ++ t)
           (sym (append-nil trail) ∙ sym (behind_encoded levels (await_opened event) []) ∙ ap encode_utf8_all (append-nil trail))
           ∙ sym (encodes-append (opening_text event) trail));
       over = behind_over levels (await_opened event) (opening_text event) middle rest behind over;
@@ -127,12 +125,10 @@ event_read levels text behind rest after event is node =
       comes = known.comes;
       opened = known.opened ∙ node.opened;
       parts =
-          is ∙ ap (λ t. lead_text levels ++ t) node.parts
-          ∙ sym (append_assoc (lead_text levels) (encode_utf8_all (text_behind_lead levels event)) rest)
+          is ∙ ap (λ t. lead_text levels ++ t) node.parts ∙ sym (append_assoc (lead_text levels) (encode_utf8_all (text_behind_lead levels event)) rest)
           ∙ ap (λ t. t ++ rest) (sym (lead_encoded levels (text_behind_lead levels event)) ∙ ap encode_utf8_all (sym known.text));
       over =
-          subst (λ (t : Text). IsOver t rest) (sym known.text)
-          (longer_over (lead_text levels) (text_behind_lead levels event) rest
+          subst (λ (t : Text). IsOver t rest) (sym known.text) (longer_over (lead_text levels) (text_behind_lead levels event) rest
           (omega (
             arith,
             length-append (opening_text event) (trail_behind_opening levels (await_opened event)),
@@ -153,11 +149,8 @@ end_read levels text behind rest after event can is same opened follows =
       comes = known.comes;
       opened = known.opened ∙ opened;
       parts =
-          is ∙ ap (λ t. closing_text levels ++ t) follows
-          ∙ sym (append_assoc (closing_text levels) trail rest)
-          ∙ ap (λ t. t ++ rest)
-          (ap (λ t. closing_text levels ++ t)
-          (sym (append-nil trail) ∙ sym (trail_encoded (outside levels) []) ∙ ap encode_utf8_all (append-nil trail))
+          is ∙ ap (λ t. closing_text levels ++ t) follows ∙ sym (append_assoc (closing_text levels) trail rest) ∙ ap (λ t. t ++ rest)
+          (ap (λ t. closing_text levels ++ t) (sym (append-nil trail) ∙ sym (trail_encoded (outside levels) []) ∙ ap encode_utf8_all (append-nil trail))
           ∙ sym (closing_encoded levels trail) ∙ ap encode_utf8_all (sym known.text));
       over = subst (λ (t : Text). IsOver t rest) (sym known.text) (end_over levels behind rest can follows);
     })

@@ -18,8 +18,7 @@ some_by c _ rest bytes (by_four own more few) is none = not_empty bytes 117 (hex
 -- an escape goes on after its backslash
 pub escape_there : (c : ℕ) (rest : Text) (bytes : List ℕ) → all_scalars (c ∷ []) ≡ true → needs_escape true c ≡ true
     → bytes ≡ encode_utf8_all (escape_after_backslash (letter_among short_escapes c) c ++ rest) → length bytes ≡ 0 → ⊥
-escape_there c rest bytes scalar needs is none =
-    some_by c (escape_after_backslash (letter_among short_escapes c) c) rest bytes (after_backslash c scalar needs) is none
+escape_there c rest bytes scalar needs is none = some_by _ _ rest _ (after_backslash c scalar needs) is none
 
 two_by : (c : ℕ) (escape rest : Text) (letter : ℕ) (bytes tail : List ℕ) → AfterBackslash c escape → bytes ≡ encode_utf8_all (escape ++ rest)
     → bytes ≡ encode_utf8 letter ++ tail → letter ≡ 120
@@ -34,8 +33,7 @@ two_by c _ rest letter bytes tail (by_four none many few) is starts same =
 pub two_digits_follow : (c : ℕ) (rest : Text) (letter : ℕ) (bytes tail : List ℕ) → all_scalars (c ∷ []) ≡ true → needs_escape true c ≡ true
     → bytes ≡ encode_utf8_all (escape_after_backslash (letter_among short_escapes c) c ++ rest) → bytes ≡ encode_utf8 letter ++ tail → letter ≡ 120
     → (c < 256) × (letter_among short_escapes c ≡ None) × (tail ≡ encode_utf8_all (hex_digits 2 c ++ rest))
-two_digits_follow c rest letter bytes tail scalar needs is starts same =
-    two_by c (escape_after_backslash (letter_among short_escapes c) c) rest letter bytes tail (after_backslash c scalar needs) is starts same
+two_digits_follow c rest letter bytes tail scalar needs is starts same = two_by _ _ rest _ _ tail (after_backslash c scalar needs) is starts same
 
 four_by : (c : ℕ) (escape rest : Text) (letter : ℕ) (bytes tail : List ℕ) → AfterBackslash c escape → bytes ≡ encode_utf8_all (escape ++ rest)
     → bytes ≡ encode_utf8 letter ++ tail → letter ≡ 117
@@ -51,17 +49,15 @@ four_by c _ rest letter bytes tail (by_four none many few) is starts same =
 pub four_digits_follow : (c : ℕ) (rest : Text) (letter : ℕ) (bytes tail : List ℕ) → all_scalars (c ∷ []) ≡ true → needs_escape true c ≡ true
     → bytes ≡ encode_utf8_all (escape_after_backslash (letter_among short_escapes c) c ++ rest) → bytes ≡ encode_utf8 letter ++ tail → letter ≡ 117
     → (256 ≤ c) × (c < 65536) × (letter_among short_escapes c ≡ None) × (tail ≡ encode_utf8_all (hex_digits 4 c ++ rest))
-four_digits_follow c rest letter bytes tail scalar needs is starts same =
-    four_by c (escape_after_backslash (letter_among short_escapes c) c) rest letter bytes tail (after_backslash c scalar needs) is starts same
+four_digits_follow c rest letter bytes tail scalar needs is starts same = four_by _ _ rest _ _ tail (after_backslash c scalar needs) is starts same
 
 letter_by : (c : ℕ) (escape rest : Text) (letter : ℕ) (bytes tail : List ℕ) → AfterBackslash c escape → bytes ≡ encode_utf8_all (escape ++ rest)
     → bytes ≡ encode_utf8 letter ++ tail → (letter ≡ 120 → ⊥) → (letter ≡ 117 → ⊥) → (letter_meaning letter ≡ Some c) × (tail ≡ encode_utf8_all rest)
 letter_by c _ rest letter bytes tail (by_letter own means) is starts two four =
-    let first = first_is bytes tail letter own rest starts is in (ap letter_meaning first.0 ∙ means, first.1)
-letter_by c _ rest letter bytes tail (by_two none few) is starts two four =
-    absurd (two (first_is bytes tail letter 120 (hex_digits 2 c ++ rest) starts is).0)
+    let first = first_is _ tail letter own rest starts is in (ap letter_meaning first.0 ∙ means, first.1)
+letter_by c _ rest letter bytes tail (by_two none few) is starts two four = absurd (two (first_is _ tail letter 120 (hex_digits 2 c ++ rest) starts is).0)
 letter_by c _ rest letter bytes tail (by_four none many few) is starts two four =
-    absurd (four (first_is bytes tail letter 117 (hex_digits 4 c ++ rest) starts is).0)
+    absurd (four (first_is _ tail letter 117 (hex_digits 4 c ++ rest) starts is).0)
 
 -- a letter that means the character
 pub letter_follows : (c : ℕ) (rest : Text) (letter : ℕ) (bytes tail : List ℕ) → all_scalars (c ∷ []) ≡ true → needs_escape true c ≡ true

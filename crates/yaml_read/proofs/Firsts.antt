@@ -34,8 +34,7 @@ after_backslash c scalar needs = by (letter_among short_escapes c) refl
     number : (two four : Bool) → letter_among short_escapes c ≡ None → nat_le c 0xFF ≡ two → nat_le c 0xFFFF ≡ four
         → AfterBackslash c (if two then 120 ∷ hex_digits 2 c else (if four then 117 ∷ hex_digits 4 c else 85 ∷ hex_digits 8 c))
     number true four none is_two is_four = by_two none (let le : c ≤ 0xFF = leb-true c 0xFF is_two in omega arith)
-    number false true none is_two is_four =
-        by_four none (grind (arith, nat_tests, is_two)) (let le : c ≤ 0xFFFF = leb-true c 0xFFFF is_four in omega arith)
+    number false true none is_two is_four = by_four none (grind (arith, nat_tests, is_two)) (let le : c ≤ 0xFFFF = leb-true c 0xFFFF is_four in omega arith)
     number false false none is_two is_four =
         let few : c < 65536 = short_number c scalar needs in
         absurd (true≢false (sym (grind (arith, nat_tests, few)) ∙ is_four))

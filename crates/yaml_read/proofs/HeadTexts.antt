@@ -23,8 +23,7 @@ list_tail column (values_and items item) rest =
 abbrev pub map_tail : ℕ → TypedPairs → Text → Text
 map_tail column no_value_pairs rest = codes "{}" ++ rest
 map_tail column (value_pairs_and pairs key value) rest =
-    codes "{"
-    ++ (line_at (column + 2) ++ (codes "? " ++ pairs_behind (column + 2) pairs key value (codes "," ++ (line_at column ++ (codes "}" ++ rest)))))
+    codes "{" ++ (line_at (column + 2) ++ (codes "? " ++ pairs_behind (column + 2) pairs key value (codes "," ++ (line_at column ++ (codes "}" ++ rest)))))
 
 -- the text after a value's tag, before a rest
 abbrev pub value_tail : ℕ → TypedValue → Text → Text
@@ -40,12 +39,10 @@ regroup inside line bracket rest = simp append_assoc
 
 pub value_parts : (column : ℕ) (value : TypedValue) (rest : Text) → value_text column value ++ rest ≡ value_word value ++ value_tail column value rest
 value_parts column (list_value (values_and items item)) rest =
-    ap (λ t. codes "!!seq [" ++ t)
-    (regroup (nodes_text (column + 2) (value_nodes (values_and items item))) (line_at column) (codes "]") rest
+    ap (λ t. codes "!!seq [" ++ t) (regroup (nodes_text (column + 2) (value_nodes (values_and items item))) (line_at column) (codes "]") rest
     ∙ items_open_text (column + 2) items item (line_at column ++ (codes "]" ++ rest)))
 value_parts column (map_value (value_pairs_and pairs key value)) rest =
-    ap (λ t. codes "!!map {" ++ t)
-    (regroup (node_pairs_text (column + 2) (value_pairs (value_pairs_and pairs key value))) (line_at column) (codes "}") rest
+    ap (λ t. codes "!!map {" ++ t) (regroup (node_pairs_text (column + 2) (value_pairs (value_pairs_and pairs key value))) (line_at column) (codes "}") rest
     ∙ pairs_open_text (column + 2) pairs key value (line_at column ++ (codes "}" ++ rest)))
 value_parts column (list_value no_values) rest = refl
 value_parts column (map_value no_value_pairs) rest = refl

@@ -4,7 +4,6 @@ use Rattle.yaml_read.proofs.Common.{chars, chars-IsAscii, ℤ, TypedValue, null_
 use Rattle.yaml_read.proofs.Common.{seen_text, in_quotes, value_text, FitsSigned, w64, ◌^◌, Result, Ok, Err, String, string_bytes, IsUtf8-string_bytes}
 use Rattle.yaml_read.proofs.Common.{scalars-chars, IsAscii-signed, signed_decimal, mag, ParsesSigned, IsInteger, IsTruth, IsScalarValue}
 use Rattle.yaml_read.proofs.Encoded.{are_ascii, word_encoded}
-use Rattle.yaml_value.specs.declared.value.Value as declared
 
 -- a word of ASCII is its bytes
 pub word_bytes : (word : Text) → are_ascii word ≡ true → encode_utf8_all word ≡ word

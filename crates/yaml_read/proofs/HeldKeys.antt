@@ -109,8 +109,7 @@ off_moved whole before after outer level old new rest held (value_given value al
 
 pub ends_before : {A : Type 0} (whole : List ℕ) (level : OpenLevel) (outer : List OpenLevel) (held : OpenKeys A) (rest : List ℕ)
     → HeldKeys whole level outer held → IsOpen whole (level ∷ outer) rest → KeyEndsBefore level held.start.now rest
-ends_before whole (value_due pairs key) outer held rest is opened =
-    (key_bytes (column_in outer + 2) key, key_between whole outer pairs key held.start.now rest is.0 opened)
+ends_before whole (value_due pairs key) outer held rest is opened = (key_bytes (column_in outer + 2) key, key_between _ outer pairs key _ _ is.0 opened)
 ends_before whole _ outer held rest is opened = tt
 
 pub node_held : {A : Type 0} (whole : List ℕ) (level : OpenLevel) (outer : List OpenLevel) (held more : OpenKeys A) (rest : List ℕ)
@@ -196,8 +195,7 @@ pub node_may : {A : Type 0} (old new : List (OpenKeys A)) (levels : List (Level 
     → KeyEndsBefore (seen_level level) held.start.now rest
 node_may old new levels level rest held can last taken =
     let at = off_at old new levels level rest held can last taken in
-    ends_before can.whole (seen_level level) at.outer held rest at.off.0
-    (subst (λ (l : List OpenLevel). IsOpen can.whole l rest) at.is can.opened)
+    ends_before can.whole (seen_level level) at.outer held rest at.off.0 (subst (λ (l : List OpenLevel). IsOpen can.whole l rest) at.is can.opened)
 
 -- ---- by whether keys must differ
 

@@ -40,8 +40,7 @@ value_tells (suc depth) first second one other few same =
     let deeper : suc depth * 2 ≡ depth * 2 + 2 = omega arith in
     let room : depth < most_nested = omega (arith, few) in
     let lists : listed first ≡ listed second =
-    value_tells depth (listed first) (listed second) (room, (tt, one)) (room, (tt, other)) (omega (arith, room))
-    (list_same (depth * 2) first second
+    value_tells depth (listed first) (listed second) (room, (tt, one)) (room, (tt, other)) (omega (arith, room)) (list_same (depth * 2) first second
     (subst (λ n. encode_utf8_all (value_text n first) ≡ encode_utf8_all (value_text n second)) deeper same)) in
     cc
 
@@ -95,7 +94,6 @@ key_between whole outer pairs key start rest before after =
     let column = column_in outer + 2 in
     let front = opened_text (pairs_open pairs ∷ outer) in
     let written = value_text column key ++ (line_at column ++ codes ": ") in
-    append_cancel_left (encode_utf8_all front) start (key_bytes column key ++ rest)
-    (sym before.text ∙ after.text
+    append_cancel_left (encode_utf8_all front) start (key_bytes column key ++ rest) (sym before.text ∙ after.text
     ∙ ap (λ t. encode_utf8_all t ++ rest) (sym (append_assoc (opened_text outer) (map_begun (column_in outer) pairs) written))
     ∙ ap (λ t. t ++ rest) (encodes-append front written) ∙ append_assoc (encode_utf8_all front) (encode_utf8_all written) rest)

@@ -61,8 +61,7 @@ opening_some event h1 = grind (arith, some_behind, in_quotes, codes)
 
 -- after a comma, or without one
 same_over : (text : Text) (middle rest : List ℕ) → middle ≡ rest → IsOver text middle → IsOver (text ++ []) rest
-same_over text middle rest is over =
-    subst (λ (t : Text). IsOver t rest) (sym (append-nil text)) (subst (IsOver text) is over)
+same_over text middle rest is over = subst (λ (t : Text). IsOver t rest) (sym (append-nil text)) (subst (IsOver text) is over)
 
 comma_over : (text : Text) (rest : List ℕ) → IsOver (text ++ codes ",") rest
 comma_over text rest = other_last (text ++ codes ",") text 0x2C rest refl refl

@@ -40,8 +40,7 @@ letters_first (b ∷ bytes) = by (is_alpha b) refl (letters_first bytes)
 -- it is a whole text
 pub name_boundary : (bytes : List ℕ) (size : ℕ) → IsUtf8 bytes → size ≡ prefix_len is_alpha bytes → IsCharBoundary bytes size
 name_boundary bytes size u is =
-    subst (λ (n : ℕ). IsCharBoundary bytes n) (sym is)
-    (IsCharBoundary-from_take bytes (prefix_len is_alpha bytes) u (prefix_len-le-length is_alpha bytes)
+    subst (λ (n : ℕ). IsCharBoundary bytes n) (sym is) (IsCharBoundary-from_take bytes (prefix_len is_alpha bytes) u (prefix_len-le-length is_alpha bytes)
     (IsUtf8-from_ascii (take (prefix_len is_alpha bytes) bytes)
     (ascii_of (take (prefix_len is_alpha bytes) bytes) (name_ascii (take (prefix_len is_alpha bytes) bytes) (letters_first bytes)))))
 
@@ -155,8 +154,7 @@ anchor_there (Some name) rest text inside named none cut is =
 pub anchor_absent : (anchor : Option Text) (rest : Text) (text : List ℕ) → past_word (codes "&") text ≡ None
     → text ≡ encode_utf8_all (anchor_text anchor ++ rest) → (None ≡ anchor) × (text ≡ encode_utf8_all rest)
 anchor_absent None rest text none is = (refl, is)
-anchor_absent (Some name) rest text none is =
-    absurd (no_word (codes "&") text _ none (is ∙ word_encoded (codes "&") ((name ++ space ∷ []) ++ rest) refl))
+anchor_absent (Some name) rest text none is = absurd (no_word (codes "&") text _ none (is ∙ word_encoded (codes "&") ((name ++ space ∷ []) ++ rest) refl))
 
 -- the space after a name
 pub space_there : (rest : Text) (behind : List ℕ) → behind ≡ encode_utf8_all (space ∷ rest) → past_word (codes " ") behind ≡ None → ⊥
@@ -176,9 +174,7 @@ anchor_sound name text inside behind rest named cut read spaced =
   where
     anchor_named : (name : Text) → alias_fault name ≡ None → IsAnchor (Some name)
     anchor_named [] named = cc
-    anchor_named (c ∷ name) named =
-        ap (λ b. if b then None else Some AnchorAlphabet) (name_letters (c ∷ name) named)
+    anchor_named (c ∷ name) named = ap (λ b. if b then None else Some AnchorAlphabet) (name_letters (c ∷ name) named)
 
     anchor_ascii : (name : Text) → list_all is_alpha name ≡ true → are_ascii (anchor_text (Some name)) ≡ true
-    anchor_ascii name letters =
-        list_all-append (λ c. nat_lt c 128) name (space ∷ []) ∙ ap (λ b. b && true) (name_ascii name letters)
+    anchor_ascii name letters = list_all-append (λ c. nat_lt c 128) name (space ∷ []) ∙ ap (λ b. b && true) (name_ascii name letters)

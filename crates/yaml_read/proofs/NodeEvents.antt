@@ -1,6 +1,6 @@
 -- The events of a dump's node, without their styles, are such as are read.
 use Rattle.yaml_base.proofs.Common.{ℕ, numbers_in, All, true, false, Option, None, Some, List, [], ◌∷◌, ◌++◌, refl, ◌≡◌, ap, subst, ◌∙◌, map, arith, flat_map}
-use Rattle.yaml_base.proofs.Common.{list_all, Contains, if◌then◌else◌, option_and_then, option_or, unwrap_or, is_alpha, Text, Event, alias, document_start}
+use Rattle.yaml_base.proofs.Common.{list_all, Contains, option_and_then, option_or, unwrap_or, is_alpha, Text, Event, alias, document_start}
 use Rattle.yaml_base.proofs.Common.{document_end, sequence_end, mapping_end, Held, scalar_held, sequence_held, mapping_held, GraphNode, Graph, node_numbered}
 use Rattle.yaml_base.proofs.Common.{Step, enters, leaves, meets_again, anchor_of, opening_event_of, opening_events, closing_event_of, closing_events}
 use Rattle.yaml_base.proofs.Common.{step_events, document_event_list, IsWholeGraph, name_fault, anchor_fault, tag_fault, All-tail}
@@ -40,8 +40,7 @@ closings_of_walk (Some node) = held_of_walk node.held
 step_of_walk : (graph : Graph) (walk : List Step) (step : Step) → All IsOfWalk (step_events graph walk step)
 step_of_walk graph walk (enters number) = openings_of_walk (anchor_of walk number) (node_numbered graph number)
 step_of_walk graph walk (leaves number) = closings_of_walk (node_numbered graph number)
-step_of_walk graph walk (meets_again number) =
-    one_of_walk (alias (unwrap_or (anchor_of walk number) [])) (names_node (unwrap_or (anchor_of walk number) []))
+step_of_walk graph walk (meets_again number) = one_of_walk _ (names_node (unwrap_or (anchor_of walk number) []))
 
 steps_of_walk : (graph : Graph) (walk part : List Step) → All IsOfWalk (flat_map (step_events graph walk) part)
 steps_of_walk graph walk [] = All-nil IsOfWalk
@@ -134,8 +133,7 @@ root_sound graph is =
     let bare = bare_graph graph in
     let events = document_event_list bare in
     let whole : IsWholeGraph bare = record { whole = is.whole; has_nodes = is.has_nodes } in
-    subst (λ (inside : List Event). All HasNoFault inside) (root_bare graph)
-    (inside_all HasNoFault bare whole
+    subst (λ (inside : List Event). All HasNoFault inside) (root_bare graph) (inside_all HasNoFault bare whole
     (All-weaker (Contains events) HasNoFault (λ event within. document_writable bare refl refl event (contained_in event events within)) events
     (All-contains_itself events)))
 

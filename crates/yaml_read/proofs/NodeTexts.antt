@@ -50,10 +50,8 @@ pub opening_of : (event : Event) → BeginsNode event → HasOpening event (open
 opening_of _ (is_alias name named) = of_alias name named
 opening_of _ (is_scalar anchor tag value parts) =
     opening_by anchor tag _ _ parts.anchor_sound parts.tag_sound parts.tag_scalars (value_quoted value parts.value_scalars)
-opening_of _ (is_sequence anchor tag parts) =
-    opening_by anchor tag _ _ parts.anchor_sound parts.tag_sound parts.tag_scalars sequence_opened
-opening_of _ (is_mapping anchor tag parts) =
-    opening_by anchor tag _ _ parts.anchor_sound parts.tag_sound parts.tag_scalars mapping_opened
+opening_of _ (is_sequence anchor tag parts) = opening_by anchor tag _ _ parts.anchor_sound parts.tag_sound parts.tag_scalars sequence_opened
+opening_of _ (is_mapping anchor tag parts) = opening_by anchor tag _ _ parts.anchor_sound parts.tag_sound parts.tag_scalars mapping_opened
 
 -- ---- after a tag
 
@@ -96,8 +94,7 @@ pub at_quote : (held : Held) (written rest : Text) (text : List ℕ) → HasHeld
 at_quote _ _ rest text (value_quoted value scalars) is none also = record { value = value; is = refl; scalars = scalars; stands = is }
 at_quote _ _ rest text sequence_opened is none also =
     absurd (no_word (codes "[") text (encode_utf8_all rest) none (is ∙ word_encoded (codes "[") rest refl))
-at_quote _ _ rest text mapping_opened is none also =
-    absurd (no_word (codes "{") text (encode_utf8_all rest) also (is ∙ word_encoded (codes "{") rest refl))
+at_quote _ _ rest text mapping_opened is none also = absurd (no_word (codes "{") text (encode_utf8_all rest) also (is ∙ word_encoded (codes "{") rest refl))
 
 -- ---- before a tag
 
@@ -281,8 +278,7 @@ pub behind_space : (name : Text) (inside behind after : List ℕ)
 behind_space name inside behind after one cut event rest begins is =
     let at = behind_mark inside event rest begins is in
     let same = one at.name (space ∷ at.more) at.named refl at.stands in
-    subst (λ (n : Text). IsTaggedAt (Some n) event rest after) (sym same.0)
-    (at.tagged after
+    subst (λ (n : Text). IsTaggedAt (Some n) event rest after) (sym same.0) (at.tagged after
     (cut_is (codes " ") behind after (encode_utf8_all at.more) cut (same.1 ∙ word_encoded (codes " ") at.more refl)))
 
 -- or there is none
@@ -339,6 +335,5 @@ absent_then P Q error then_is is = read_or_then (λ (_ : List ℕ). Unit {0}) (�
 -- a part that is refused as a whole is absent
 pub whole_absent : (Absent : Type 0) (bytes : List ℕ) (reason error : Stop) → IsWholeWord bytes reason error
     → ReadOr (λ (_ : List ℕ). Unit {0}) Absent (Err reason) → ReadOr (λ (_ : List ℕ). Unit {0}) Absent (Err error)
-whole_absent Absent bytes stop.Memory error is none =
-    subst (λ (e : Stop). ReadOr (λ (_ : List ℕ). Unit {0}) Absent (Err e)) (sym is) tt
+whole_absent Absent bytes stop.Memory error is none = subst (λ (e : Stop). ReadOr (λ (_ : List ℕ). Unit {0}) Absent (Err e)) (sym is) tt
 whole_absent Absent bytes _ error is none = none_read Absent error (λ _. none)

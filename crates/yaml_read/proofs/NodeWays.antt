@@ -1,6 +1,6 @@
 -- Nodes, and what follows them, can be read in one way only.
 use Rattle.yaml_read.proofs.Common.{ℕ, suc, None, Some, Option, List, [], ◌∷◌, ◌++◌, refl, ◌≡◌, ap, subst, sym, ◌∙◌, codes, length, behind_tag, behind_value}
-use Rattle.yaml_read.proofs.Common.{levels_then, line_then, node, nothing, these_or_those, unless_deep, word_then, tag_word, past_word, Kind, OpenLevel, arith}
+use Rattle.yaml_read.proofs.Common.{line_then, node, nothing, these_or_those, unless_deep, word_then, tag_word, past_word, Kind, OpenLevel}
 use Rattle.yaml_read.proofs.Common.{items_open, pairs_open, value_due}
 use Rattle.yaml_read.proofs.OneWays.{OneWay, entry_way, levels_way, line_way, nothing_way, two_way, unless_way, word_way}
 use Rattle.yaml_read.proofs.{CharacterWays.integer_way, CharacterWays.quoted_way, Words.behind_word}
@@ -10,9 +10,7 @@ use Rattle.yaml_read.specs.declared.heads.Kind.TheVariants as kind
 
 inside_way : (depth : ℕ) (end : List ℕ) (More : List (List ℕ) → Type 0) → ((rest : List ℕ) → past_word end (codes "\n" ++ rest) ≡ None) → OneWay More
     → OneWay (unless_deep depth (these_or_those (word_then end nothing) (line_then (suc depth) More)))
-inside_way depth end More none way =
-    unless_way depth (these_or_those (word_then end nothing) (line_then (suc depth) More))
-    (two_way end (codes "\n") nothing (levels_then (suc depth) More) none nothing_way (levels_way (suc depth) More way))
+inside_way depth end More none way = unless_way depth _ (two_way end (codes "\n") _ _ none nothing_way (levels_way (suc depth) _ way))
 
 behind_way : (depth : ℕ) (k : Kind) → OneWay (behind_tag depth k)
 behind_way depth kind.Null = word_way (codes "\"null\"") nothing nothing_way
@@ -47,8 +45,7 @@ kinds_alike k j a b is = kinds_by k j a b (ap (past_word (tag_word k)) (sym is) 
 -- words of a node after their tag, whose kind is known
 after_tag : (depth : ℕ) (k j : Kind) (word : List ℕ) (words : List (List ℕ)) → word ≡ tag_word k → word ≡ tag_word j → behind_tag depth j words
     → behind_tag depth k words
-after_tag depth k j word words is also are =
-    subst (λ (i : Kind). behind_tag depth i words) (kinds_alike j k [] [] (ap (λ w. w ++ []) (sym also ∙ is))) are
+after_tag depth k j word words is also are = subst (λ (i : Kind). behind_tag depth i words) (kinds_alike j k [] [] (ap (λ w. w ++ []) (sym also ∙ is))) are
 
 pub node_way : (depth : ℕ) → OneWay (node depth)
 node_way depth = record { alike = alike; ends = ends }
@@ -72,5 +69,4 @@ pub behind_value_way : (levels : List OpenLevel) → OneWay (behind_value levels
 behind_value_way [] = word_way (codes "\n") nothing nothing_way
 behind_value_way (items_open items ∷ levels) = entry_way (length levels) (codes "  ") (codes "]") (λ rest. refl)
 behind_value_way (value_due pairs key ∷ levels) = entry_way (length levels) (codes "  ? ") (codes "}") (λ rest. refl)
-behind_value_way (pairs_open pairs ∷ levels) =
-    line_way (length levels) (word_then (codes "  : ") nothing) (word_way (codes "  : ") nothing nothing_way)
+behind_value_way (pairs_open pairs ∷ levels) = line_way (length levels) (word_then (codes "  : ") nothing) (word_way (codes "  : ") nothing nothing_way)

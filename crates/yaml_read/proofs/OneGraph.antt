@@ -27,8 +27,7 @@ same_events first second whole also_whole same =
     (ap (λ (inside : List Event). stream_start None ∷ (inside ++ stream_end ∷ [])) (one.is_document ∙ same ∙ sym two.is_document)) in
     let roots : one.document.root ≡ two.document.root = ap (λ (stream : Stream). last_root stream.documents) streams in
     same_shape first second (content_shape (node_content one.document.root)) (content_unfolds first one.document.root one.unfolds)
-    (subst (λ (root : Node). Unfolds false second (content_shape (node_content root))) (sym roots)
-    (content_unfolds second two.document.root two.unfolds))
+    (subst (λ (root : Node). Unfolds false second (content_shape (node_content root))) (sym roots) (content_unfolds second two.document.root two.unfolds))
 
 -- ---- styles
 

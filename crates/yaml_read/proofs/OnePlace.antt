@@ -1,6 +1,6 @@
 -- Bytes have one place of their fault.
 use Rattle.yaml_read.proofs.Common.{ℕ, ◌+◌, ◌*◌, ◌-◌, ◌<◌, ◌≤◌, suc, Bool, true, false, true≢false, Option, None, Some, List, [], ◌∷◌, ◌++◌, refl, ◌≡◌, ap}
-use Rattle.yaml_read.proofs.Common.{subst, sym, ◌∙◌, ◌⊎◌, inl, inr, append_assoc, append-nil, arith, codes, encode, encode_utf8_all, length, line_feed, Text}
+use Rattle.yaml_read.proofs.Common.{subst, sym, ◌∙◌, ◌⊎◌, inl, inr, append-nil, arith, codes, encode, encode_utf8_all, length, line_feed}
 use Rattle.yaml_read.proofs.Common.{utf8, TypedValue, most_nested, Position, document_text, line_at, list_begun, map_begun}
 use Rattle.yaml_read.proofs.Common.{value_text, append_cancel_left, IsUtf8, OpenLevel, items_open, pairs_open, value_due, behind_value, entry_end, line_then}
 use Rattle.yaml_read.proofs.Common.{node, nothing, word_then, HasRead, IsOpen, OpenCanBeRead, opened_text, BreaksInValue, BreaksOff, CannotStand, IsWordPlace}
@@ -44,13 +44,11 @@ opened_leads : (levels : List OpenLevel) → OpenCanBeRead levels → LeadsTo (a
 opened_leads [] readable = record { walk = λ rest. stays (at_node []) rest }
 opened_leads (items_open items ∷ levels) readable =
     then_leads (at_node []) (at_node (bare levels)) (at_node (a_list ∷ bare levels)) (opened_text levels) (list_begun (column_in levels) items)
-    (opened_leads levels readable.0)
-    (items_lead items (bare levels) (column_in levels) (bare_column levels) (few_bare levels readable.1.0)
+    (opened_leads levels readable.0) (items_lead items (bare levels) (column_in levels) (bare_column levels) (few_bare levels readable.1.0)
     (subst (λ n. AllCanBeReadAt (suc n) items) (bare_length levels) readable.1.1))
 opened_leads (pairs_open pairs ∷ levels) readable =
     then_leads (at_node []) (at_node (bare levels)) (at_node (a_map ∷ bare levels)) (opened_text levels) (map_begun (column_in levels) pairs)
-    (opened_leads levels readable.0)
-    (pairs_lead pairs (bare levels) (column_in levels) (bare_column levels) (few_bare levels readable.1.0)
+    (opened_leads levels readable.0) (pairs_lead pairs (bare levels) (column_in levels) (bare_column levels) (few_bare levels readable.1.0)
     (subst (λ n. PairsCanBeReadAt (suc n) pairs) (bare_length levels) readable.1.1))
 opened_leads (value_due pairs key ∷ levels) readable =
     let column = column_in levels in
@@ -58,11 +56,9 @@ opened_leads (value_due pairs key ∷ levels) readable =
     let same = bare_column levels in
     then_leads (at_node []) (at_node (bare levels)) (at_node (a_key ∷ bare levels)) (opened_text levels)
     (map_begun column pairs ++ (text ++ (line_at (column + 2) ++ codes ": "))) (opened_leads levels readable.0)
-    (key_leads (bare levels) column same (map_begun column pairs) text
-    (pairs_lead pairs (bare levels) column same (few_bare levels readable.1.0)
+    (key_leads (bare levels) column same (map_begun column pairs) text (pairs_lead pairs (bare levels) column same (few_bare levels readable.1.0)
     (subst (λ n. PairsCanBeReadAt (suc n) pairs) (bare_length levels) readable.1.1.0))
-    (value_leads key (a_map ∷ bare levels) (column + 2) (omega (arith, same))
-    (subst (λ n. CanBeReadAt (suc n) key) (bare_length levels) readable.1.1.1)))
+    (value_leads key (a_map ∷ bare levels) (column + 2) (omega (arith, same)) (subst (λ n. CanBeReadAt (suc n) key) (bare_length levels) readable.1.1.1)))
 
 pub opened_walk : (whole bytes : List ℕ) (levels : List OpenLevel) → IsOpen whole levels bytes → Walk (at_node []) whole (at_node (bare levels)) bytes
 opened_walk whole bytes levels opened =
@@ -72,8 +68,7 @@ read_walk : (whole bytes : List ℕ) (levels : List OpenLevel) (value : TypedVal
     → Walk (at_node []) whole (after_node (bare levels)) bytes
 read_walk whole bytes levels value read =
     subst (λ (t : List ℕ). Walk (at_node []) t (after_node (bare levels)) bytes) (sym read.text)
-    ((then_leads (at_node []) (at_node (bare levels)) (after_node (bare levels)) (opened_text levels) (value_text (column_in levels) value)
-    (opened_leads levels read.outer)
+    ((then_leads _ _ (after_node (bare levels)) _ (value_text (column_in levels) value) (opened_leads levels read.outer)
     (value_leads value (bare levels) (column_in levels) (bare_column levels) (subst (λ n. CanBeReadAt n value) (bare_length levels) read.readable))).walk bytes)
 
 -- ---- why no way leads on
@@ -123,8 +118,7 @@ found_once : (whole : List ℕ) (deep dark : Bool) (left other : ℕ) → Found 
 found_once whole deep dark left other one two =
     let same = one_halt (at_node []) one.spot two.spot whole one.bytes two.bytes one.walk two.walk (stops_halt one.spot one.bytes deep left one.stops)
     (stops_halt two.spot two.bytes dark other two.stops) in
-    stops_once one.spot one.bytes deep dark left other one.stops
-    (subst (λ (s : Spot). Stops s one.bytes dark other) (sym same.spot)
+    stops_once one.spot one.bytes deep dark left other one.stops (subst (λ (s : Spot). Stops s one.bytes dark other) (sym same.spot)
     (subst (λ (b : List ℕ). Stops two.spot b dark other) (sym same.bytes) two.stops))
 
 pub behind_bare : (Holds : (List (List ℕ) → Type 0) → Type 0) (levels : List OpenLevel) → Holds (behind_value levels) → Holds (behind_value (bare levels))
@@ -178,23 +172,20 @@ deep_found whole left deep =
 -- ---- bytes
 
 marker_is : (bytes whole : List ℕ) (left : ℕ) → BreaksOff (word_then (codes "---\n") nothing) bytes left → bytes ≡ codes "---\n" ++ whole → ⊥
-marker_is bytes whole left breaks_off is =
-    whole_breaks (word_then (codes "---\n") nothing) bytes left (codes "---\n" ∷ []) whole (word_way (codes "---\n") nothing nothing_way) breaks_off (refl, tt) is
+marker_is bytes whole left breaks_off is = whole_breaks _ _ _ (codes "---\n" ∷ []) whole (word_way (codes "---\n") _ nothing_way) breaks_off (refl, tt) is
 
 -- what follows a document's first line
 behind_marker : (bytes : List ℕ) (Holds Held : List ℕ → Type 0) → IsBehindMarker bytes Holds → IsBehindMarker bytes Held
     → (whole : List ℕ) × (Holds whole) × (Held whole)
-behind_marker bytes Holds Held one other =
-    (one.0, one.2, subst Held (append_cancel_left (codes "---\n") other.0 one.0 (sym other.1 ∙ one.1)) other.2)
+behind_marker bytes Holds Held one other = (one.0, one.2, subst Held (append_cancel_left (codes "---\n") other.0 one.0 (sym other.1 ∙ one.1)) other.2)
 
 stands_once : (bytes : List ℕ) (left other : ℕ) → CannotStand keys.MayRepeat bytes left → CannotStand keys.MayRepeat bytes other → left ≡ other
-stands_once bytes left other (inl first) (inl second) =
-    place_same (word_then (codes "---\n") nothing) bytes left other (word_way (codes "---\n") nothing nothing_way) first second
-stands_once bytes left other (inl first) (inr second) = absurd (marker_is bytes second.0 left first second.1)
-stands_once bytes left other (inr first) (inl second) = absurd (marker_is bytes first.0 other second first.1)
+stands_once bytes left other (inl first) (inl second) = place_same _ _ _ _ (word_way (codes "---\n") _ nothing_way) first second
+stands_once bytes left other (inl first) (inr second) = absurd (marker_is _ second.0 _ first second.1)
+stands_once bytes left other (inr first) (inl second) = absurd (marker_is _ first.0 _ second first.1)
 stands_once bytes left other (inr first) (inr second) =
     let both = behind_marker bytes (λ whole. BreaksInValue keys.MayRepeat whole left) (λ whole. BreaksInValue keys.MayRepeat whole other) first second in
-    (found_once both.0 false false left other (breaks_found both.0 left both.1) (breaks_found both.0 other both.2)).1
+    (found_once _ _ _ _ _ (breaks_found _ _ both.1) (breaks_found _ _ both.2)).1
 
 deep_once : (bytes : List ℕ) (left other : ℕ) → IsBehindMarker bytes (λ whole. OpensPastDepth keys.MayRepeat whole left)
     → IsBehindMarker bytes (λ whole. OpensPastDepth keys.MayRepeat whole other) → left ≡ other
@@ -221,13 +212,12 @@ position_once bytes one other first second same is are =
 
 word_once : (bytes : List ℕ) (first second : Position) → IsWordPlace keys.MayRepeat bytes first → IsWordPlace keys.MayRepeat bytes second → first ≡ second
 word_once bytes first second (inl one) (inl other) =
-    position_once bytes one.at other.at first second
+    position_once _ _ _ _ _
     (sym (utf8_valid_len-IsValidUpTo bytes one.at one.valid) ∙ utf8_valid_len-IsValidUpTo bytes other.at other.valid) one.position_is other.position_is
 word_once bytes first second (inl one) (inr other) = absurd (one.not_utf8 other.utf8)
 word_once bytes first second (inr one) (inl other) = absurd (other.not_utf8 one.utf8)
 word_once bytes first second (inr one) (inr other) =
-    position_once bytes _ _ first second (ap (λ n. length bytes - n) (stands_once bytes one.left other.left one.holds other.holds)) one.position_is
-    other.position_is
+    position_once _ _ _ _ _ (ap (λ n. length bytes - n) (stands_once bytes one.left other.left one.holds other.holds)) one.position_is other.position_is
 
 -- no word is impossible where a list or a map lies too deep
 no_word : (bytes : List ℕ) (first second : Position) → IsWordPlace keys.MayRepeat bytes first → IsDepthPlace keys.MayRepeat bytes second → ⊥
@@ -270,18 +260,15 @@ not_found : (value : TypedValue) (whole : List ℕ) (deep : Bool) (left : ℕ) �
 not_found value whole deep left readable is found =
     let walk = subst (λ (t : List ℕ). Walk (at_node []) t at_end []) (append-nil (encode_utf8_all (value_text 0 value ++ line_feed ∷ [])) ∙ sym is)
     (value_walk value readable) in
-    let same = one_halt (at_node []) found.spot at_end whole found.bytes [] found.walk walk
-    (stops_halt found.spot found.bytes deep left found.stops) (past_halts []) in
-    ends_right deep found.bytes left same.bytes (subst (λ (s : Spot). Stops s found.bytes deep left) same.spot found.stops)
+    let same = one_halt _ _ _ _ _ _ found.walk walk (stops_halt found.spot found.bytes deep left found.stops) (past_halts []) in
+    ends_right deep _ left same.bytes (subst (λ (s : Spot). Stops s found.bytes deep left) same.spot found.stops)
 
 stands_not : (value : TypedValue) (bytes : List ℕ) (left : ℕ) → CanBeReadAt 0 value
     → bytes ≡ codes "---\n" ++ encode_utf8_all (value_text 0 value ++ line_feed ∷ []) → CannotStand keys.MayRepeat bytes left → ⊥
-stands_not value bytes left readable is (inl first) =
-    marker_is bytes (encode_utf8_all (value_text 0 value ++ line_feed ∷ [])) left first is
+stands_not value bytes left readable is (inl first) = marker_is _ (encode_utf8_all (value_text 0 value ++ line_feed ∷ [])) _ first is
 stands_not value bytes left readable is (inr first) =
-    not_found value first.0 false left readable
-    (append_cancel_left (codes "---\n") first.0 (encode_utf8_all (value_text 0 value ++ line_feed ∷ [])) (sym first.1 ∙ is))
-    (breaks_found first.0 left first.2)
+    not_found value _ _ _ readable (append_cancel_left (codes "---\n") first.0 (encode_utf8_all (value_text 0 value ++ line_feed ∷ [])) (sym first.1 ∙ is))
+    (breaks_found _ _ first.2)
 
 -- they have no place of a fault
 nowhere : (value : TypedValue) (bytes : List ℕ) (error : ReadError) → CanBeReadAt 0 value → IsUtf8 bytes
@@ -290,13 +277,11 @@ nowhere value bytes told.Memory readable valid is placed = refl
 nowhere value bytes told.NotNumbered readable valid is placed = absurd placed
 nowhere value bytes (told.DuplicateKey position) readable valid is placed = let never = placed.0 in cc
 nowhere value bytes (told.NotCanonical position) readable valid is (inl ends) = absurd (ends.not_utf8 valid)
-nowhere value bytes (told.NotCanonical position) readable valid is (inr place) =
-    absurd (stands_not value bytes place.left readable is place.holds)
+nowhere value bytes (told.NotCanonical position) readable valid is (inr place) = absurd (stands_not value _ place.left readable is place.holds)
 nowhere value bytes (told.TooDeep position) readable valid is placed =
     let deep = placed.holds in
-    absurd (not_found value deep.0 true placed.left readable
-    (append_cancel_left (codes "---\n") deep.0 (encode_utf8_all (value_text 0 value ++ line_feed ∷ [])) (sym deep.1 ∙ is))
-    (deep_found deep.0 placed.left deep.2))
+    absurd (not_found value _ _ _ readable
+    (append_cancel_left (codes "---\n") deep.0 (encode_utf8_all (value_text 0 value ++ line_feed ∷ [])) (sym deep.1 ∙ is)) (deep_found _ _ deep.2))
 
 pub no_place : (value : TypedValue) (error : ReadError) → CanBeRead value
     → IsPlacedBy keys.MayRepeat (encode (Some utf8) (document_text value)) error → error ≡ told.Memory

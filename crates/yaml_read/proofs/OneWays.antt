@@ -106,10 +106,8 @@ place_by These way before (word ∷ one) (second ∷ other) a b lacks also is =
 pub place_same : (These : List (List ℕ) → Type 0) (bytes : List ℕ) (left other : ℕ) → OneWay These → BreaksOff These bytes left
     → BreaksOff These bytes other → left ≡ other
 place_same These bytes left other way breaks also =
-    breaks.place
-    ∙ ap length (place_by These way [] breaks.read also.read breaks.rest also.rest (lacks_of These bytes left breaks) (lacks_of These bytes other also)
-    (sym breaks.parts ∙ also.parts))
-    ∙ sym also.place
+    breaks.place ∙ ap length (place_by _ way [] breaks.read also.read breaks.rest also.rest (lacks_of _ _ _ breaks) (lacks_of _ _ _ also)
+    (sym breaks.parts ∙ also.parts)) ∙ sym also.place
 
 -- ---- words of the grammar
 
@@ -149,8 +147,7 @@ either_way These Those apart these those = record { alike = alike; ends = ends }
     mixed : (read : List (List ℕ)) (one other : List ℕ) (ones others : List (List ℕ)) (a b : List ℕ) → These (read ++ one ∷ ones)
         → Those (read ++ other ∷ others) → one ++ a ≡ other ++ b → ⊥
     mixed [] one other ones others a b are also is = apart.firsts one other ones others a b are also is
-    mixed (word ∷ read) one other ones others a b are also is =
-        apart.firsts word word (read ++ one ∷ ones) (read ++ other ∷ others) [] [] are also refl
+    mixed (word ∷ read) one other ones others a b are also is = apart.firsts word word (read ++ one ∷ ones) (read ++ other ∷ others) [] [] are also refl
 
     alike : (read : List (List ℕ)) (one other : List ℕ) (ones others : List (List ℕ)) (a b : List ℕ)
         → these_or_those These Those (read ++ one ∷ ones) → these_or_those These Those (read ++ other ∷ others) → one ++ a ≡ other ++ b → one ≡ other
@@ -188,8 +185,7 @@ words_apart first second More Others none =
 pub two_way : (first second : List ℕ) (More Others : List (List ℕ) → Type 0) → ((rest : List ℕ) → past_word first (second ++ rest) ≡ None)
     → OneWay More → OneWay Others → OneWay (these_or_those (word_then first More) (word_then second Others))
 two_way first second More Others none more others =
-    either_way (word_then first More) (word_then second Others) (words_apart first second More Others none) (word_way first More more)
-    (word_way second Others others)
+    either_way _ _ (words_apart first second More Others none) (word_way first _ more) (word_way second _ others)
 
 pub levels_way : (depth : ℕ) (More : List (List ℕ) → Type 0) → OneWay More → OneWay (levels_then depth More)
 levels_way zero More way = way
@@ -214,6 +210,4 @@ unless_way depth More way = record { alike = alike; ends = ends }
     ends read word words are (inr also) = nothing_more read word words also.1
 
 pub entry_way : (depth : ℕ) (lead end : List ℕ) → ((rest : List ℕ) → past_word lead (end ++ rest) ≡ None) → OneWay (entry_end depth lead end)
-entry_way depth lead end none =
-    word_way (codes ",") (line_then depth (these_or_those (word_then lead nothing) (word_then end nothing)))
-    (line_way depth (these_or_those (word_then lead nothing) (word_then end nothing)) (two_way lead end nothing nothing none nothing_way nothing_way))
+entry_way depth lead end none = word_way (codes ",") _ (line_way depth _ (two_way lead end _ _ none nothing_way nothing_way))

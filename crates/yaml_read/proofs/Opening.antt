@@ -42,8 +42,7 @@ item_on whole levels items value bytes rest read cut =
       text =
           word_read whole bytes rest (codes "," ++ (line_at (length levels * 2) ++ codes "  ")) (codes "," ++ line)
           (opened_text (items_open items ∷ levels) ++ value_text column value) read.text (cut ∙ entry_word (line_at (length levels * 2)) (codes "  ") rest)
-          (ap encode_utf8_all (ap (λ t. codes "," ++ t) (sym (append-nil line))) ∙ comma_deeper levels [])
-          ∙ ap (λ t. encode_utf8_all t ++ rest)
+          (ap encode_utf8_all (ap (λ t. codes "," ++ t) (sym (append-nil line))) ∙ comma_deeper levels []) ∙ ap (λ t. encode_utf8_all t ++ rest)
           (regroup (opened_text levels) (nodes_text column (value_nodes items)) line (value_text column value) line);
       readable = (read.outer.0, (read.outer.1.0, (read.outer.1.1, read.readable)));
     }
@@ -78,8 +77,7 @@ key_on whole levels pairs key bytes rest read cut =
     record {
       text =
           word_read whole bytes rest (line_at (length levels * 2) ++ codes "  : ") written (opened_text (pairs_open pairs ∷ levels) ++ text) read.text
-          (cut ∙ sym (append_assoc (line_at (length levels * 2)) (codes "  : ") rest)) (key_line levels [])
-          ∙ ap (λ t. encode_utf8_all t ++ rest)
+          (cut ∙ sym (append_assoc (line_at (length levels * 2)) (codes "  : ") rest)) (key_line levels []) ∙ ap (λ t. encode_utf8_all t ++ rest)
           (append_assoc (opened_text levels ++ begun) text written ∙ append_assoc (opened_text levels) begun (text ++ written));
       readable = (read.outer.0, (read.outer.1.0, (read.outer.1.1, read.readable)));
     }
@@ -127,6 +125,8 @@ pair_out whole levels pairs key value bytes rest read cut =
 pub list_in : (whole : List ℕ) (levels : List OpenLevel) (bytes rest : List ℕ) → IsOpen whole levels bytes → length levels < most_nested
     → bytes ≡ codes "!!seq [" ++ (line_at (length levels * 2 + 2) ++ rest) → IsOpen whole (items_open no_values ∷ levels) rest
 list_in whole levels bytes rest opened deep cut =
+    let line : encode_utf8_all (line_at (column_in levels + 2)) ≡ line_at (length levels * 2 + 2) =
+    ap encode_utf8_all (sym (append-nil (line_at (column_in levels + 2)))) ∙ deeper_bytes levels [] refl ∙ append-nil (line_at (length levels * 2 + 2)) in
     record {
       text =
           word_read whole bytes rest (codes "!!seq [" ++ line_at (length levels * 2 + 2)) (codes "!!seq [" ++ line_at (column_in levels + 2))
@@ -134,9 +134,6 @@ list_in whole levels bytes rest opened deep cut =
           (word_encoded (codes "!!seq [") (line_at (column_in levels + 2)) refl ∙ ap (λ t. codes "!!seq [" ++ t) line);
       readable = (opened.readable, (deep, tt));
     }
-  where
-    line : encode_utf8_all (line_at (column_in levels + 2)) ≡ line_at (length levels * 2 + 2)
-    line = ap encode_utf8_all (sym (append-nil (line_at (column_in levels + 2)))) ∙ deeper_bytes levels [] refl ∙ append-nil (line_at (length levels * 2 + 2))
 
 -- into a map
 pub map_in : (whole : List ℕ) (levels : List OpenLevel) (bytes rest : List ℕ) → IsOpen whole levels bytes → length levels < most_nested
@@ -192,5 +189,4 @@ some_left bytes empty h1 h2 = grind (arith, true≢false)
 
 pub text_read : (value : TypedValue) (text whole : List ℕ) → text ≡ codes "---\n" ++ whole
     → whole ≡ encode_utf8_all (value_text 0 value ++ line_feed ∷ []) → text ≡ encode_utf8_all (document_text value)
-text_read value text whole is read =
-    is ∙ ap (λ t. codes "---\n" ++ t) read ∙ sym (word_encoded (codes "---\n") (value_text 0 value ++ line_feed ∷ []) refl)
+text_read value text whole is read = is ∙ ap (λ t. codes "---\n" ++ t) read ∙ sym (word_encoded (codes "---\n") (value_text 0 value ++ line_feed ∷ []) refl)

@@ -1,7 +1,7 @@
 -- Up to the place of an error the bytes begin a canonical text.
 use Rattle.yaml_read.proofs.Common.{ℕ, ◌-◌, ◌+◌, ◌*◌, ◌<◌, List, [], ◌∷◌, ◌++◌, refl, ◌≡◌, ap, subst, sym, ◌∙◌, append_assoc, arith, codes, flat_map-append}
 use Rattle.yaml_read.proofs.Common.{length, line_feed, encode_utf8_all, Text, TypedValue, list_value, map_value, most_nested, value_pairs_and, values_and}
-use Rattle.yaml_read.proofs.Common.{line_at, value_text, take-append_seam, length-append, encodes-append, take, OpenLevel, items_open, pairs_open, value_due}
+use Rattle.yaml_read.proofs.Common.{line_at, value_text, take-append_seam, length-append, encodes-append, take, OpenLevel, pairs_open}
 use Rattle.yaml_read.proofs.Common.{Completes, column_in, item_follows, list_ends, map_ends, pair_follows, text_ends, behind_value, opened_text, CanBeReadAt}
 use Rattle.yaml_read.proofs.Common.{node, HasRead, IsOpen, BreaksOff, value_follows}
 use Rattle.yaml_read.proofs.Opening.{item_on, item_out, key_on, pair_on, pair_out, value_in, value_out}
@@ -18,8 +18,7 @@ value_next : (whole : List ℕ) (levels : List OpenLevel) (value : TypedValue) (
     → IsOpen whole levels (encode_utf8_all (value_text (column_in levels) value ++ rest)) → CanBeReadAt (length levels) value
     → HasRead whole levels value (encode_utf8_all rest)
 value_next whole levels value rest opened readable =
-    value_in whole levels value (encode_utf8_all (value_text (column_in levels) value ++ rest)) (encode_utf8_all rest) opened
-    (encodes-append (value_text (column_in levels) value) rest) readable
+    value_in _ _ value _ (encode_utf8_all rest) opened (encodes-append (value_text (column_in levels) value) rest) readable
 
 -- the bytes of a comma, a line and a bracket
 closing_bytes : (levels : List OpenLevel) (bracket rest text : Text) → encode_utf8_all (bracket ++ rest) ≡ bracket ++ encode_utf8_all rest
@@ -30,21 +29,17 @@ closing_bytes levels bracket rest text ascii is = grind (arith, encode_utf8_all,
 completed : (whole : List ℕ) (root : TypedValue) (levels : List OpenLevel) (value : TypedValue) (text : Text) → Completes root levels value text
     → HasRead whole levels value (encode_utf8_all text) → IsText whole root
 completed whole root _ _ _ (text_ends value text same is) read =
-    subst (λ (v : TypedValue). IsText whole v) same
-    (value_out whole value (encode_utf8_all text) read (ap encode_utf8_all is ∙ word_encoded (codes "\n") [] refl), read.readable)
+    subst (λ (v : TypedValue). IsText whole v) same (value_out _ _ _ read (ap encode_utf8_all is ∙ word_encoded (codes "\n") [] refl), read.readable)
 completed whole root _ _ _ (item_follows levels items value item rest text readable is more) read =
     let next = value_text (column_in levels + 2) item ++ rest in
-    completed whole root (items_open (values_and items value) ∷ levels) item rest more
-    (value_next whole (items_open (values_and items value) ∷ levels) item rest
+    completed _ root _ _ rest more (value_next _ _ item rest
     (item_on whole levels items value (encode_utf8_all text) (encode_utf8_all next) read (ap encode_utf8_all is ∙ comma_deeper levels next)) readable)
 completed whole root _ _ _ (list_ends levels items value rest text is more) read =
-    completed whole root levels (list_value (values_and items value)) rest more
-    (item_out whole levels items value (encode_utf8_all text) (encode_utf8_all rest) read
-    (closing_bytes levels (codes "]") rest text (word_encoded (codes "]") rest refl) is))
+    completed whole root levels (list_value (values_and items value)) rest more (item_out _ levels items _ _ (encode_utf8_all rest) read
+    (closing_bytes levels (codes "]") rest _ (word_encoded (codes "]") rest refl) is))
 completed whole root _ _ _ (value_follows levels pairs key value rest text readable is more) read =
     let next = value_text (column_in levels + 2) value ++ rest in
-    completed whole root (value_due pairs key ∷ levels) value rest more
-    (value_next whole (value_due pairs key ∷ levels) value rest
+    completed _ root _ _ rest more (value_next _ _ value rest
     (key_on whole levels pairs key (encode_utf8_all text) (encode_utf8_all next) read (ap encode_utf8_all is ∙ key_line levels next)) readable)
 completed whole root _ _ _ (pair_follows levels pairs key value next rest text readable is more) read =
     let behind = value_text (column_in levels + 2) next ++ rest in
@@ -54,9 +49,8 @@ completed whole root _ _ _ (pair_follows levels pairs key value next rest text r
     (ap encode_utf8_all is ∙ comma_deeper levels (codes "? " ++ behind)
     ∙ ap (λ t. codes "," ++ (line_at (length levels * 2) ++ (codes "  " ++ t))) (word_encoded (codes "? ") behind refl))) readable)
 completed whole root _ _ _ (map_ends levels pairs key value rest text is more) read =
-    completed whole root levels (map_value (value_pairs_and pairs key value)) rest more
-    (pair_out whole levels pairs key value (encode_utf8_all text) (encode_utf8_all rest) read
-    (closing_bytes levels (codes "}") rest text (word_encoded (codes "}") rest refl) is))
+    completed whole root levels (map_value (value_pairs_and pairs key value)) rest more (pair_out _ levels pairs key _ _ (encode_utf8_all rest) read
+    (closing_bytes levels (codes "}") rest _ (word_encoded (codes "}") rest refl) is))
 
 -- ---- the bytes up to a place
 
@@ -93,8 +87,7 @@ node_place whole levels bytes left opened room breaks =
       readable = text.1;
       rest = after ++ encode_utf8_all closed.text;
       text =
-          sym text.0
-          ∙ shared opens whole other breaks.read breaks.rest (after ++ encode_utf8_all closed.text) left
+          sym text.0 ∙ shared opens whole other breaks.read breaks.rest (after ++ encode_utf8_all closed.text) left
           (opened.text ∙ ap (λ b. opens ++ b) breaks.parts) breaks.place
           (ap (λ b. opens ++ b) (encodes-append (value_text (column_in levels) begins.value) closed.text
           ∙ ap (λ b. b ++ encode_utf8_all closed.text) (words_apart breaks.read (breaks.due ∷ breaks.more) value begins.rest begins.is)
@@ -116,7 +109,6 @@ behind_place whole levels value bytes left read breaks =
       readable = text.1;
       rest = after;
       text =
-          sym text.0
-          ∙ shared front whole other breaks.read breaks.rest after left (read.text ∙ ap (λ b. front ++ b) breaks.parts) breaks.place
+          sym text.0 ∙ shared front whole other breaks.read breaks.rest after left (read.text ∙ ap (λ b. front ++ b) breaks.parts) breaks.place
           (ap (λ b. front ++ b) (words_apart breaks.read (breaks.due ∷ breaks.more) (encode_utf8_all goes.text) goes.rest goes.is));
     }

@@ -1,7 +1,7 @@
 -- Texts between quotes, a character at a time.
 use Rattle.yaml_read.proofs.Common.{ℕ, ◌==◌, true, Option, None, Some, List, [], ◌∷◌, ◌++◌, refl, ◌≡◌, ap, sym, ◌∙◌, arith, append_assoc, append-nil, codes}
 use Rattle.yaml_read.proofs.Common.{Text, encode_utf8_all, encode_utf8, all_scalars, and_parts, character_text, true≢false, chars, chars-encodes, flat_map}
-use Rattle.yaml_read.proofs.Common.{◌&&◌, seen_text, needs_escape, quote, in_quotes, backslash, encode_same, encodes-append, encode_ascii, MatchOption, String}
+use Rattle.yaml_read.proofs.Common.{seen_text, needs_escape, quote, in_quotes, backslash, encode_same, encodes-append, encode_ascii, MatchOption, String}
 use Rattle.yaml_read.proofs.Common.{string_bytes, Bor, append_cancel_left, ReadsCharacter, past_word}
 use Rattle.yaml_read.proofs.Escapes.{Stands, as_itself, as_escape, stands}
 use Rattle.yaml_read.proofs.{Encoded.word_encoded, Words.no_word}
@@ -68,8 +68,7 @@ left_ends text rest value bytes end left ends = by left.todo left.parts left.byt
       append_cancel_left (codes "\"") end (encode_utf8_all rest) (sym ends ∙ is ∙ word_encoded (codes "\"") rest refl),
     )
     by (c ∷ todo) parts is =
-        absurd
-        (no_quote c (character_text true c) (to_quote todo rest) bytes end (stands c)
+        absurd (no_quote c (character_text true c) (to_quote todo rest) bytes end (stands c)
         (is ∙ ap encode_utf8_all (append_assoc (character_text true c) (flat_map (character_text true) todo) (quote ∷ rest))) ends)
 
 scalars_behind : (a b : Text) → all_scalars (a ++ b) ≡ true → all_scalars b ≡ true
@@ -104,16 +103,14 @@ left_next text rest value bytes found left scalars none reads = by left.todo lef
         → MatchOption found ⊥ (λ found. Left text rest (value ++ encode_utf8 found.0) found.1.now)
     by [] parts is = absurd (no_word (codes "\"") bytes (encode_utf8_all rest) none (is ∙ word_encoded (codes "\"") rest refl))
     by (c ∷ todo) parts is =
-        goes c todo parts found
-        (reads c (to_quote todo rest) (scalar_first c todo (scalars_behind left.read (c ∷ todo) (ap all_scalars parts ∙ scalars)))
+        goes c todo parts found (reads c (to_quote todo rest) (scalar_first c todo (scalars_behind left.read (c ∷ todo) (ap all_scalars parts ∙ scalars)))
         (is ∙ ap encode_utf8_all (append_assoc (character_text true c) (flat_map (character_text true) todo) (quote ∷ rest))))
 
 -- a character more
 pub reads_more : (whole value bytes : List ℕ) (found : Option (ℕ × Bor (List ℕ))) → ReadsOn whole value bytes → past_word (codes "\"") bytes ≡ None
     → ReadsCharacter bytes found → (text rest : Text) → all_scalars text ≡ true → whole ≡ encode_utf8_all (in_quotes text ++ rest)
     → MatchOption found ⊥ (λ found. Left text rest (value ++ encode_utf8 found.0) found.1.now)
-reads_more whole value bytes found on none reads text rest scalars is =
-    left_next text rest value bytes found (on.left text rest scalars is) scalars none reads
+reads_more whole value bytes found on none reads text rest scalars is = left_next _ _ _ _ found (on.left text rest scalars is) scalars none reads
 
 -- the text that was read
 pub text_read : {A : Type 0} (found : String A) (text rest : Text) (whole bytes end : List ℕ) → ReadsOn whole (string_bytes found) bytes

@@ -25,5 +25,4 @@ pub read_back : {A : Type 0} (value : TypedValue) (bytes : Vec ℕ A) (answer : 
     → WritesValue value bytes.items → IsAnswerTo bytes.items answer
     → IfOk answer (λ found. seen_value found ≡ value) × IfErr answer (λ error. error ≡ told.Memory)
 read_back value bytes (Ok found) readable written answers = (written.only (seen_value found) answers.read.bits answers.read.reads, tt)
-read_back value bytes (Err error) readable written answers =
-    (tt, for_memory value bytes.items error readable (text_written value (Ok bytes) written) answers.complete)
+read_back value bytes (Err error) readable written answers = (tt, for_memory _ _ error readable (text_written value (Ok bytes) written) answers.complete)

@@ -1,5 +1,5 @@
 -- The rest of a value's text while it is read.
-use Rattle.yaml_read.proofs.Common.{ℕ, ◌+◌, ◌≤◌, suc, ◌∷◌, ◌++◌, ◌≡◌, ◌∙◌, arith, append_assoc, codes, Text, node_pairs_text, nodes_text, TypedValue, int_value}
+use Rattle.yaml_read.proofs.Common.{ℕ, ◌+◌, ◌≤◌, suc, ◌++◌, ◌≡◌, ◌∙◌, arith, append_assoc, codes, Text, node_pairs_text, nodes_text, TypedValue, int_value}
 use Rattle.yaml_read.proofs.Common.{text_value, list_value, map_value, TypedValues, no_values, values_and, TypedPairs, no_value_pairs, value_pairs_and}
 use Rattle.yaml_read.proofs.Common.{Has64Bits, Have64Bits, PairsHave64Bits, nesting, values_nesting, value_pairs_nesting, most_nested, line_at, value_text}
 use Rattle.yaml_read.proofs.Common.{value_nodes, value_pairs, HasScalarTexts, HaveScalarTexts, PairsHaveScalarTexts, CanBeRead, CanBeReadAt, AllCanBeReadAt}
@@ -11,10 +11,8 @@ mutual
   readable_at : (value : TypedValue) (depth : ℕ) → Has64Bits value → HasScalarTexts value → depth + nesting value ≤ most_nested → CanBeReadAt depth value
   readable_at (int_value n) depth bits texts fits = bits
   readable_at (text_value text) depth bits texts fits = texts
-  readable_at (list_value items) depth bits texts fits =
-      (omega (arith, fits), all_readable_at items (suc depth) bits texts (omega (arith, fits)))
-  readable_at (map_value pairs) depth bits texts fits =
-      (omega (arith, fits), pairs_readable_at pairs (suc depth) bits texts (omega (arith, fits)))
+  readable_at (list_value items) depth bits texts fits = (omega (arith, fits), all_readable_at items (suc depth) bits texts (omega (arith, fits)))
+  readable_at (map_value pairs) depth bits texts fits = (omega (arith, fits), pairs_readable_at pairs (suc depth) bits texts (omega (arith, fits)))
   readable_at _ depth bits texts fits = tt
 
   all_readable_at : (items : TypedValues) (depth : ℕ) → Have64Bits items → HaveScalarTexts items → depth + values_nesting items ≤ most_nested
@@ -38,12 +36,10 @@ readable_root value readable = readable_at value 0 readable.bits readable.texts 
 
 abbrev pub items_behind : ℕ → TypedValues → TypedValue → Text → Text
 items_behind column no_values item rest = value_text column item ++ rest
-items_behind column (values_and items last) item rest =
-    items_behind column items last (codes "," ++ (line_at column ++ (value_text column item ++ rest)))
+items_behind column (values_and items last) item rest = items_behind column items last (codes "," ++ (line_at column ++ (value_text column item ++ rest)))
 
 abbrev pub pairs_behind : ℕ → TypedPairs → (key value : TypedValue) → Text → Text
-pairs_behind column no_value_pairs key value rest =
-    value_text column key ++ (line_at column ++ (codes ": " ++ (value_text column value ++ rest)))
+pairs_behind column no_value_pairs key value rest = value_text column key ++ (line_at column ++ (codes ": " ++ (value_text column value ++ rest)))
 pairs_behind column (value_pairs_and pairs first second) key value rest =
     pairs_behind column pairs first second
     (codes "," ++ (line_at column ++ (codes "? " ++ (value_text column key ++ (line_at column ++ (codes ": " ++ (value_text column value ++ rest)))))))

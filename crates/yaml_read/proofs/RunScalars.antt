@@ -1,8 +1,8 @@
 -- The text of a node's events consists of Unicode scalar values, so its bytes are UTF-8.
-use Rattle.yaml_read.proofs.Common.{ℕ, ◌*◌, Bool, true, false, not, Option, None, Some, List, [], ◌∷◌, ◌++◌, refl, ◌≡◌, ap, sym, ◌∙◌, All, All-head, All-tail}
+use Rattle.yaml_read.proofs.Common.{ℕ, Bool, true, false, not, Option, None, Some, List, [], ◌∷◌, ◌++◌, refl, ◌≡◌, ap, sym, ◌∙◌, All, All-head, All-tail}
 use Rattle.yaml_read.proofs.Common.{if◌then◌else◌, agree_below_at, arith, bytes_eq, codes, length, list_all, ltb-true, nat_lt, nat_tests, all_scalars, is_alpha}
 use Rattle.yaml_read.proofs.Common.{line_feed, space, Text, percent_escaped, name_fault, spelled, verbatim, Event, spelling_by, behind, yaml_error_t}
-use Rattle.yaml_read.proofs.Common.{anchor_text, closing_line, tag_text, in_quotes, line_at, all_pass, escaped_stands, stands_written, IsUtf8, Pending}
+use Rattle.yaml_read.proofs.Common.{anchor_text, tag_text, in_quotes, all_pass, escaped_stands, stands_written, IsUtf8, Pending}
 use Rattle.yaml_read.proofs.Common.{item_awaited, key_awaited, value_awaited, BeginsNode, is_alias, is_scalar, is_sequence, is_mapping, IsInNode, begins_node}
 use Rattle.yaml_read.proofs.Common.{HasRunText, root_ends, more_come, IsAnchor, closing_text, event_text, lead_text, outside, trail_text, AreRunBytes}
 use lib.Utf8.{scalar}
@@ -94,12 +94,10 @@ event_scalars levels event (begins_node other begins) = opening_scalars levels e
 event_scalars levels event _ = behind_end levels
 
 run_scalars : (levels : List Pending) (events : List Event) (text : Text) → HasRunText levels events text → All IsInNode events → all_scalars text ≡ true
-run_scalars levels events text (root_ends before event whole come none is) all =
-    ap all_scalars is ∙ event_scalars levels event (All-head IsInNode event [] all)
+run_scalars levels events text (root_ends before event whole come none is) all = ap all_scalars is ∙ event_scalars levels _ (All-head IsInNode event [] all)
 run_scalars levels events text (more_come before next event later rest whole come some is run) all =
-    ap all_scalars is
-    ∙ joined_scalars (event_text levels event) rest (event_scalars levels event (All-head IsInNode event later all))
-    (run_scalars next later rest run (All-tail IsInNode event later all))
+    ap all_scalars is ∙ joined_scalars (event_text levels event) rest (event_scalars levels _ (All-head IsInNode event later all))
+    (run_scalars _ _ _ run (All-tail IsInNode event later all))
 
 -- the bytes of a document's events are UTF-8
 pub run_utf8 : (bytes : List ℕ) (events : List Event) → AreRunBytes bytes events → IsUtf8 bytes

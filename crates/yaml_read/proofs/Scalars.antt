@@ -1,11 +1,11 @@
 -- A readable value's text consists of Unicode scalar values, so its bytes are UTF-8.
-use Rattle.yaml_read.proofs.Common.{ℕ, ◌+◌, ◌%◌, ◌/◌, ◌<◌, ◌==◌, suc, zero, Bool, true, false, Some, List, [], ◌∷◌, ◌++◌, refl, ◌≡◌, ap, sym, ◌∙◌, arith, codes}
+use Rattle.yaml_read.proofs.Common.{ℕ, ◌+◌, ◌%◌, ◌/◌, ◌<◌, ◌==◌, suc, zero, Bool, true, false, Some, [], ◌∷◌, ◌++◌, refl, ◌≡◌, ap, sym, ◌∙◌, arith, codes}
 use Rattle.yaml_read.proofs.Common.{space, line_feed, Text, replicate, all_scalars, encode_utf8_all, and_parts, and_from, agree_below_at, hex_digit, hex_digits}
 use Rattle.yaml_read.proofs.Common.{character_text, flat_map, if◌then◌else◌, chars-IsAscii, eqb-true, TypedValue, null_value, bool_value, int_value, text_value}
 use Rattle.yaml_read.proofs.Common.{list_value, map_value, TypedValues, no_values, values_and, TypedPairs, no_value_pairs, value_pairs_and, line_at, value_text}
 use Rattle.yaml_read.proofs.Common.{closing_line, node_pairs_text, nodes_text, value_nodes, value_pairs, document_text, in_quotes, seen_text, meaning_among}
 use Rattle.yaml_read.proofs.Common.{quote, ℤ, ◌^◌, Result, Ok, Err, String, scalars-chars, IsUtf8-from_ascii, encodes-chars, IsUtf8-string_bytes}
-use Rattle.yaml_read.proofs.Common.{signed_decimal, mag, IsUtf8, IsAscii-signed, parse-signed_decimal, FitsSigned, w64, pos, negsuc, ParsesSigned, string_bytes}
+use Rattle.yaml_read.proofs.Common.{signed_decimal, mag, IsUtf8, IsAscii-signed, FitsSigned, w64, string_bytes}
 use Rattle.yaml_read.proofs.Common.{CanBeRead, CanBeReadAt, AllCanBeReadAt, PairsCanBeReadAt}
 use lib.Utf8.{scalar}
 use Rattle.yaml_read.proofs.Firsts.{AfterBackslash, by_letter, by_two, by_four, after_backslash}
@@ -107,8 +107,7 @@ mutual
       let of_value = value_text column value ++ codes "," in
       let of_key = value_text column key ++ (line_at column ++ (codes ": " ++ of_value)) in
       joined_scalars (node_pairs_text column (value_pairs pairs)) _ (pairs_scalars pairs column depth readable.0)
-      (line_scalars column (codes "? " ++ of_key)
-      (joined_scalars (value_text column key) _ (value_scalars key column depth readable.1.0)
+      (line_scalars column (codes "? " ++ of_key) (joined_scalars (value_text column key) _ (value_scalars key column depth readable.1.0)
       (line_scalars column (codes ": " ++ of_value)
       (joined_scalars (value_text column value) (codes ",") (value_scalars value column depth readable.1.1) refl))))
 

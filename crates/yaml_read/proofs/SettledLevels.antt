@@ -6,8 +6,7 @@ use Rattle.yaml_read.specs.Settled.{Took}
 -- the innermost was taken off
 pub off : {A : Type 0} (before : List OpenLevel) (first value : TypedValue) (old new : List (Level A)) (level : Level A)
     → Ended before first (seen_levels old) value → old ≡ new ++ level ∷ [] → Ended before first (seen_level level ∷ seen_levels new) value
-off before first value old new level ended is =
-    subst (λ (levels : List OpenLevel). Ended before first levels value) (level_more new old level is) ended
+off before first value old new level ended is = subst (λ (levels : List OpenLevel). Ended before first levels value) (level_more new old level is) ended
 
 -- it ended
 pub ended_on : {A : Type 0} (before : List OpenLevel) (first value last : TypedValue) (old new : List (Level A)) (level : Level A)

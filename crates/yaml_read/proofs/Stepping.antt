@@ -1,6 +1,6 @@
 -- From a node's tag on, and after a value, up to the next node.
-use Rattle.yaml_read.proofs.Common.{ℕ, ◌+◌, ◌*◌, ◌<◌, ◌≤◌, suc, None, List, [], ◌∷◌, ◌++◌, refl, ◌≡◌, ap, subst, sym, ◌∙◌, inl, inr, arith, append_assoc}
-use Rattle.yaml_read.proofs.Common.{length, length-append, codes, encode_utf8_all, Text, Bool, TypedValue, list_value, map_value, no_values, no_value_pairs}
+use Rattle.yaml_read.proofs.Common.{ℕ, ◌+◌, ◌*◌, ◌<◌, ◌≤◌, suc, None, List, [], ◌++◌, refl, ◌≡◌, ap, subst, sym, ◌∙◌, inl, inr, arith, append_assoc}
+use Rattle.yaml_read.proofs.Common.{length, length-append, codes, encode_utf8_all, Text, TypedValue, list_value, map_value, no_values, no_value_pairs}
 use Rattle.yaml_read.proofs.Common.{most_nested, in_quotes, line_at, value_text, Result, Ok, Err, IfErr, IfOk, ℤ, ◌^◌, Bor, signed_decimal, mag, IsUtf8}
 use Rattle.yaml_read.proofs.Common.{IfOk-weaker, line_then, node, nothing, truth, OpenKeysAllow, tag_word, IsOpen, BreaksAt, IsHere, IsHereOrMemory, StopsIn}
 use Rattle.yaml_read.proofs.Common.{OpenLevel, items_open, pairs_open, column_in, HasUniqueKeys, NextMoved, begins_list, begins_map, level_opened, value_given}
@@ -93,9 +93,7 @@ pub truth_scalar : {A : Type 0} (bytes : List ℕ) (result : Result (Value A × 
     → IfOk result (λ found. length found.1.now < length bytes) → ScalarRead kind.Bool bytes result
 truth_scalar bytes result sound breaks shorter =
     record {
-      sound =
-          IfOk-weaker result _ _
-          (λ found is. truth_read (tag_word kind.Bool ++ bytes) bytes found.1.now (seen_value found.0) refl is) sound;
+      sound = IfOk-weaker result _ _ (λ found is. truth_read (tag_word kind.Bool ++ bytes) bytes found.1.now (seen_value found.0) refl is) sound;
       breaks = λ depth. breaks;
       shorter = shorter;
     }
@@ -143,12 +141,10 @@ unopened_steps A before after _ _ _ _ _ text behind error empty_list_level tagge
 unopened_steps A before after _ _ _ _ _ text behind error empty_map_level tagged (no_bracket none place) =
     node_broken A before after text error (no_map (length before) text behind error tagged none place)
 unopened_steps A before after _ _ _ _ _ text behind error empty_list_level tagged (no_room inside is many place) =
-    node_stopped A before after text error
-    (λ mode whole opened allow.
+    node_stopped A before after text error (λ mode whole opened allow.
     opens_deep mode whole before text inside error opened allow many (inl (tagged ∙ ap (λ t. codes "!!seq " ++ t) is)) place)
 unopened_steps A before after _ _ _ _ _ text behind error empty_map_level tagged (no_room inside is many place) =
-    node_stopped A before after text error
-    (λ mode whole opened allow.
+    node_stopped A before after text error (λ mode whole opened allow.
     opens_deep mode whole before text inside error opened allow many (inr (tagged ∙ ap (λ t. codes "!!map " ++ t) is)) place)
 
 twice : (n : ℕ) → n * 2 + 2 ≡ suc n * 2
@@ -192,8 +188,7 @@ opened_steps before after _ _ _ _ _ text behind inside (Ok (Node rest)) empty_ma
 opened_steps {A} before after _ _ _ _ _ text behind inside (Err error) empty_list_level tagged bracket none entered =
     node_broken A before after text error
     (list_line_breaks (length before) text inside error bracket.1 (tagged ∙ ap (λ t. codes "!!seq " ++ t) bracket.0, none)
-    (list_breaks (length before) inside error entered))
+    (list_breaks (length before) _ _ entered))
 opened_steps {A} before after _ _ _ _ _ text behind inside (Err error) empty_map_level tagged bracket none entered =
     node_broken A before after text error
-    (map_line_breaks (length before) text inside error bracket.1 (tagged ∙ ap (λ t. codes "!!map " ++ t) bracket.0, none)
-    (lead_breaks (suc (length before)) (codes "? ") inside error entered))
+    (map_line_breaks (length before) text inside error bracket.1 (tagged ∙ ap (λ t. codes "!!map " ++ t) bracket.0, none) (lead_breaks _ _ _ _ entered))

@@ -1,6 +1,6 @@
 -- The bytes of written tags.
 use Rattle.yaml_read.proofs.Common.{ℕ, false, nat_tests, and_parts, and_from, append-nil, not-true, ltb-true, flat_map, or_parts, hex_digit, hex_digits, length}
-use Rattle.yaml_read.proofs.Common.{◌%◌, ◌/◌, ◌<◌, ◌==◌, Bool, true, ◌&&◌, ◌||◌, List, [], ◌∷◌, ◌++◌, refl, ◌≡◌, ap, sym, ◌∙◌, arith, chars, Text, true≢false}
+use Rattle.yaml_read.proofs.Common.{◌%◌, ◌/◌, ◌<◌, ◌==◌, Bool, true, ◌&&◌, List, [], ◌∷◌, ◌++◌, refl, ◌≡◌, ap, sym, ◌∙◌, arith, chars, Text, true≢false}
 use Rattle.yaml_read.proofs.Common.{append_assoc, chars-encodes, scalar_cases, encode_utf8, all_scalars, length-append, agree_below_at, if◌then◌else◌, nat_lt}
 use Rattle.yaml_read.proofs.Common.{list_all-append, encode_utf8_all, is_tag_character, percent_escaped, flat_map-append, are_bytes, escaped_stands}
 use Rattle.yaml_read.proofs.Common.{stands_written, all_pass, digit_meaning, String, Vec, string_bytes, IsUtf8, same_Some, encode_same, encode_ascii}
@@ -42,8 +42,7 @@ bytes_ascii (b ∷ bs) = grind (arith, list_all-append, nat_lt, byte_in_tag, fla
 
 -- percent forms of a text are those of its bytes
 pub escaped_bytes : (text : Text) → all_scalars text ≡ true → percent_escaped text ≡ flat_map byte_in_tag (encode_utf8_all text)
-escaped_bytes text scalars =
-    sym (escaped_by_bytes false (encode_utf8_all text) (text, (scalars, refl)) ∙ ap percent_escaped (chars-encodes text scalars))
+escaped_bytes text scalars = sym (escaped_by_bytes false (encode_utf8_all text) (text, (scalars, refl)) ∙ ap percent_escaped (chars-encodes text scalars))
 
 pub bytes_escaped : (bytes : List ℕ) → IsUtf8 bytes → flat_map byte_in_tag bytes ≡ percent_escaped (chars bytes)
 bytes_escaped bytes utf8 = escaped_by_bytes false bytes utf8
@@ -127,8 +126,7 @@ unread (b ∷ read) (d ∷ written) left rest few also ends is =
     let one = and_parts (nat_lt b 256) (are_bytes read) few in
     let other = and_parts (nat_lt d 256) (are_bytes written) also in
     let first = byte_first b d (flat_map byte_in_tag read ++ left) (flat_map byte_in_tag written ++ encode_utf8_all rest)
-    (ltb-true b 256 one.0) (ltb-true d 256 other.0)
-    (sym (append_assoc (byte_in_tag b) (flat_map byte_in_tag read) left) ∙ is
+    (ltb-true b 256 one.0) (ltb-true d 256 other.0) (sym (append_assoc (byte_in_tag b) (flat_map byte_in_tag read) left) ∙ is
     ∙ append_assoc (byte_in_tag d) (flat_map byte_in_tag written) (encode_utf8_all rest)) in
     let more = unread read written left rest one.1 other.1 ends first.1 in
     record { todo = more.todo; parts = ap (λ a. a ∷ (read ++ more.todo)) first.0 ∙ ap (λ t. d ∷ t) more.parts; left_is = more.left_is; bytes = more.bytes }
@@ -182,8 +180,7 @@ byte_there byte rest text is none = by (is_tag_character byte) is
 -- two digits follow `%`
 pub form_follows : (byte : ℕ) (rest : Text) (c : ℕ) (tail : List ℕ) → FirstOfByte byte rest c tail → c ≡ percent_sign
     → (is_tag_character byte ≡ false) × (tail ≡ encode_utf8_all (hex_digits 2 byte ++ rest))
-form_follows byte rest c tail (as_itself stands same behind) is =
-    absurd (true≢false (sym stands ∙ ap is_tag_character (sym same ∙ is) ∙ no_percent))
+form_follows byte rest c tail (as_itself stands same behind) is = absurd (true≢false (sym stands ∙ ap is_tag_character (sym same ∙ is) ∙ no_percent))
 form_follows byte rest c tail (as_form other same behind) is = (other, behind)
 
 -- another character is written as itself
@@ -213,12 +210,10 @@ byte_shorter text rest byte is = omega (arith, ap length is, length-append (byte
 pub form_read : (text tail rest : List ℕ) (c n : ℕ) → text ≡ encode_utf8 c ++ tail → c ≡ percent_sign → tail ≡ encode_utf8_all (hex_digits 2 n) ++ rest
     → is_tag_character n ≡ false → text ≡ byte_in_tag n ++ rest
 form_read text tail rest c n starts sign digits other =
+    let ascii : are_ascii (byte_escaped n) ≡ true = rw (digit_ascii (n / 16), digit_ascii n) refl in
     starts ∙ ap (λ d. encode_utf8 d ++ tail) sign ∙ ap (λ t. encode_utf8 percent_sign ++ t) digits
     ∙ sym (append_assoc (encode_utf8 percent_sign) (encode_utf8_all (hex_digits 2 n)) rest)
     ∙ ap (λ t. t ++ rest) (word_bytes (byte_escaped n) ascii ∙ ap (λ b. if b then n ∷ [] else byte_escaped n) (sym other))
-  where
-    ascii : are_ascii (byte_escaped n) ≡ true
-    ascii = rw (digit_ascii (n / 16), digit_ascii n) refl
 
 -- a text of bytes that were read
 pub bytes_of : {A : Type 0} (found : String A) (bytes : Vec ℕ A) → string_vec found ≡ bytes → string_bytes found ≡ bytes.items

@@ -35,10 +35,8 @@ is_spelled (c ∷ tail) sound = by (behind (codes "!") (c ∷ tail)) (behind typ
   where
     by : (o p : Option Text) → behind (codes "!") (c ∷ tail) ≡ o → behind type_prefix (c ∷ tail) ≡ p
         → IsSpelled (c ∷ tail) (spelled false (spelling_by (codes "!") o (spelling_by (codes "!!") p (verbatim (c ∷ tail)))) ++ space ∷ [])
-    by (Some suffix) p e f =
-        of_document suffix (some_behind (codes "!") (c ∷ tail) suffix e) (sym (behind-whole (codes "!") (c ∷ tail) suffix e))
-    by None (Some suffix) e f =
-        of_type suffix (some_behind type_prefix (c ∷ tail) suffix f) (sym (behind-whole type_prefix (c ∷ tail) suffix f))
+    by (Some suffix) p e f = of_document suffix (some_behind (codes "!") (c ∷ tail) suffix e) (sym (behind-whole (codes "!") (c ∷ tail) suffix e))
+    by None (Some suffix) e f = of_type suffix (some_behind type_prefix (c ∷ tail) suffix f) (sym (behind-whole type_prefix (c ∷ tail) suffix f))
     by None None e f =
         subst (λ (t : Text). IsSpelled (c ∷ tail) (codes "!<" ++ t)) (sym (append_assoc (percent_escaped (c ∷ tail)) (codes ">") (space ∷ [])))
         (whole (ap (λ o. not (is_some o) && not (is_some (behind type_prefix (c ∷ tail)))) e ∙ ap (λ o. not (is_some o)) f))
@@ -214,8 +212,7 @@ pub utf8_behind : (prefix rest : List ℕ) → are_ascii prefix ≡ true → IsU
 utf8_behind [] rest ascii utf8 = utf8
 utf8_behind (p ∷ prefix) rest ascii utf8 =
     let both = and_parts (nat_lt p 128) (are_ascii prefix) ascii in
-    utf8_behind prefix rest both.1
-    (IsUtf8-past_char (p ∷ (prefix ++ rest)) (prefix ++ rest) p utf8
+    utf8_behind prefix rest both.1 (IsUtf8-past_char (p ∷ (prefix ++ rest)) (prefix ++ rest) p utf8
     (ap (λ t. t ++ (prefix ++ rest)) (sym (encode_ascii p (ltb-true p 128 both.0)))))
 
 pub goes_on_behind : (text prefix rest : List ℕ) → are_ascii prefix ≡ true → IsUtf8 text → text ≡ prefix ++ rest
@@ -272,26 +269,22 @@ verbatim_sound tag text inside rest cut stays read =
 pub type_sound : (tag suffix : Text) (text inside rest : List ℕ) → text ≡ codes "!!" ++ inside → 0 < length suffix → tag ≡ type_prefix ++ suffix
     → inside ≡ percent_escaped suffix ++ space ∷ rest → (tag_fault tag ≡ None) × (text ≡ encode_utf8_all (tag_text (Some tag) false) ++ rest)
 type_sound tag suffix text inside rest cut some same read =
+    let is = type_is suffix some in
     subst (λ (t : Text). (tag_fault t ≡ None) × (text ≡ encode_utf8_all (tag_text (Some t) false) ++ rest)) (sym same) (
       is.0,
       cut ∙ ap (λ t. codes "!!" ++ t) (read ∙ sym (append_assoc (percent_escaped suffix) (space ∷ []) rest))
           ∙ ap (λ t. t ++ rest) (sym (type_bytes suffix)) ∙ ap (λ t. encode_utf8_all t ++ rest) (sym is.1),
     )
-  where
-    is : (tag_fault (type_prefix ++ suffix) ≡ None) × (tag_text (Some (type_prefix ++ suffix)) false ≡ handle_text (codes "!!") suffix)
-    is = type_is suffix some
 
 pub document_sound : (tag suffix : Text) (text inside rest : List ℕ) → text ≡ codes "!" ++ inside → 0 < length suffix → tag ≡ codes "!" ++ suffix
     → inside ≡ percent_escaped suffix ++ space ∷ rest → (tag_fault tag ≡ None) × (text ≡ encode_utf8_all (tag_text (Some tag) false) ++ rest)
 document_sound tag suffix text inside rest cut some same read =
+    let is = document_is suffix some in
     subst (λ (t : Text). (tag_fault t ≡ None) × (text ≡ encode_utf8_all (tag_text (Some t) false) ++ rest)) (sym same) (
       is.0,
       cut ∙ ap (λ t. codes "!" ++ t) (read ∙ sym (append_assoc (percent_escaped suffix) (space ∷ []) rest))
           ∙ ap (λ t. t ++ rest) (sym (document_bytes suffix)) ∙ ap (λ t. encode_utf8_all t ++ rest) (sym is.1),
     )
-  where
-    is : (tag_fault (codes "!" ++ suffix) ≡ None) × (tag_text (Some (codes "!" ++ suffix)) false ≡ handle_text (codes "!") suffix)
-    is = document_is suffix some
 
 -- ---- by its handle
 

@@ -13,8 +13,7 @@ taken_on : {A : Type 0} (depth : ℕ) (level : OpenLevel) (value : TypedValue) (
 taken_on depth (items_open items) value more text rest is found =
     record {
       read = λ whole levels at read.
-          subst (λ (l : OpenLevel). IsOpen whole (l ∷ levels) rest.now) (sym is)
-          (item_on whole levels items value text rest.now read
+          subst (λ (l : OpenLevel). IsOpen whole (l ∷ levels) rest.now) (sym is) (item_on whole levels items value text rest.now read
           (found.cut ∙ ap (λ n. codes "," ++ (line_at (n * 2) ++ (codes "  " ++ rest.now))) at));
       breaks = tt;
       shorter = found.shorter;
@@ -23,8 +22,7 @@ taken_on depth (items_open items) value more text rest is found =
 taken_on depth (value_due pairs key) value more text rest is found =
     record {
       read = λ whole levels at read.
-          subst (λ (l : OpenLevel). IsOpen whole (l ∷ levels) rest.now) (sym is)
-          (pair_on whole levels pairs key value text rest.now read
+          subst (λ (l : OpenLevel). IsOpen whole (l ∷ levels) rest.now) (sym is) (pair_on whole levels pairs key value text rest.now read
           (found.cut ∙ ap (λ n. codes "," ++ (line_at (n * 2) ++ (codes "  ? " ++ rest.now))) at));
       breaks = tt;
       shorter = found.shorter;
@@ -34,8 +32,7 @@ taken_on depth (pairs_open pairs) key more text rest is found =
     let line = line_at (depth * 2) in
     record {
       read = λ whole levels at read.
-          subst (λ (l : OpenLevel). IsOpen whole (l ∷ levels) rest.now) (sym is)
-          (key_on whole levels pairs key text rest.now read
+          subst (λ (l : OpenLevel). IsOpen whole (l ∷ levels) rest.now) (sym is) (key_on whole levels pairs key text rest.now read
           (found.cut ∙ append_assoc line (codes "  : ") rest.now ∙ ap (λ n. line_at (n * 2) ++ (codes "  : " ++ rest.now)) at));
       breaks = tt;
       shorter = found.shorter;
@@ -55,8 +52,7 @@ taken_out : {A : Type 0} (depth : ℕ) (level : OpenLevel) (value : TypedValue) 
 taken_out depth (items_open items) value whole text rest is found =
     record {
       read = λ all levels at read.
-          subst (λ (v : TypedValue). HasRead all levels v rest.now) (sym is)
-          (item_out all levels items value text rest.now read
+          subst (λ (v : TypedValue). HasRead all levels v rest.now) (sym is) (item_out all levels items value text rest.now read
           (found.cut ∙ ap (λ n. codes "," ++ (line_at (n * 2) ++ (codes "]" ++ rest.now))) at));
       breaks = tt;
       shorter = found.shorter;
@@ -65,8 +61,7 @@ taken_out depth (items_open items) value whole text rest is found =
 taken_out depth (value_due pairs key) value whole text rest is found =
     record {
       read = λ all levels at read.
-          subst (λ (v : TypedValue). HasRead all levels v rest.now) (sym is)
-          (pair_out all levels pairs key value text rest.now read
+          subst (λ (v : TypedValue). HasRead all levels v rest.now) (sym is) (pair_out all levels pairs key value text rest.now read
           (found.cut ∙ ap (λ n. codes "," ++ (line_at (n * 2) ++ (codes "}" ++ rest.now))) at));
       breaks = tt;
       shorter = found.shorter;
@@ -78,17 +73,15 @@ pub taken_ends : {A : Type 0} (depth : ℕ) (level : OpenLevel) (value : TypedVa
     → seen_level more ≡ with_value level value → seen_value whole ≡ closed_value (seen_level more)
     → BehindRead depth (seen_level more) text (Ok (End rest)) → ValueTaken depth level value text (Ok (Ends whole rest))
 taken_ends depth level value more whole text rest is ends found =
-    taken_out depth level value whole text rest (ends ∙ ap closed_value is)
-    (subst (λ (l : OpenLevel). BehindRead depth l text (Ok (End rest))) is found)
+    taken_out depth level value whole text rest (ends ∙ ap closed_value is) (subst (λ (l : OpenLevel). BehindRead depth l text (Ok (End rest))) is found)
 
 -- neither
 taken_nowhere : (A : Type 0) (depth : ℕ) (level : OpenLevel) (value : TypedValue) (text : List ℕ) (error : Stop)
     → BehindRead depth (with_value level value) text (Err error) → ValueTaken {A = A} depth level value text (Err error)
 taken_nowhere A depth (pairs_open pairs) key text error lacks =
-    let line = line_at (depth * 2) in
     record {
       read = λ whole levels at read. tt;
-      breaks = lead_breaks depth (codes "  : ") text error lacks.lacks;
+      breaks = lead_breaks _ _ _ _ lacks.lacks;
       shorter = tt;
       took = tt;
     }

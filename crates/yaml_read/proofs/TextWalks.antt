@@ -20,8 +20,7 @@ then_leads spot middle last one other leads also =
     record {
       walk = λ rest.
           subst (λ (b : List ℕ). Walk spot b last rest)
-          (sym (ap (λ b. b ++ rest) (encodes-append one other) ∙ append_assoc (encode_utf8_all one) (encode_utf8_all other) rest))
-          (walk_on spot middle last (encode_utf8_all one ++ (encode_utf8_all other ++ rest)) (encode_utf8_all other ++ rest) rest
+          (sym (ap (λ b. b ++ rest) (encodes-append one other) ∙ append_assoc (encode_utf8_all one) (encode_utf8_all other) rest)) (walk_on _ _ _ _ _ _
           (leads.walk (encode_utf8_all other ++ rest)) (also.walk rest));
     }
 
@@ -104,8 +103,7 @@ entry_leads : (after last : Spot) (depth : ℕ) (lead end word : List ℕ) (text
     → these_or_those (word_then lead nothing) (word_then end nothing) (word ∷ []) → next_spot after (first_of word) ≡ Some last
     → encode_utf8_all text ≡ flat (entry_of depth word) → LeadsTo after text last
 entry_leads after last depth lead end word text come are to is =
-    words_lead after last text (entry_of depth word)
-    (come (entry_of depth word)
+    words_lead after last text (entry_of depth word) (come (entry_of depth word)
     (refl, (refl, levels_go depth (these_or_those (word_then lead nothing) (word_then end nothing)) (word ∷ []) are)))
     (ap (next_spot after) (levels_mark (codes "\n") word depth) ∙ to) is
 
@@ -134,20 +132,18 @@ list_in levels column same room =
     let line = replicate (suc (length levels)) (codes "  ") ++ [] in
     words_lead (at_node levels) (at_node (a_list ∷ levels)) (codes "!!seq [" ++ line_at (column + 2)) (tag_word kind.List ∷ codes "[" ∷ codes "\n" ∷ line)
     (kind.List, (refl, (refl, inl (room, inr (refl, levels_go (suc (length levels)) nothing [] tt)))))
-    (ap (next_spot (at_node levels)) (spaces_mark (codes "\n") (length levels)))
-    (word_encoded (codes "!!seq [") (line_at (column + 2)) refl
+    (ap (next_spot (at_node levels)) (spaces_mark (codes "\n") (length levels))) (word_encoded (codes "!!seq [") (line_at (column + 2)) refl
     ∙ ap (λ t. codes "!!seq [" ++ t) (bare_flat (column + 2) (suc (length levels)) (deeper column (length levels) same)))
 
 map_in : (levels : List OpenLevel) (column : ℕ) → column ≡ length levels * 2 → length levels < most_nested
     → LeadsTo (at_node levels) (codes "!!map {" ++ (line_at (column + 2) ++ codes "? ")) (at_node (a_map ∷ levels))
 map_in levels column same room =
     let line = replicate (suc (length levels)) (codes "  ") ++ codes "? " ∷ [] in
-    words_lead (at_node levels) (at_node (a_map ∷ levels)) (codes "!!map {" ++ (line_at (column + 2) ++ codes "? "))
-    (tag_word kind.Map ∷ codes "{" ∷ codes "\n" ∷ line)
+    words_lead (at_node levels) _ (codes "!!map {" ++ (line_at (column + 2) ++ codes "? ")) (tag_word kind.Map ∷ codes "{" ∷ codes "\n" ∷ line)
     (kind.Map, (refl, (refl, inl (room, inr (refl, levels_go (suc (length levels)) (word_then (codes "? ") nothing) (codes "? " ∷ []) (refl, tt))))))
     (ap (next_spot (at_node levels)) (levels_mark (codes "\n") (codes "? ") (suc (length levels))))
     (word_encoded (codes "!!map {") (line_at (column + 2) ++ codes "? ") refl
-    ∙ ap (λ t. codes "!!map {" ++ t) (line_flat (column + 2) (suc (length levels)) (codes "? ") (deeper column (length levels) same) refl))
+    ∙ ap (λ t. codes "!!map {" ++ t) (line_flat _ (suc (length levels)) (codes "? ") (deeper column (length levels) same) refl))
 
 item_on : (levels : List OpenLevel) (column : ℕ) → column ≡ length levels * 2
     → LeadsTo (after_node (a_list ∷ levels)) (codes "," ++ line_at (column + 2)) (at_node (a_list ∷ levels))
@@ -202,21 +198,15 @@ item_leads : (items : TypedValues) (item : TypedValue) (levels : List OpenLevel)
     → LeadsTo (after_node (a_list ∷ levels)) (codes "," ++ end) last
     → LeadsTo (at_node levels) (codes "!!seq [" ++ (nodes_text (column + 2) (value_nodes (values_and items item)) ++ end)) last
 item_leads items item levels column end last before leads ends =
-    let begun = list_begun column items in
     let text = value_text (column + 2) item in
-    same_leads (at_node levels) last ((begun ++ text) ++ (codes "," ++ end)) _
-    (items_regroup (nodes_text (column + 2) (value_nodes items)) (line_at (column + 2)) text end)
-    (then_leads (at_node levels) (after_node (a_list ∷ levels)) last (begun ++ text) (codes "," ++ end)
-    (then_leads (at_node levels) (at_node (a_list ∷ levels)) (after_node (a_list ∷ levels)) begun text before leads) ends)
+    same_leads _ _ _ _ (items_regroup (nodes_text (column + 2) (value_nodes items)) (line_at (column + 2)) text end) (then_leads _ _ _ _ _
+    (then_leads _ _ _ _ _ before leads) ends)
 
 -- a key, up to its value
 pub key_leads : (levels : List OpenLevel) (column : ℕ) → column ≡ length levels * 2 → (begun key : Text)
     → LeadsTo (at_node levels) begun (at_node (a_map ∷ levels)) → LeadsTo (at_node (a_map ∷ levels)) key (after_node (a_map ∷ levels))
     → LeadsTo (at_node levels) (begun ++ (key ++ (line_at (column + 2) ++ codes ": "))) (at_node (a_key ∷ levels))
-key_leads levels column same begun key before leads =
-    then_leads (at_node levels) (at_node (a_map ∷ levels)) (at_node (a_key ∷ levels)) begun (key ++ (line_at (column + 2) ++ codes ": ")) before
-    (then_leads (at_node (a_map ∷ levels)) (after_node (a_map ∷ levels)) (at_node (a_key ∷ levels)) key (line_at (column + 2) ++ codes ": ") leads
-    (key_on levels column same))
+key_leads levels column same begun key before leads = then_leads _ _ _ _ _ before (then_leads _ _ _ _ _ leads (key_on levels column same))
 
 -- a map's pairs in the same way
 pair_leads : (pairs : TypedPairs) (key value : TypedValue) (levels : List OpenLevel) (column : ℕ) (end : Text) (last : Spot)
@@ -226,11 +216,8 @@ pair_leads : (pairs : TypedPairs) (key value : TypedValue) (levels : List OpenLe
     → LeadsTo (at_node levels) (codes "!!map {" ++ (node_pairs_text (column + 2) (value_pairs (value_pairs_and pairs key value)) ++ end)) last
 pair_leads pairs key value levels column end last before leads ends =
     let text = value_text (column + 2) value in
-    let begun = map_begun column pairs ++ (value_text (column + 2) key ++ (line_at (column + 2) ++ codes ": ")) in
-    same_leads (at_node levels) last ((begun ++ text) ++ (codes "," ++ end)) _
-    (pairs_regroup (node_pairs_text (column + 2) (value_pairs pairs)) (line_at (column + 2)) (value_text (column + 2) key) text end)
-    (then_leads (at_node levels) (after_node (a_key ∷ levels)) last (begun ++ text) (codes "," ++ end)
-    (then_leads (at_node levels) (at_node (a_key ∷ levels)) (after_node (a_key ∷ levels)) begun text before leads) ends)
+    same_leads _ _ _ _ (pairs_regroup (node_pairs_text (column + 2) (value_pairs pairs)) (line_at (column + 2)) (value_text (column + 2) key) text end)
+    (then_leads _ _ _ _ _ (then_leads _ _ _ _ _ before leads) ends)
 
 mutual
   pub value_leads : (value : TypedValue) (levels : List OpenLevel) (column : ℕ) → column ≡ length levels * 2 → CanBeReadAt (length levels) value
@@ -246,8 +233,7 @@ mutual
   value_leads (text_value text) levels column same readable =
       words_lead (at_node levels) (after_node levels) (value_text column (text_value text)) (tag_word kind.Text ∷ text_words text)
       (kind.Text, (refl, words_are text readable)) (ap (next_spot (at_node levels)) (inner_mark (codes "\"") text))
-      (value_flat column (text_value text) kind.Text (text_words text) refl
-      (ap encode_utf8_all (append-nil (in_quotes text)) ∙ sym (words_flat text)))
+      (value_flat column (text_value text) kind.Text (text_words text) refl (ap encode_utf8_all (append-nil (in_quotes text)) ∙ sym (words_flat text)))
   value_leads (list_value items) levels column same readable = list_leads items levels column same readable.0 readable.1
   value_leads (map_value pairs) levels column same readable = map_leads pairs levels column same readable.0 readable.1
 

@@ -54,16 +54,14 @@ line_goes depth More bytes rest is goes =
 characters_go : (text rest : Text) → all_scalars text ≡ true
     → BeginsWith characters (encode_utf8_all ((flat_map (character_text true) text ++ quote ∷ []) ++ rest))
 characters_go [] rest h =
-    goes_on characters nothing (codes "\"") (encode_utf8_all (quote ∷ rest)) (encode_utf8_all rest) (λ words more. inl (refl, more))
+    goes_on characters _ (codes "\"") (encode_utf8_all (quote ∷ rest)) _ (λ words more. inl (refl, more))
     (word_encoded (codes "\"") rest refl) (nothing_goes (encode_utf8_all rest))
 characters_go (c ∷ text) rest h =
     let inside = flat_map (character_text true) text in
     let parts = and_parts _ (all_scalars text) h in
-    goes_on characters characters (encode_utf8_all (character_text true c)) (encode_utf8_all (((character_text true c ++ inside) ++ quote ∷ []) ++ rest))
-    (encode_utf8_all ((inside ++ quote ∷ []) ++ rest)) (λ words more. inr (c, ap (λ b. b && true) parts.0, refl, more))
+    goes_on characters _ (encode_utf8_all (character_text true c)) _ _ (λ words more. inr (c, ap (λ b. b && true) parts.0, refl, more))
     (ap encode_utf8_all (regroup (character_text true c) inside (quote ∷ []) rest)
-    ∙ encodes-append (character_text true c) ((inside ++ quote ∷ []) ++ rest))
-    (characters_go text rest parts.1)
+    ∙ encodes-append (character_text true c) ((inside ++ quote ∷ []) ++ rest)) (characters_go text rest parts.1)
   where
     regroup : (a b c d : Text) → ((a ++ b) ++ c) ++ d ≡ a ++ ((b ++ c) ++ d)
     regroup a b c d = simp append_assoc
@@ -71,14 +69,12 @@ characters_go (c ∷ text) rest h =
 text_goes : (text rest : Text) → all_scalars text ≡ true → BeginsWith quoted_text (encode_utf8_all (in_quotes text ++ rest))
 text_goes text rest h =
     let behind = (flat_map (character_text true) text ++ quote ∷ []) ++ rest in
-    word_goes characters (codes "\"") (encode_utf8_all (in_quotes text ++ rest)) (encode_utf8_all behind) (word_encoded (codes "\"") behind refl)
-    (characters_go text rest h)
+    word_goes _ (codes "\"") (encode_utf8_all (in_quotes text ++ rest)) _ (word_encoded (codes "\"") behind refl) (characters_go text rest h)
 
 integer_goes : (n : ℤ) (rest : Text) → mag n < 2 ^ 63 → BeginsWith integer (encode_utf8_all (in_quotes (signed_decimal n) ++ rest))
 integer_goes n rest few =
     let word = in_quotes (signed_decimal n) in
-    goes_on integer nothing (encode_utf8_all word) (encode_utf8_all (word ++ rest)) (encode_utf8_all rest) (λ words more. (n, few, (refl, more)))
-    (encodes-append word rest) (nothing_goes (encode_utf8_all rest))
+    goes_on integer _ (encode_utf8_all word) _ _ (λ words more. (n, few, (refl, more))) (encodes-append word rest) (nothing_goes (encode_utf8_all rest))
 
 truth_goes : (b : Bool) (rest : Text) → BeginsWith truth (encode_utf8_all (in_quotes (bool_text b) ++ rest))
 truth_goes true rest =
@@ -101,8 +97,7 @@ list_goes levels no_values rest room =
     word_goes (unless_deep (length levels) (these_or_those ends goes)) (codes "[") (encode_utf8_all (codes "[]" ++ rest)) (encode_utf8_all (codes "]" ++ rest))
     (word_encoded (codes "[") (codes "]" ++ rest) refl)
     (goes_as ends (unless_deep (length levels) (these_or_those ends goes)) (encode_utf8_all (codes "]" ++ rest)) (λ words these. inl (room, inl these))
-    (word_goes nothing (codes "]") (encode_utf8_all (codes "]" ++ rest)) (encode_utf8_all rest) (word_encoded (codes "]") rest refl)
-    (nothing_goes (encode_utf8_all rest))))
+    (word_goes _ (codes "]") (encode_utf8_all (codes "]" ++ rest)) _ (word_encoded (codes "]") rest refl) (nothing_goes (encode_utf8_all rest))))
 list_goes levels (values_and items item) rest room =
     let ends = word_then (codes "]") nothing in
     let goes = line_then (suc (length levels)) nothing in
@@ -111,8 +106,8 @@ list_goes levels (values_and items item) rest room =
     let line = encode_utf8_all (line_at (column + 2) ++ inside) in
     word_goes (unless_deep (length levels) (these_or_those ends goes)) (codes "[") (encode_utf8_all (list_tail column (values_and items item) rest)) line
     (word_encoded (codes "[") (line_at (column + 2) ++ inside) refl)
-    (goes_as goes (unless_deep (length levels) (these_or_those ends goes)) line (λ words these. inl (room, inr these))
-    (line_goes (suc (length levels)) nothing line (encode_utf8_all inside) (entry_line levels inside) (nothing_goes (encode_utf8_all inside))))
+    (goes_as _ (unless_deep (length levels) (these_or_those ends goes)) _ (λ words these. inl (room, inr these))
+    (line_goes (suc (length levels)) _ _ _ (entry_line levels inside) (nothing_goes (encode_utf8_all inside))))
 
 map_goes : (levels : List OpenLevel) (pairs : TypedPairs) (rest : Text) → length levels < most_nested
     → BeginsWith (behind_tag (length levels) kind.Map) (encode_utf8_all (map_tail (column_in levels) pairs rest))
@@ -122,8 +117,7 @@ map_goes levels no_value_pairs rest room =
     word_goes (unless_deep (length levels) (these_or_those ends goes)) (codes "{") (encode_utf8_all (codes "{}" ++ rest)) (encode_utf8_all (codes "}" ++ rest))
     (word_encoded (codes "{") (codes "}" ++ rest) refl)
     (goes_as ends (unless_deep (length levels) (these_or_those ends goes)) (encode_utf8_all (codes "}" ++ rest)) (λ words these. inl (room, inl these))
-    (word_goes nothing (codes "}") (encode_utf8_all (codes "}" ++ rest)) (encode_utf8_all rest) (word_encoded (codes "}") rest refl)
-    (nothing_goes (encode_utf8_all rest))))
+    (word_goes _ (codes "}") (encode_utf8_all (codes "}" ++ rest)) _ (word_encoded (codes "}") rest refl) (nothing_goes (encode_utf8_all rest))))
 map_goes levels (value_pairs_and pairs key value) rest room =
     let ends = word_then (codes "}") nothing in
     let goes = line_then (suc (length levels)) (word_then (codes "? ") nothing) in
@@ -134,9 +128,8 @@ map_goes levels (value_pairs_and pairs key value) rest room =
     (encode_utf8_all (map_tail column (value_pairs_and pairs key value) rest)) line
     (word_encoded (codes "{") (line_at (column + 2) ++ (codes "? " ++ inside)) refl)
     (goes_as goes (unless_deep (length levels) (these_or_those ends goes)) line (λ words these. inl (room, inr these))
-    (line_goes (suc (length levels)) (word_then (codes "? ") nothing) line (encode_utf8_all (codes "? " ++ inside)) (entry_line levels (codes "? " ++ inside))
-    (word_goes nothing (codes "? ") (encode_utf8_all (codes "? " ++ inside)) (encode_utf8_all inside) (word_encoded (codes "? ") inside refl)
-    (nothing_goes (encode_utf8_all inside)))))
+    (line_goes (suc (length levels)) (word_then (codes "? ") nothing) _ (encode_utf8_all (codes "? " ++ inside)) (entry_line levels (codes "? " ++ inside))
+    (word_goes _ (codes "? ") (encode_utf8_all (codes "? " ++ inside)) _ (word_encoded (codes "? ") inside refl) (nothing_goes (encode_utf8_all inside)))))
 
 -- ---- nodes
 

@@ -37,8 +37,6 @@ level_texts _ = tt
 -- so are those of each value
 pub texts_of : (A : Type 0) (value : Value A) → HasScalarTexts (seen_value value)
 texts_of A value =
-    ind-Value A (λ value. HasScalarTexts (seen_value value))
-    (λ x y is.
+    ind-Value A (λ value. HasScalarTexts (seen_value value)) (λ x y is.
     subst HasScalarTexts (sym (fold-roll-Value A TypedValue seen_value_level x))
-    (subst (λ level. HasScalarTexts (seen_value_level (map-Value A (Value A) TypedValue seen_value level))) is (level_texts y)))
-    value
+    (subst (λ level. HasScalarTexts (seen_value_level (map-Value A (Value A) TypedValue seen_value level))) is (level_texts y))) value

@@ -75,29 +75,24 @@ mutual
       let ending = closing_line (length levels * 2) (has_no_nodes items) ++ codes "]" in
       let behind = ending ++ (trail_text levels ++ rest) in
       let ends : HasRunText open_now (sequence_end ∷ more) behind =
-      ends_node open_now levels sequence_end more rest behind refl refl (sym (append_assoc ending (trail_text levels) rest)) follows in
-      begins_node levels (item_awaited true) (sequence_start start) sequence_end (nodes_events items) more
-      (nodes_text (length (item_awaited true ∷ levels) * 2) items ++ behind) _ refl refl
+      ends_node open_now levels sequence_end more rest _ refl refl (sym (append_assoc ending (trail_text levels) rest)) follows in
+      begins_node levels (item_awaited true) (sequence_start start) sequence_end (nodes_events items) more _ _ refl refl
       (ap (λ (column : ℕ). lead_text levels
       ++ ((collection_properties start ++ (codes "[" ++ (nodes_text column items ++ ending))) ++ (trail_text levels ++ rest)))
       (deeper (item_awaited true) levels)
       ∙ start_grouped (lead_text levels) (collection_properties start) (codes "[") (nodes_text (length (item_awaited true ∷ levels) * 2) items) ending
-      (trail_text levels ++ rest))
-      (nodes_run items levels (sequence_end ∷ more) behind ends)
+      (trail_text levels ++ rest)) (nodes_run items levels (sequence_end ∷ more) behind ends)
   node_run (mapping_node start pairs) levels more rest follows =
       let open_now = key_awaited (has_no_pairs pairs) ∷ levels in
       let ending = closing_line (length levels * 2) (has_no_pairs pairs) ++ codes "}" in
       let behind = ending ++ (trail_text levels ++ rest) in
       let ends : HasRunText open_now (mapping_end ∷ more) behind =
-      ends_node open_now levels mapping_end more rest behind refl refl (sym (append_assoc ending (trail_text levels) rest)) follows in
-      begins_node levels (key_awaited true) (mapping_start start) mapping_end (pairs_events pairs) more
-      (node_pairs_text (length (key_awaited true ∷ levels) * 2) pairs ++ behind) _ refl refl
-      (ap (λ (column : ℕ). lead_text levels
+      ends_node open_now levels mapping_end more rest _ refl refl (sym (append_assoc ending (trail_text levels) rest)) follows in
+      begins_node levels (key_awaited true) (mapping_start start) mapping_end (pairs_events pairs) more _ _ refl refl (ap (λ (column : ℕ). lead_text levels
       ++ ((collection_properties start ++ (codes "{" ++ (node_pairs_text column pairs ++ ending))) ++ (trail_text levels ++ rest)))
       (deeper (key_awaited true) levels)
       ∙ start_grouped (lead_text levels) (collection_properties start) (codes "{") (node_pairs_text (length (key_awaited true ∷ levels) * 2) pairs) ending
-      (trail_text levels ++ rest))
-      (pairs_run pairs levels (mapping_end ∷ more) behind ends)
+      (trail_text levels ++ rest)) (pairs_run pairs levels (mapping_end ∷ more) behind ends)
 
   -- items, and then what follows the last one
   nodes_run : (items : Nodes) (levels : List Pending) (more : List Event) (rest : Text) → HasRunText (item_awaited (has_no_nodes items) ∷ levels) more rest
@@ -119,14 +114,11 @@ mutual
       let of_value = (line_at column ++ codes ": ") ++ (node_text column value ++ (codes "," ++ rest)) in
       let last = node_run value (value_awaited ∷ levels) more rest run in
       let both = node_run key (key_awaited (has_no_pairs pairs) ∷ levels) (node_events value ++ more) of_value last in
-      same_run (key_awaited true ∷ levels) _ _ _ _
-      (append_assoc (pairs_events pairs) (node_events key ++ node_events value) more
+      same_run (key_awaited true ∷ levels) _ _ _ _ (append_assoc (pairs_events pairs) (node_events key ++ node_events value) more
       ∙ ap (λ (after : List Event). pairs_events pairs ++ after) (append_assoc (node_events key) (node_events value) more))
       (pair_grouped (node_pairs_text column pairs) (line_at column) (node_text column key) (codes ": ") (node_text column value) rest)
       (pairs_run pairs levels (node_events key ++ (node_events value ++ more)) ((line_at column ++ codes "? ") ++ (node_text column key ++ of_value)) both)
 
 -- the events of a whole tree
 pub tree_runs : (root : Node) → HasRunText [] (node_events root) (node_text 0 root)
-tree_runs root =
-    same_run [] (node_events root ++ []) (node_events root) (node_text 0 root ++ []) (node_text 0 root) (sym (append-nil (node_events root)))
-    (sym (append-nil (node_text 0 root))) (node_run root [] [] [] (refl, refl))
+tree_runs root = same_run [] _ _ _ _ (sym (append-nil (node_events root))) (sym (append-nil (node_text 0 root))) (node_run root [] [] [] (refl, refl))

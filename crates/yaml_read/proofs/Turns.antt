@@ -15,8 +15,7 @@ column_is (level ∷ levels) = grind (arith, length, suc, column_is levels)
 
 -- the indentation of an entry is that of its list or map, and two spaces
 pub line_deeper : (n : ℕ) (text : List ℕ) → line_at (n + 2) ++ text ≡ line_at n ++ (codes "  " ++ text)
-line_deeper n text =
-    ap (λ t. (line_feed ∷ t) ++ text) (sym (replicate-append-replicate n 2 space)) ∙ append_assoc (line_at n) (codes "  ") text
+line_deeper n text = ap (λ t. (line_feed ∷ t) ++ text) (sym (replicate-append-replicate n 2 space)) ∙ append_assoc (line_at n) (codes "  ") text
 
 -- bytes of a comma, a line and a rest
 pub comma_line : (levels : List OpenLevel) (rest : Text)

@@ -77,7 +77,6 @@ none_due level levels outer key pairs h1 h2 = grind arith
 
 pub key_unique : (before after outer : List OpenLevel) (pairs : TypedPairs) (key : TypedValue) → Moved before after → after ≡ value_due pairs key ∷ outer
     → OpenHasUniqueKeys before → OpenHasUniqueKeys (pairs_open pairs ∷ outer)
-key_unique before after outer pairs key (level_opened level begins is) due unique = absurd (none_due level before outer key pairs begins (sym is ∙ due))
+key_unique before after outer pairs key (level_opened level begins is) due unique = absurd (none_due _ before outer key pairs begins (sym is ∙ due))
 key_unique before after outer pairs key (value_given value also took) due unique =
-    only_keys took.level took.outer outer took.value key pairs (sym took.taken ∙ due)
-    (ended_unique before value (took.level ∷ took.outer) took.value took.ended unique also).0
+    only_keys took.level took.outer outer took.value key pairs (sym took.taken ∙ due) (ended_unique _ _ _ _ took.ended unique also).0

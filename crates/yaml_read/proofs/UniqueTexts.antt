@@ -1,6 +1,6 @@
 -- A document's text from node to node, by whether keys must differ.
-use Rattle.yaml_read.proofs.Common.{ℕ, ◌+◌, List, [], ◌∷◌, ◌++◌, refl, ◌≡◌, ◌∙◌, subst, sym, codes, Ok, Err, Bor, IsUtf8, TypedValue, HasUniqueKeys, IsNewKey}
-use Rattle.yaml_read.proofs.Common.{OpenLevel, seen_levels, value_due, Level, Keys, FollowedBy, FollowsKeys, InnermostIsNew, KeyStopsAt, IsOpen, StopsAt, arith}
+use Rattle.yaml_read.proofs.Common.{ℕ, ◌+◌, List, [], ◌∷◌, ◌++◌, refl, ◌≡◌, subst, sym, codes, Ok, Err, Bor, IsUtf8, TypedValue, HasUniqueKeys, IsNewKey}
+use Rattle.yaml_read.proofs.Common.{OpenLevel, seen_levels, value_due, Level, Keys, FollowedBy, FollowsKeys, InnermostIsNew, KeyStopsAt, IsOpen, StopsAt}
 use Rattle.yaml_read.proofs.Common.{column_in, KeysAllow, OpenKeysAllow, IsPlacedBy, Ended, Moved, NodeStepped, KeyStop, ReadError, OpenKeys, Next}
 use Rattle.yaml_read.proofs.UniqueSoFar.{HasNewKey, ended_allows, key_unique, moved_unique, unique_allows}
 use Rattle.yaml_read.{specs.Errors.TellsKey, specs.HeldKeys.HoldBy, specs.HeldKeys.KeyRepeats, specs.HeldKeys.TextRead}
@@ -8,7 +8,6 @@ use Rattle.yaml_read.{specs.declared.levels.Next.TheVariants.Node}
 use Rattle.yaml_read.proofs.{KeyTexts.key_again, KeyTexts.new_key, Placing.stops_placed}
 use Rattle.yaml_value.specs.declared.keys.Keys.TheVariants as keys
 use Rattle.yaml_read.specs.declared.errors.KeyStop.TheVariants as key
-use Rattle.yaml_read.specs.declared.errors.Stop.TheVariants as stop
 
 -- a document's text up to a node: what is open, and the keys that are held of it
 pub record TextAt {A : Type 0} (mode : Keys) (text : List ℕ) (levels : List OpenLevel) (bytes : List ℕ) (held : List (OpenKeys A)) : Type 0 where
@@ -40,8 +39,7 @@ new_innermost _ is = tt
 
 hold_on : {A : Type 0} (mode : Keys) (whole : List ℕ) (before after : List OpenLevel) (new : List (OpenKeys A)) → Moved before after
     → OpenKeysAllow mode before → FollowedBy mode whole after new (Ok tt) → HoldBy mode whole after new × OpenKeysAllow mode after
-hold_on keys.Unique whole before after new moved unique followed =
-    (followed.0, moved_unique before after moved unique (new_innermost after followed.1))
+hold_on keys.Unique whole before after new moved unique followed = (followed.0, moved_unique before after moved unique (new_innermost after followed.1))
 hold_on keys.MayRepeat whole before after new moved unique followed = (tt, tt)
 
 module _ {A : Type 0} (mode : Keys) (text : List ℕ) (before after : List OpenLevel) (bytes : List ℕ) (rest : Bor (List ℕ)) (old : List (OpenKeys A))

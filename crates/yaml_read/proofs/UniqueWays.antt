@@ -48,21 +48,19 @@ module _ (whole : List ℕ) (next : Spot) (bytes rest : List ℕ) (words : List 
   node_on levels (whole_value value readable text leads) to opened =
       ends_as whole (OpenHasUniqueKeys levels × HasUniqueKeys value) (OpenHasUniqueKeys levels) (λ both. both.0)
       (goes.behind levels value (same_some next (after_node (bare levels)) (sym to ∙ leads (bare levels)))
-      (value_in whole levels value bytes rest opened (is ∙ ap (λ t. t ++ rest) (sym text)) readable))
+      (value_in _ _ value _ rest opened (is ∙ ap (λ t. t ++ rest) (sym text)) readable))
   node_on levels (list_opened room text leads) to opened =
       ends_as whole (OpenHasUniqueKeys (items_open no_values ∷ levels)) (OpenHasUniqueKeys levels) (λ both. both.0)
       (goes.node (items_open no_values ∷ levels) (same_some next (at_node (a_list ∷ bare levels)) (sym to ∙ leads (bare levels)))
       (record {
-        text = word_read whole bytes rest (flat words) (codes "!!seq [" ++ line_at (column_in levels + 2)) (opened_text levels) opened.text is text;
+        text = word_read _ _ rest _ (codes "!!seq [" ++ line_at (column_in levels + 2)) (opened_text levels) opened.text is text;
         readable = (opened.readable, (room, tt));
       }))
   node_on levels (map_opened room text leads) to opened =
       ends_as whole (OpenHasUniqueKeys (pairs_open no_value_pairs ∷ levels)) (OpenHasUniqueKeys levels) (λ both. both.0)
       (goes.node (pairs_open no_value_pairs ∷ levels) (same_some next (at_node (a_map ∷ bare levels)) (sym to ∙ leads (bare levels)))
       (record {
-        text =
-            word_read whole bytes rest (flat words) (codes "!!map {" ++ (line_at (column_in levels + 2) ++ codes "? ")) (opened_text levels)
-            opened.text is text;
+        text = word_read _ _ rest _ (codes "!!map {" ++ (line_at (column_in levels + 2) ++ codes "? ")) (opened_text levels) opened.text is text;
         readable = (opened.readable, (room, tt));
       }))
   node_on levels (lies_deep deep leads) to opened = absurd (none_some next (sym (leads (bare levels)) ∙ to))
@@ -82,16 +80,14 @@ module _ (whole : List ℕ) (next : Spot) (bytes rest : List ℕ) (words : List 
       → Ends whole (OpenHasUniqueKeys (items_open items ∷ levels) × HasUniqueKeys value)
   item_on_way levels items value (inl are) to read =
       ends_as whole (OpenHasUniqueKeys (items_open (values_and items value) ∷ levels)) (OpenHasUniqueKeys (items_open items ∷ levels) × HasUniqueKeys value)
-      (λ all. ((all.0, all.1.0), all.1.1))
-      (goes.node (items_open (values_and items value) ∷ levels)
+      (λ all. ((all.0, all.1.0), all.1.1)) (goes.node (items_open (values_and items value) ∷ levels)
       (there (length levels) (codes "  ") a_list (bare levels) (at_node (a_list ∷ bare levels)) are to
       (ap (next_spot (after_node (a_list ∷ bare levels))) (entry_mark (length levels) (codes "  "))))
       (item_on whole levels items value bytes rest read (cut (length levels) (codes "  ") are)))
   item_on_way levels items value (inr are) to read =
       ends_as whole (OpenHasUniqueKeys levels × HasUniqueKeys (list_value (values_and items value)))
       (OpenHasUniqueKeys (items_open items ∷ levels) × HasUniqueKeys value) (λ all. ((all.0, all.1.0), all.1.1))
-      (goes.behind levels (list_value (values_and items value))
-      (there (length levels) (codes "]") a_list (bare levels) (after_node (bare levels)) are to
+      (goes.behind levels (list_value (values_and items value)) (there (length levels) (codes "]") a_list (bare levels) (after_node (bare levels)) are to
       (ap (next_spot (after_node (a_list ∷ bare levels))) (entry_mark (length levels) (codes "]"))))
       (item_out whole levels items value bytes rest read (cut (length levels) (codes "]") are)))
 
@@ -101,16 +97,14 @@ module _ (whole : List ℕ) (next : Spot) (bytes rest : List ℕ) (words : List 
       → Ends whole (OpenHasUniqueKeys (value_due pairs key ∷ levels) × HasUniqueKeys value)
   pair_on_way levels pairs key value (inl are) to read =
       ends_as whole (OpenHasUniqueKeys (pairs_open (value_pairs_and pairs key value) ∷ levels))
-      (OpenHasUniqueKeys (value_due pairs key ∷ levels) × HasUniqueKeys value)
-      (λ all. ((all.0, (all.1.0, (all.1.1.0, all.1.1.1.0))), all.1.1.1.1))
+      (OpenHasUniqueKeys (value_due pairs key ∷ levels) × HasUniqueKeys value) (λ all. ((all.0, (all.1.0, (all.1.1.0, all.1.1.1.0))), all.1.1.1.1))
       (goes.node (pairs_open (value_pairs_and pairs key value) ∷ levels)
       (there (length levels) (codes "  ? ") a_key (bare levels) (at_node (a_map ∷ bare levels)) are to
       (ap (next_spot (after_node (a_key ∷ bare levels))) (entry_mark (length levels) (codes "  ? "))))
       (pair_on whole levels pairs key value bytes rest read (cut (length levels) (codes "  ? ") are)))
   pair_on_way levels pairs key value (inr are) to read =
       ends_as whole (OpenHasUniqueKeys levels × HasUniqueKeys (map_value (value_pairs_and pairs key value)))
-      (OpenHasUniqueKeys (value_due pairs key ∷ levels) × HasUniqueKeys value)
-      (λ all. ((all.0, (all.1.0, (all.1.1.0, all.1.1.1.0))), all.1.1.1.1))
+      (OpenHasUniqueKeys (value_due pairs key ∷ levels) × HasUniqueKeys value) (λ all. ((all.0, (all.1.0, (all.1.1.0, all.1.1.1.0))), all.1.1.1.1))
       (goes.behind levels (map_value (value_pairs_and pairs key value))
       (there (length levels) (codes "}") a_key (bare levels) (after_node (bare levels)) are to
       (ap (next_spot (after_node (a_key ∷ bare levels))) (entry_mark (length levels) (codes "}"))))
@@ -134,8 +128,7 @@ module _ (whole : List ℕ) (next : Spot) (bytes rest : List ℕ) (words : List 
   behind_on (pairs_open pairs ∷ levels) key are to read =
       let line = line_at (length levels * 2) in
       ends_as whole (OpenHasUniqueKeys (value_due pairs key ∷ levels)) (OpenHasUniqueKeys (pairs_open pairs ∷ levels) × HasUniqueKeys key)
-      (λ all. ((all.0, all.1.0), all.1.1.1))
-      (goes.node (value_due pairs key ∷ levels) (same_some next (at_node (a_key ∷ bare levels)) (sym to))
+      (λ all. ((all.0, all.1.0), all.1.1.1)) (goes.node (value_due pairs key ∷ levels) (same_some next (at_node (a_key ∷ bare levels)) (sym to))
       (key_on whole levels pairs key bytes rest read
       (is ∙ ap (λ t. t ++ rest) (key_words (length levels) words are) ∙ append_assoc line (codes "  : ") rest)))
 
@@ -175,16 +168,13 @@ repeats_not value whole left readable unique is repeats fits =
     let levels = value_due repeats.pairs repeats.key ∷ outer in
     let line = encode_utf8_all (line_at column ++ codes ": ") in
     let opened : IsOpen whole levels repeats.rest =
-    key_on whole outer repeats.pairs repeats.key (line ++ repeats.rest) repeats.rest
-    (value_in whole (pairs_open repeats.pairs ∷ outer) repeats.key repeats.text (line ++ repeats.rest) repeats.opened
+    key_on whole outer repeats.pairs repeats.key (line ++ repeats.rest) repeats.rest (value_in _ _ repeats.key _ (line ++ repeats.rest) repeats.opened
     (repeats.begins ∙ ap (λ t. t ++ repeats.rest) (encodes-append (value_text column repeats.key) (line_at column ++ codes ": "))
     ∙ append_assoc (encode_utf8_all (value_text column repeats.key)) line repeats.rest) fits)
     (ap (λ t. t ++ repeats.rest) (key_line outer []) ∙ append_assoc (line_at (length outer * 2)) (codes "  : ") repeats.rest) in
     let walk = subst (λ (t : List ℕ). Walk (at_node []) t at_end []) (append-nil (encode_utf8_all (value_text 0 value ++ line_feed ∷ [])) ∙ sym is)
     (value_walk value readable) in
-    let ends = (goes_by whole (at_node (bare levels)) at_end repeats.rest []
-    (later (at_node []) (at_node (bare levels)) at_end whole repeats.rest [] (opened_walk whole repeats.rest levels opened) walk (past_halts []))
-    refl refl).node levels refl opened in
+    let ends = (goes_by whole _ _ _ _ (later _ _ _ _ _ _ (opened_walk _ _ _ opened) walk (past_halts [])) refl refl).node levels refl opened in
     let same : ends.root ≡ value = text_tells ends.root value ends.readable readable
     (word_encoded (codes "---\n") (value_text 0 ends.root ++ line_feed ∷ []) refl ∙ ap (λ t. codes "---\n" ++ t) (sym ends.text ∙ is)
     ∙ sym (word_encoded (codes "---\n") (value_text 0 value ++ line_feed ∷ []) refl)) in

@@ -1,7 +1,7 @@
 -- A graph without styles has the events of the graph without theirs.
-use Rattle.yaml_base.proofs.Common.{arith, ℕ, [], ◌∷◌, ◌++◌, ◌==◌, ◌&&◌, ◌≡◌, ◌∙◌, if◌then◌else◌, Bool, true, false, Option, None, Some, List, refl, ap, sym}
+use Rattle.yaml_base.proofs.Common.{arith, ℕ, [], ◌∷◌, ◌++◌, ◌==◌, ◌&&◌, ◌≡◌, ◌∙◌, if◌then◌else◌, Bool, true, false, Option, List, refl, ap, sym}
 use Rattle.yaml_base.proofs.Common.{map, flat_map, length, list_all, nat_le, option_map, map-append, length-map, Text, Event, document_start, document_end}
-use Rattle.yaml_base.proofs.Common.{Held, scalar_held, GraphNode, Graph, node_numbered, numbers_held, numbers_in, children, Step, enters, leaves, meets_again}
+use Rattle.yaml_base.proofs.Common.{Held, GraphNode, Graph, node_numbered, numbers_held, numbers_in, children, Step, enters, leaves, meets_again}
 use Rattle.yaml_base.proofs.Common.{anchor_of, opening_event_of, opening_events, closing_event_of, closing_events, step_events, document_event_list}
 use Rattle.yaml_base.proofs.Common.{IsWholeGraph}
 use Rattle.yaml_base.{proofs.Unstyled.unstyled, specs.graphs.Meetings.graph_steps}
@@ -76,8 +76,7 @@ document_unstyled graph =
         ≡ map unstyled (if none then [] else document_start graph.start ∷ (root_events graph ++ document_end graph.end_implicit ∷ []))
     by true = refl
     by false =
-        ap listed (root_unstyled graph)
-        ∙ ap (λ (events : List Event). unstyled (document_start graph.start) ∷ events)
+        ap listed (root_unstyled graph) ∙ ap (λ (events : List Event). unstyled (document_start graph.start) ∷ events)
         (sym (map-append unstyled (root_events graph) (document_end graph.end_implicit ∷ [])))
 
 -- ---- whole graphs

@@ -92,11 +92,10 @@ pub later : (spot middle last : Spot) (bytes rest end : List ℕ) → Walk spot 
 later _ _ last _ _ end (stays spot bytes) way halts = way
 later _ _ _ _ _ _ (walks spot next middle bytes rest after words are to is goes) (stays _ _) halts = absurd (halts.none next rest words are to is)
 later _ _ _ _ _ _ (walks spot next middle bytes rest after words are to is goes) (walks _ second last _ other end others were on starts went) halts =
-    let same = words_same (words_at spot) words others rest other (way_at spot) are were (sym is ∙ starts) in
+    let same = words_same _ words others rest other (way_at spot) are were (sym is ∙ starts) in
     let there = same_some next second (sym to ∙ ap (λ ws. next_spot spot (mark ws)) same ∙ on) in
     let left = append_cancel_left (flat words) rest other (sym is ∙ starts ∙ ap (λ ws. flat ws ++ other) (sym same)) in
-    later next middle last rest after end goes
-    (subst (λ (s : Spot). Walk s rest last end) (sym there) (subst (λ (t : List ℕ). Walk second t last end) (sym left) went)) halts
+    later _ _ _ _ _ _ goes (subst (λ (s : Spot). Walk s rest last end) (sym there) (subst (λ (t : List ℕ). Walk second t last end) (sym left) went)) halts
 
 halted : (spot last : Spot) (bytes end : List ℕ) → Walk spot bytes last end → Halts spot bytes → Same spot last bytes end
 halted _ _ _ _ (stays spot bytes) halts = record { spot = refl; bytes = refl }

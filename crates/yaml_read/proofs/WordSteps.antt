@@ -78,10 +78,8 @@ list_step levels words (same, inl (room, inl ends)) =
 list_step levels words (same, inl (room, inr goes)) =
     let line = line_of (suc (length levels)) nothing words goes in
     subst (λ (ws : List (List ℕ)). NodeStep levels (tag_word kind.List ∷ codes "[" ∷ ws))
-    (sym (line.2 ∙ ap (λ ws. codes "\n" ∷ (replicate (suc (length levels)) (codes "  ") ++ ws)) (none_more line.0 line.1)))
-    (list_opened room
-    (word_encoded (codes "!!seq [") (line_at (column_in levels + 2)) refl
-    ∙ ap (λ t. codes "!!seq [" ++ t)
+    (sym (line.2 ∙ ap (λ ws. codes "\n" ∷ (replicate (suc (length levels)) (codes "  ") ++ ws)) (none_more line.0 line.1))) (list_opened room
+    (word_encoded (codes "!!seq [") (line_at (column_in levels + 2)) refl ∙ ap (λ t. codes "!!seq [" ++ t)
     (bare_flat (column_in levels + 2) (suc (length levels)) (deeper (column_in levels) (length levels) (column_is levels))))
     (λ spots. ap (next_spot (at_node spots)) (spaces_mark (codes "\n") (length levels))))
 list_step levels words (same, inr (deep, ends)) =
@@ -95,10 +93,8 @@ map_step levels words (same, inl (room, inl ends)) =
 map_step levels words (same, inl (room, inr goes)) =
     let line = line_of (suc (length levels)) (word_then (codes "? ") nothing) words goes in
     subst (λ (ws : List (List ℕ)). NodeStep levels (tag_word kind.Map ∷ codes "{" ∷ ws))
-    (sym (line.2 ∙ ap (λ ws. codes "\n" ∷ (replicate (suc (length levels)) (codes "  ") ++ ws)) (single (codes "? ") line.0 line.1)))
-    (map_opened room
-    (word_encoded (codes "!!map {") (line_at (column_in levels + 2) ++ codes "? ") refl
-    ∙ ap (λ t. codes "!!map {" ++ t)
+    (sym (line.2 ∙ ap (λ ws. codes "\n" ∷ (replicate (suc (length levels)) (codes "  ") ++ ws)) (single (codes "? ") line.0 line.1))) (map_opened room
+    (word_encoded (codes "!!map {") (line_at (column_in levels + 2) ++ codes "? ") refl ∙ ap (λ t. codes "!!map {" ++ t)
     (line_flat (column_in levels + 2) (suc (length levels)) (codes "? ") (deeper (column_in levels) (length levels) (column_is levels)) refl))
     (λ spots. ap (next_spot (at_node spots)) (levels_mark (codes "\n") (codes "? ") (suc (length levels)))))
 map_step levels words (same, inr (deep, ends)) =
@@ -106,22 +102,20 @@ map_step levels words (same, inr (deep, ends)) =
 
 tag_step : (levels : List OpenLevel) (k : Kind) (words : List (List ℕ)) → behind_tag (length levels) k words → NodeStep levels (tag_word k ∷ words)
 tag_step levels kind.Null words are =
-    scalar_step levels kind.Null null_value (codes "\"null\"" ∷ []) words (single (codes "\"null\"") words are) refl tt
-    (word_encoded (codes "\"null\"") [] refl) (λ spots. refl)
+    scalar_step levels kind.Null null_value _ _ (single (codes "\"null\"") words are) refl tt (word_encoded (codes "\"null\"") [] refl) (λ spots. refl)
 tag_step levels kind.Bool words (inl are) =
-    scalar_step levels kind.Bool (bool_value true) (codes "\"true\"" ∷ []) words (single (codes "\"true\"") words are) refl tt
+    scalar_step levels kind.Bool (bool_value true) _ _ (single (codes "\"true\"") words are) refl tt
     (word_encoded (codes "\"true\"") [] refl) (λ spots. refl)
 tag_step levels kind.Bool words (inr are) =
-    scalar_step levels kind.Bool (bool_value false) (codes "\"false\"" ∷ []) words (single (codes "\"false\"") words are) refl tt
+    scalar_step levels kind.Bool (bool_value false) _ _ (single (codes "\"false\"") words are) refl tt
     (word_encoded (codes "\"false\"") [] refl) (λ spots. refl)
 tag_step levels kind.Int words are =
     let word = encode_utf8_all (in_quotes (signed_decimal are.0)) in
-    scalar_step levels kind.Int (int_value are.0) (word ∷ []) words (single word words are.2) refl are.1
+    scalar_step levels kind.Int (int_value are.0) _ _ (single word words are.2) refl are.1
     (encodes-append (in_quotes (signed_decimal are.0)) []) (λ spots. ap (next_spot (at_node spots)) (quotes_first (signed_decimal are.0)))
 tag_step levels kind.Text words are =
     let text = quoted_of words are in
-    scalar_step levels kind.Text (text_value text.0) (text_words text.0) words text.2 refl text.1
-    (ap encode_utf8_all (append-nil (in_quotes text.0)) ∙ sym (words_flat text.0))
+    scalar_step levels kind.Text (text_value text.0) _ _ text.2 refl text.1 (ap encode_utf8_all (append-nil (in_quotes text.0)) ∙ sym (words_flat text.0))
     (λ spots. ap (next_spot (at_node spots)) (inner_mark (codes "\"") text.0))
 tag_step levels kind.List (word ∷ words) are =
     subst (λ (w : List ℕ). NodeStep levels (tag_word kind.List ∷ w ∷ words)) (sym are.0) (list_step levels words (refl, are.1))
@@ -131,8 +125,7 @@ tag_step levels _ [] are = absurd are
 
 pub node_step : (levels : List OpenLevel) (words : List (List ℕ)) → node (length levels) words → NodeStep levels words
 node_step levels [] are = absurd are.1
-node_step levels (word ∷ words) are =
-    subst (λ (w : List ℕ). NodeStep levels (w ∷ words)) (sym are.1.0) (tag_step levels are.0 words are.1.1)
+node_step levels (word ∷ words) are = subst (λ (w : List ℕ). NodeStep levels (w ∷ words)) (sym are.1.0) (tag_step levels are.0 words are.1.1)
 
 -- words of a node begin the text of a value if a list or a map may still be opened
 step_begins : (levels : List OpenLevel) (words : List (List ℕ)) → length levels < most_nested → NodeStep levels words → BeginsText levels words

@@ -45,28 +45,21 @@ first_none first second text none = behind_both first second text ∙ ap (option
 pub spaces_more : (level : ℕ) (text rest next : List ℕ) → text ≡ replicate (level * 2) space ++ rest → rest ≡ codes "  " ++ next
     → text ≡ replicate ((level + 1) * 2) space ++ next
 spaces_more level text rest next is more =
-    is ∙ ap (λ t. replicate (level * 2) space ++ t) more
-    ∙ sym (append_assoc (replicate (level * 2) space) (codes "  ") next)
+    let twice : level * 2 + 2 ≡ (level + 1) * 2 = omega arith in
+    is ∙ ap (λ t. replicate (level * 2) space ++ t) more ∙ sym (append_assoc (replicate (level * 2) space) (codes "  ") next)
     ∙ ap (λ t. t ++ next) (replicate-append-replicate (level * 2) 2 space ∙ ap (λ n. replicate n space) twice)
-  where
-    twice : level * 2 + 2 ≡ (level + 1) * 2
-    twice = omega arith
 
 -- too few spaces
 pub spaces_lack : (level depth : ℕ) (text rest : List ℕ) → text ≡ replicate (level * 2) space ++ rest → level < depth → past_word (codes "  ") rest ≡ None
     → past_word (replicate (depth * 2) space) text ≡ None
 spaces_lack level depth text rest is below none =
+    let sums : level * 2 + (2 + (depth - level - 1) * 2) ≡ depth * 2 = omega (arith, below) in
+    let all : replicate (level * 2) space ++ (codes "  " ++ replicate ((depth - level - 1) * 2) space) ≡ replicate (depth * 2) space =
+    ap (λ t. replicate (level * 2) space ++ t) (replicate-append-replicate 2 ((depth - level - 1) * 2) space)
+    ∙ replicate-append-replicate (level * 2) (2 + (depth - level - 1) * 2) space ∙ ap (λ n. replicate n space) sums in
     subst (λ (t : List ℕ). past_word t text ≡ None) all
     (longer_none (replicate (level * 2) space) (codes "  " ++ replicate ((depth - level - 1) * 2) space) text rest is
     (first_none (codes "  ") (replicate ((depth - level - 1) * 2) space) rest none))
-  where
-    sums : level * 2 + (2 + (depth - level - 1) * 2) ≡ depth * 2
-    sums = omega (arith, below)
-
-    all : replicate (level * 2) space ++ (codes "  " ++ replicate ((depth - level - 1) * 2) space) ≡ replicate (depth * 2) space
-    all =
-        ap (λ t. replicate (level * 2) space ++ t) (replicate-append-replicate 2 ((depth - level - 1) * 2) space)
-        ∙ replicate-append-replicate (level * 2) (2 + (depth - level - 1) * 2) space ∙ ap (λ n. replicate n space) sums
 
 -- one cut after another
 pub cuts_behind : (first second text rest : List ℕ) (result : Result (Bor (List ℕ)) Stop) → text ≡ first ++ rest → Cuts second rest result

@@ -11,9 +11,6 @@ returns-in-Err c =
       shorter = tt;
     }
 
-pub loop-level-init : goal.loop-level-init
-loop-level-init c = (search rules, omega (arith, c.in-Ok.ensures.shorter), c.in-Ok.ensures.cut)
-
 pub loop-level-preserved : goal.loop-level-preserved
 loop-level-preserved c =
     let line = replicate (c.loop-level._level * 2) space ++ c.loop-level.rest.now in (

@@ -7,10 +7,8 @@ pub returns-in-Ok : goal.returns-in-Ok
 returns-in-Ok c =
     let line = line_at (c.args.depth * 2) in
     record {
-      cut = cuts_behind line c.args.lead.now c.args.text.now c.in-Ok.line.now c.after.result c.in-Ok.ensures.cut c.after.ensures.cut;
-      lacks =
-          lead_behind c.args.depth c.args.lead.now c.args.text.now c.in-Ok.line.now c.after.result c.in-Ok.ensures.cut c.after.ensures.cut
-          c.after.ensures.placed;
+      cut = cuts_behind line c.args.lead.now _ c.in-Ok.line.now c.after.result c.in-Ok.ensures.cut c.after.ensures.cut;
+      lacks = lead_behind _ _ _ c.in-Ok.line.now _ c.in-Ok.ensures.cut c.after.ensures.cut c.after.ensures.placed;
       shorter = IfOk-weaker c.after.result _ _ (λ rest is. omega (arith, is, c.in-Ok.ensures.shorter)) c.after.ensures.shorter;
     }
 

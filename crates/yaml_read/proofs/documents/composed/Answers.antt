@@ -13,7 +13,3 @@ returns-in-Ok g c node is =
 
 not_memory : compose.NotDumped ≡ compose.Memory → ⊥
 not_memory is = cc
-
-pub returns-in-Err-NotDumped : goal.returns-in-Err-NotDumped
-returns-in-Err-NotDumped g c node is graph whole has =
-    not_memory (sym c.in-Err-NotDumped.field-0-is ∙ c.in-Err-NotDumped.ensures.composes graph whole (has ∙ sym is))

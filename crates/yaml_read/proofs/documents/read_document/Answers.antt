@@ -1,14 +1,9 @@
-use Rattle.yaml_read.proofs.Common.{List, ℕ, ap, inl, inr, map, subst, sym, ◌∙◌, seen_event, AreRunBytes, DocumentStops, IsDocumentPlaced}
+use Rattle.yaml_read.proofs.Common.{List, ℕ, ap, inr, map, subst, sym, ◌∙◌, seen_event, AreRunBytes, DocumentStops}
 use Rattle.yaml_read.proofs.DocumentsRead.{composed_answers, document_placed, document_stopped, dumped_utf8}
 use Rattle.yaml_read.proofs.documents.read_document.Goals as goal
 
 pub returns-in-Err-clause-complete : goal.returns-in-Err-clause-complete
-returns-in-Err-clause-complete g c =
-    inr (λ graph dumped. c.in-Err.ensures.1.not_utf8 (dumped_utf8 graph c.args.bytes.now dumped))
-
-pub returns-in-Err-clause-placed : goal.returns-in-Err-clause-placed
-returns-in-Err-clause-placed g c =
-    subst (IsDocumentPlaced c.args.bytes.now) (sym c.in-Err.ensures.2) (inl c.in-Err.ensures.1)
+returns-in-Err-clause-complete g c = inr (λ graph dumped. c.in-Err.ensures.1.not_utf8 (dumped_utf8 graph c.args.bytes.now dumped))
 
 pub returns-in-Ok-read_events : goal.returns-in-Ok-read_events
 returns-in-Ok-read_events g c =
@@ -21,8 +16,7 @@ returns-in-Ok-read_events g c =
 
 pub returns-in-Err-read_events-clause-complete : goal.returns-in-Err-read_events-clause-complete
 returns-in-Err-read_events-clause-complete g c =
-    document_stopped c.args.bytes.now c.in-Ok.text.now c.in-Err-read_events.stop c.error_of.result c.in-Ok.ensures.1 c.error_of.ensures
-    c.in-Err-read_events.ensures.reads
+    document_stopped _ _ c.in-Err-read_events.stop c.error_of.result c.in-Ok.ensures.1 c.error_of.ensures c.in-Err-read_events.ensures.reads
 
 pub returns-in-Err-read_events-clause-placed : goal.returns-in-Err-read_events-clause-placed
 returns-in-Err-read_events-clause-placed g c =

@@ -1,13 +1,6 @@
 use Rattle.yaml_read.proofs.Common.{◌≡◌, ap, subst, sym, ◌∙◌, FitsSigned, true≢false, w64, to_z-of_z, bytes_eq-Decides, parse-signed_decimal, signed_decimal}
-use Rattle.yaml_read.proofs.Common.{mag, ◌<◌, ◌^◌}
-use Rattle.yaml_read.proofs.{Scalars.fits_signed, Scalars.not_parsed, HeadsRead.bits_of_fits, HeadsRead.parsed_fits}
+use Rattle.yaml_read.proofs.{Scalars.fits_signed, Scalars.not_parsed}
 use Rattle.yaml_read.proofs.heads.integer_of.Goals as goal
-
-pub returns-then-eq : goal.returns-then-eq
-returns-then-eq c =
-    let fits = parsed_fits c.args.digits.now c.in-Ok.value c.parse.result c.parse.ensures.value.0 c.in-Ok.is in
-    let same = (bytes_eq-Decides c.args.digits.now c.format.result.now).0 (sym c.eq.ensures ∙ c.if-eq.true) in
-    (subst (λ z. mag z < 2 ^ 63) (sym (to_z-of_z w64 c.in-Ok.value fits)) (bits_of_fits c.in-Ok.value fits), same ∙ c.format.ensures.text)
 
 pub returns-else-eq : goal.returns-else-eq
 returns-else-eq c =

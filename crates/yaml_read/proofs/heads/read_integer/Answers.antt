@@ -27,14 +27,12 @@ returns-in-Some g c =
 
 pub returns-in-Ok : goal.returns-in-Ok
 returns-in-Ok g c =
-    no_integer_scalar g.row.A.Denot c.args.text.now c.refused_at.result c.utf8.text (inr c.refused_at.ensures)
-    (λ n rest few is.
+    no_integer_scalar g.row.A.Denot c.args.text.now c.refused_at.result c.utf8.text (inr c.refused_at.ensures) (λ n rest few is.
     let read = c.in-Ok.ensures.reads (signed_decimal n) rest (int_scalars n few) is in
     absurd (c.in-None.ensures n few (c.as_str.ensures.value ∙ digits_are c.in-Ok.digits n few read.0)))
 
 pub returns : goal.returns
 returns g c =
     let place = whole_placed c.args.text.now c.in-Err.reason c.refused_whole.result c.refused_whole.ensures in
-    no_integer_scalar g.row.A.Denot c.args.text.now c.refused_whole.result c.utf8.text place
-    (λ n rest few is.
+    no_integer_scalar g.row.A.Denot c.args.text.now c.refused_whole.result c.utf8.text place (λ n rest few is.
     whole_refused c.args.text.now c.in-Err.reason c.refused_whole.result c.refused_whole.ensures (c.in-Err.ensures.reads (signed_decimal n) rest (int_scalars n few) is))

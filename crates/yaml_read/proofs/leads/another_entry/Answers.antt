@@ -25,14 +25,13 @@ returns-in-Err-after c =
     let line = line_at (c.args.depth * 2) in
     record {
       stands = (
-        longer_none line c.args.lead.now c.args.text.now c.in-Ok.line.now c.in-Ok.ensures.cut c.in-None.ensures.cut,
-        longer_none line c.args.end.now c.args.text.now c.in-Ok.line.now c.in-Ok.ensures.cut c.in-Err-after.ensures.cut,
+        longer_none line _ _ _ c.in-Ok.ensures.cut c.in-None.ensures.cut,
+        longer_none line _ _ _ c.in-Ok.ensures.cut c.in-Err-after.ensures.cut,
       );
       breaks =
-          line_passed c.args.depth c.args.text.now c.in-Ok.line.now
+          line_passed c.args.depth _ c.in-Ok.line.now
           (these_or_those (word_then c.args.lead.now nothing) (word_then c.args.end.now nothing)) c.in-Err-after.stop c.in-Ok.ensures.cut
-          (neither c.args.lead.now c.args.end.now c.in-Ok.line.now c.in-Err-after.stop c.in-None.ensures.cut c.in-Err-after.ensures.cut
-          c.in-Err-after.ensures.placed);
+          (neither _ _ _ c.in-Err-after.stop c.in-None.ensures.cut c.in-Err-after.ensures.cut c.in-Err-after.ensures.placed);
       shorter = tt;
     }
 

@@ -1,10 +1,7 @@
 use Rattle.yaml_read.proofs.Common.{Some, Ok, Err, ap, ◌∙◌, Another}
-use Rattle.yaml_read.proofs.Awaits.{first_item_stands, first_key_stands, item_stands, key_stands, root_stands, stands_in, value_lacks, value_stands}
+use Rattle.yaml_read.proofs.Awaits.{first_item_stands, first_key_stands, item_stands, key_stands, stands_in, value_lacks, value_stands}
 use Rattle.yaml_read.specs.declared.leads.Await.TheVariants as await
 use Rattle.yaml_read.proofs.leads.read_lead.Goals as goal
-
-pub returns-in-None : goal.returns-in-None
-returns-in-None c = λ levels innermost counted. root_stands levels c.args.innermost c.args.text c.in-None.is innermost
 
 pub returns-in-FirstItem : goal.returns-in-FirstItem
 returns-in-FirstItem c =
@@ -16,8 +13,7 @@ returns-in-FirstItem c =
 pub returns-in-Item : goal.returns-in-Item
 returns-in-Item c =
     λ levels innermost counted.
-    stands_in levels c.args.innermost await.Item c.args.count c.saturating_sub-depth.result c.args.text.now c.another_entry.result
-    (c.in-Some.is ∙ ap Some c.in-Item.is) innermost counted c.saturating_sub-depth.ensures
+    stands_in levels _ _ _ _ c.args.text.now c.another_entry.result (c.in-Some.is ∙ ap Some c.in-Item.is) innermost counted c.saturating_sub-depth.ensures
     (λ outer at. item_stands outer c.saturating_sub-depth.result c.args.text.now c.another_entry.result at c.another_entry.ensures.stands)
 
 pub returns-in-FirstKey : goal.returns-in-FirstKey
@@ -44,6 +40,5 @@ returns-in-Ok c =
 pub returns-in-Err : goal.returns-in-Err
 returns-in-Err c =
     λ levels innermost counted.
-    stands_in levels c.args.innermost await.Value c.args.count c.saturating_sub-depth.result c.args.text.now (Err c.in-Err.stop)
-    (c.in-Some.is ∙ ap Some c.in-Value.is) innermost counted c.saturating_sub-depth.ensures
+    stands_in levels _ _ _ _ c.args.text.now (Err c.in-Err.stop) (c.in-Some.is ∙ ap Some c.in-Value.is) innermost counted c.saturating_sub-depth.ensures
     (λ outer at. value_lacks outer c.saturating_sub-depth.result c.args.text.now c.in-Err.stop at c.in-Err.ensures.cut)

@@ -1,4 +1,4 @@
-use Rattle.yaml_read.proofs.Common.{◌≡◌, ◌<◌, List, [], subst, sym, ◌∙◌, rules, arith, length, OpenLevel, seen_level, seen_levels, seen_value, HasRead, IsOpen}
+use Rattle.yaml_read.proofs.Common.{◌≡◌, ◌<◌, List, subst, sym, ◌∙◌, rules, arith, length, OpenLevel, seen_level, seen_levels, seen_value, HasRead, IsOpen}
 use Rattle.yaml_read.proofs.Common.{Ended, none_ended}
 use Rattle.yaml_value.proofs.SeenLevels.{no_levels}
 use Rattle.yaml_read.{specs.Opened.TurnRead, specs.declared.levels.Turn.Turn, specs.Settled.TurnTook, specs.Stepped.TurnShorter}
@@ -16,10 +16,9 @@ returns-in-Err g c =
     record {
       read = λ whole read. tt;
       stops = λ mode whole read open_allow allow.
-          let before = taken _ _ _ _ _ _ _ _ whole c.loop-level.invariant.2 c.in-Some.ensures.items read in
+          let before = taken _ _ _ _ _ _ _ _ _ c.loop-level.invariant.2 c.in-Some.ensures.items read in
           let allowed = ended_allows mode _ _ _ _ (off _ _ _ _ _ _ c.loop-level.invariant.3 c.in-Some.ensures.items) open_allow allow in
-          value_stops mode whole inner (seen_level c.in-Some.level) (seen_value c.loop-level.value) c.loop-level.text.now c.len.result c.in-Err.stop depth
-          before allowed.0 allowed.1 c.in-Err.ensures.breaks;
+          value_stops mode _ inner (seen_level c.in-Some.level) _ _ _ c.in-Err.stop depth before allowed.0 allowed.1 c.in-Err.ensures.breaks;
       shorter = tt;
       took = tt;
     }
@@ -30,21 +29,19 @@ returns-in-Ok-push g c =
     let depth : c.len.result ≡ length inner = c.len.ensures ∙ c.pop.new.self.ok.0 ∙ sym (levels_length c.pop.new.self.items) in
     record {
       read = λ whole read.
-          let before = taken _ _ _ _ _ _ _ _ whole c.loop-level.invariant.2 c.in-Some.ensures.items read in
+          let before = taken _ _ _ _ _ _ _ _ _ c.loop-level.invariant.2 c.in-Some.ensures.items read in
           let turn : TurnRead whole inner c.in-Ok.turn = c.in-Ok.ensures.read whole inner depth before in
           let opened = subst (λ (t : Turn g.row.A.Denot). TurnRead whole inner t) c.in-Continues.is turn in
           subst (λ (levels : List OpenLevel). IsOpen whole levels c.in-Continues.next.now)
-          (sym (pushed_on c.in-Continues.level c.pop.new.self.items c.push.new.list.items c.in-Ok-push.ensures).0) opened;
+          (sym (pushed_on c.in-Continues.level c.pop.new.self.items _ c.in-Ok-push.ensures).0) opened;
       stops = λ mode whole read open_allow allow. tt;
       shorter = let less : length c.in-Continues.next.now < length c.loop-level.text.now =
           subst (λ (t : Turn g.row.A.Denot). TurnShorter c.loop-level.text.now t) c.in-Continues.is c.in-Ok.ensures.shorter in
           omega (arith, less, c.loop-level.invariant.1);
       took =
-          took_on (seen_levels c.args.levels.now.items) (seen_levels c.push.new.list.items) (seen_value c.args.value) (seen_value c.loop-level.value)
-          c.loop-level.levels.items c.pop.new.self.items c.in-Some.level c.in-Continues.level c.loop-level.invariant.3 c.in-Some.ensures.items
+          took_on _ _ _ _ _ c.pop.new.self.items c.in-Some.level c.in-Continues.level c.loop-level.invariant.3 c.in-Some.ensures.items
           (subst (λ (t : Turn g.row.A.Denot). TurnTook (seen_level c.in-Some.level) (seen_value c.loop-level.value) t) c.in-Continues.is
-          c.in-Ok.ensures.took)
-          (pushed_on c.in-Continues.level c.pop.new.self.items c.push.new.list.items c.in-Ok-push.ensures).0;
+          c.in-Ok.ensures.took) (pushed_on c.in-Continues.level c.pop.new.self.items _ c.in-Ok-push.ensures).0;
     }
 
 pub returns-in-Ok-end_text : goal.returns-in-Ok-end_text
@@ -71,11 +68,10 @@ returns-in-Err-end_text g c =
     record {
       read = λ whole read. tt;
       stops = λ mode whole read open_allow allow.
-          let allowed = ended_allows mode (seen_levels c.args.levels.now.items) (seen_value c.args.value) [] value
+          let allowed = ended_allows mode _ _ _ _
           (subst (λ (levels : List OpenLevel). Ended (seen_levels c.args.levels.now.items) (seen_value c.args.value) levels value) none
           c.loop-level.invariant.3) open_allow allow in
-          end_lacks mode whole value text c.in-Err-end_text.stop
-          (subst (λ (levels : List OpenLevel). HasRead whole levels value text) none (c.loop-level.invariant.2.read whole read))
+          end_lacks mode _ _ _ _ (subst (λ (levels : List OpenLevel). HasRead whole levels value text) none (c.loop-level.invariant.2.read whole read))
           allowed.0 allowed.1 c.in-Err-end_text.ensures;
       shorter = tt;
       took = tt;

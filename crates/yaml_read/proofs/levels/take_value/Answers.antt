@@ -9,12 +9,8 @@ returns-in-Ok-Another g c =
 
 pub returns-in-Ok-End : goal.returns-in-Ok-End
 returns-in-Ok-End g c =
-    taken_ends c.args.depth (seen_level c.args.level) (seen_value c.args.value) c.in-Ok.more c.closed_value.result c.args.text.now c.in-Ok-End.rest
-    c.in-Ok.ensures c.closed_value.ensures
+    taken_ends _ _ _ c.in-Ok.more c.closed_value.result _ c.in-Ok-End.rest c.in-Ok.ensures c.closed_value.ensures
     (subst (λ (e : Entry). BehindRead c.args.depth (seen_level c.in-Ok.more) c.args.text.now (Ok e)) c.in-Ok-End.field-0-is c.in-Ok-End.ensures)
 
 pub returns-in-Err-behind_value : goal.returns-in-Err-behind_value
-returns-in-Err-behind_value g c =
-    taken_lacks g.row.A.Denot c.args.depth (seen_level c.args.level) (seen_level c.in-Ok.more) (seen_value c.args.value)
-    c.args.text.now c.in-Err-behind_value.stop
-    c.in-Ok.ensures c.in-Err-behind_value.ensures
+returns-in-Err-behind_value g c = taken_lacks g.row.A.Denot _ _ _ _ _ _ c.in-Ok.ensures c.in-Err-behind_value.ensures

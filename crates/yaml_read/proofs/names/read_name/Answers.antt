@@ -9,24 +9,19 @@ split_at-requires g c = name_boundary c.args.text.now c.name_length.result c.utf
 pub returns-then-is_empty : goal.returns-then-is_empty
 returns-then-is_empty g c =
     let text = c.args.text.now in
-    let cut = name_cut text c.split_at.result.0.now c.split_at.result.1.now c.name_length.result c.name_length.ensures
-    c.split_at.ensures.front c.split_at.ensures.back c.split_at.ensures.front_len in
-    none_read (NoName text) c.refused_at.result
-    (λ _ name rest named ends is.
-    name_there text c.split_at.result.0.now c.split_at.result.1.now name rest cut named ends is (sym c.is_empty.ensures ∙ c.if-is_empty.true))
+    let cut = name_cut _ _ _ _ c.name_length.ensures c.split_at.ensures.front c.split_at.ensures.back c.split_at.ensures.front_len in
+    none_read (NoName text) c.refused_at.result (λ _ name rest named ends is.
+    name_there _ _ _ name rest cut named ends is (sym c.is_empty.ensures ∙ c.if-is_empty.true))
 
 pub returns-in-Ok : goal.returns-in-Ok
 returns-in-Ok g c =
-    let text = c.args.text.now in
-    let cut = name_cut text c.split_at.result.0.now c.split_at.result.1.now c.name_length.result c.name_length.ensures
-    c.split_at.ensures.front c.split_at.ensures.back c.split_at.ensures.front_len in
-    let sound = name_sound c.in-Ok.name text c.split_at.result.0.now c.split_at.result.1.now cut c.in-Ok.ensures.ok
-    (sym c.is_empty.ensures ∙ c.if-is_empty.false) in
+    let cut = name_cut _ _ _ _ c.name_length.ensures c.split_at.ensures.front c.split_at.ensures.back c.split_at.ensures.front_len in
+    let sound = name_sound c.in-Ok.name _ _ _ cut c.in-Ok.ensures.ok (sym c.is_empty.ensures ∙ c.if-is_empty.false) in
     record {
       named = sound.0;
       parts = sound.1;
       only = λ name rest named ends is.
-          let found = name_found text c.split_at.result.0.now c.split_at.result.1.now name rest cut named ends is in
-          (copied_name c.in-Ok.name text c.split_at.result.0.now c.split_at.result.1.now cut c.in-Ok.ensures.ok ∙ found.0, found.1);
+          let found = name_found _ _ _ name rest cut named ends is in
+          (copied_name c.in-Ok.name _ _ _ cut c.in-Ok.ensures.ok ∙ found.0, found.1);
       ends = name_ends c.split_at.result.0.now c.split_at.result.1.now cut.letters (cut.run ∙ ap (prefix_len is_alpha) cut.parts);
     }

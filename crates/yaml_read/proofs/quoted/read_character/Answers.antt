@@ -15,11 +15,9 @@ returns-then-c-eq92 c =
     record {
       reads =
           λ d rest scalar is.
-          let escape = backslash_first d rest c.in-Some.c c.args.text.now c.in-Some.rest.now is c.in-Some.ensures.cut c.if-c-eq92.true in
+          let escape = backslash_first d rest _ _ c.in-Some.rest.now is c.in-Some.ensures.cut c.if-c-eq92.true in
           c.read_escape.ensures.reads d rest scalar escape.0 escape.1;
-      sound =
-          IfSome_then c.read_escape.result c.read_escape.ensures.sound
-          (λ found is. escape_read c.args.text.now c.in-Some.rest.now found.1.now c.in-Some.c found.0 is c.in-Some.ensures.cut c.if-c-eq92.true);
+      sound = IfSome_then c.read_escape.result c.read_escape.ensures.sound (λ found is. escape_read _ _ _ _ _ is c.in-Some.ensures.cut c.if-c-eq92.true);
     }
 
 pub returns-then-needs_escape : goal.returns-then-needs_escape
@@ -37,10 +35,9 @@ returns-else-needs_escape c =
     record {
       reads =
           λ d rest scalar is.
-          let plain = itself_first d rest c.in-Some.c c.args.text.now c.in-Some.rest.now is c.in-Some.ensures.cut c.if-c-eq92.false in
+          let plain = itself_first d rest c.in-Some.c _ c.in-Some.rest.now is c.in-Some.ensures.cut c.if-c-eq92.false in
           (plain.1, plain.2);
       sound =
-          itself_read c.args.text.now c.in-Some.rest.now c.in-Some.c
-          (scalar_of c.args.text.now c.in-Some.rest.now c.in-Some.c c.utf8.text c.in-Some.ensures.cut)
+          itself_read c.args.text.now c.in-Some.rest.now c.in-Some.c (scalar_of _ c.in-Some.rest.now c.in-Some.c c.utf8.text c.in-Some.ensures.cut)
           (sym c.needs_escape.ensures ∙ c.if-needs_escape.false) c.in-Some.ensures.cut;
     }

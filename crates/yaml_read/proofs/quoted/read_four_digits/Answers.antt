@@ -3,8 +3,7 @@ use Rattle.yaml_read.proofs.{Firsts.four_text, CharactersRead.four_read}
 use Rattle.yaml_read.proofs.quoted.read_four_digits.Goals as goal
 
 pub returns-in-None : goal.returns-in-None
-returns-in-None c =
-    λ n rest few is. c.in-None.ensures (n / 256) (hex_digits 2 (n % 256) ++ rest) (omega arith) (is ∙ ap encode_utf8_all (four_text n rest))
+returns-in-None c = λ n rest few is. c.in-None.ensures (n / 256) (hex_digits 2 (n % 256) ++ rest) (omega arith) (is ∙ ap encode_utf8_all (four_text n rest))
 
 pub returns-in-None-read_two_digits : goal.returns-in-None-read_two_digits
 returns-in-None-read_two_digits c =

@@ -8,11 +8,9 @@ use Rattle.yaml_read.proofs.quoted.read_quoted.Goals as goal
 pub returns-in-Err : goal.returns-in-Err
 returns-in-Err g c =
     record {
-      reads = λ value rest scalars is. absurd (opening_there c.args.text.now value rest is c.in-Err.ensures.cut);
+      reads = λ value rest scalars is. absurd (opening_there _ value rest is c.in-Err.ensures.cut);
       sound = tt;
-      breaks =
-          missing (codes "\"") c.args.text.now characters c.in-Err.stop (codes "\"" ∷ []) c.in-Err.ensures.cut c.in-Err.ensures.placed
-          (inl (refl, tt));
+      breaks = missing _ _ characters c.in-Err.stop (codes "\"" ∷ []) c.in-Err.ensures.cut c.in-Err.ensures.placed (inl (refl, tt));
       shorter = tt;
     }
 
@@ -33,22 +31,12 @@ returns-in-None-read_character g c =
     record {
       reads =
           λ value rest scalars is.
-          absurd (reads_more c.args.text.now (string_bytes c.characters.value) c.characters.rest.now None c.characters.invariant.2 c.in-None.ensures.cut
+          absurd (reads_more _ (string_bytes c.characters.value) c.characters.rest.now None c.characters.invariant.2 c.in-None.ensures.cut
           c.in-None-read_character.ensures.reads value rest scalars is);
       sound = tt;
       breaks =
-          no_character c.args.text.now c.characters.rest.now c.refused_at.result c.characters.invariant.4
-          (utf8_left c.args.text.now (string_bytes c.characters.value) c.characters.rest.now c.utf8.text c.characters.invariant.3) c.in-None.ensures.cut
+          no_character _ _ c.refused_at.result c.characters.invariant.4 (utf8_left _ _ _ c.utf8.text c.characters.invariant.3) c.in-None.ensures.cut
           c.in-None-read_character.ensures.reads c.refused_at.ensures;
-      shorter = tt;
-    }
-
-pub returns-in-Err-push : goal.returns-in-Err-push
-returns-in-Err-push g c =
-    record {
-      reads = λ value rest scalars is. tt;
-      sound = tt;
-      breaks = tt;
       shorter = tt;
     }
 
@@ -64,8 +52,7 @@ characters-init g c = (
 )
 
 pub characters-smaller : goal.characters-smaller
-characters-smaller g c =
-    character_shorter c.characters.rest.now c.in-Some-read_character.c c.in-Some-read_character.next.now c.in-Some-read_character.ensures.sound
+characters-smaller g c = character_shorter _ _ _ c.in-Some-read_character.ensures.sound
 
 pub characters-preserved : goal.characters-preserved
 characters-preserved g c = (
@@ -73,19 +60,15 @@ characters-preserved g c = (
   omega (
     arith,
     c.characters.invariant.1,
-    character_shorter c.characters.rest.now c.in-Some-read_character.c
-        c.in-Some-read_character.next.now c.in-Some-read_character.ensures.sound,
+    character_shorter _ _ _ c.in-Some-read_character.ensures.sound,
   ),
   subst (λ (value : List ℕ). ReadsOn c.args.text.now value c.in-Some-read_character.next.now) (sym c.in-Ok-push.ensures.bytes)
       (record {
         left = λ value rest scalars is.
-            reads_more c.args.text.now (string_bytes c.characters.value) c.characters.rest.now
-            (Some (c.in-Some-read_character.c, c.in-Some-read_character.next))
-            c.characters.invariant.2 c.in-None.ensures.cut c.in-Some-read_character.ensures.reads value rest scalars is;
+            reads_more _ (string_bytes c.characters.value) c.characters.rest.now
+            (Some (c.in-Some-read_character.c, c.in-Some-read_character.next)) c.characters.invariant.2 c.in-None.ensures.cut c.in-Some-read_character.ensures.reads value rest scalars is;
       }),
   subst (λ (value : List ℕ). ReadSoFar c.args.text.now value c.in-Some-read_character.next.now) (sym c.in-Ok-push.ensures.bytes)
-      (one_more c.args.text.now (string_bytes c.characters.value) c.characters.rest.now c.in-Some-read_character.next.now
-      c.in-Some-read_character.c c.characters.invariant.3 c.in-Some-read_character.ensures.sound),
-  passes_character c.args.text.now c.characters.rest.now c.in-Some-read_character.next.now c.in-Some-read_character.c
-      c.characters.invariant.4 c.in-None.ensures.cut c.in-Some-read_character.ensures.sound,
+      (one_more _ _ _ _ _ c.characters.invariant.3 c.in-Some-read_character.ensures.sound),
+  passes_character _ _ _ _ c.characters.invariant.4 c.in-None.ensures.cut c.in-Some-read_character.ensures.sound,
 )

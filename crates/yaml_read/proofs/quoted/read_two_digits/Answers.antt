@@ -5,12 +5,6 @@ use Rattle.yaml_read.proofs.quoted.read_two_digits.Goals as goal
 pub returns-in-None : goal.returns-in-None
 returns-in-None c = λ n rest few is. c.in-None.ensures (n / 16 % 16) (hex_digit (n % 16) ∷ rest) (omega arith) is
 
-pub returns-in-None-read_digit : goal.returns-in-None-read_digit
-returns-in-None-read_digit c =
-    λ n rest few is.
-    let upper = c.in-Some.ensures.only (n / 16 % 16) (hex_digit (n % 16) ∷ rest) (omega arith) is in
-    c.in-None-read_digit.ensures (n % 16) rest (omega arith) upper.1
-
 pub returns-in-Some-read_digit : goal.returns-in-Some-read_digit
 returns-in-Some-read_digit c =
     record {

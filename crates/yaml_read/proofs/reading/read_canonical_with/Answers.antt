@@ -1,4 +1,4 @@
-use Rattle.yaml_read.proofs.Common.{subst, sym, ◌∙◌, inl, ◌<◌, rules, length, largest_usize, seen_value, KeyStopsAt, IsPlacedBy, IsUtf8, inr, text_bytes-utf8}
+use Rattle.yaml_read.proofs.Common.{subst, sym, ◌∙◌, ◌<◌, rules, length, largest_usize, seen_value, KeyStopsAt, IsUtf8, inr, text_bytes-utf8}
 use Rattle.yaml_read.proofs.Common.{document_text}
 use Rattle.yaml_read.proofs.{Scalars.document_utf8, UniqueTexts.key_placed, UniqueWays.none_allowed, WrittenValues.written_value}
 use Rattle.yaml_read.proofs.reading.read_canonical_with.Goals as goal
@@ -7,9 +7,6 @@ pub returns-in-Err-clause-complete : goal.returns-in-Err-clause-complete
 returns-in-Err-clause-complete g c =
     inr (λ value readable allow is.
     c.in-Err.ensures.1.not_utf8 (subst IsUtf8 (sym (text_bytes-utf8 (document_text value)) ∙ is) (document_utf8 value readable)))
-
-pub returns-in-Err-clause-placed : goal.returns-in-Err-clause-placed
-returns-in-Err-clause-placed g c = subst (IsPlacedBy c.args.keys c.args.bytes.now) (sym c.in-Err.ensures.2) (inl c.in-Err.ensures.1)
 
 pub returns-in-Ok-read_text-clause-read : goal.returns-in-Ok-read_text-clause-read
 returns-in-Ok-read_text-clause-read g c =

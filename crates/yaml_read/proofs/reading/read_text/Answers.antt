@@ -1,4 +1,4 @@
-use Rattle.yaml_read.proofs.Common.{List, subst, sym, rules, seen_value, seen_levels, Level, NextMoved, NextShorter, Next}
+use Rattle.yaml_read.proofs.Common.{List, subst, sym, rules, seen_value, seen_levels, Level, NextMoved, Next}
 use Rattle.yaml_read.proofs.UniqueTexts.{TextAt, follow_stops, follows, stepped_at, text_begins, text_on, whole_allows}
 use Rattle.yaml_read.specs.Opened.{NextRead}
 use Rattle.yaml_read.proofs.{Opening.text_read, Placing.marker_stops, Placing.text_stops}
@@ -9,8 +9,7 @@ nodes-init g c = (
   search rules,
   subst
       (λ (levels : List (Level g.row.A.Denot)). TextAt c.args.keys c.args.text.now (seen_levels levels) c.in-Ok.rest.now c.new-held.result.items)
-      (sym c.new-levels.ensures.items)
-      (text_begins c.args.keys c.args.text.now c.in-Ok.rest.now c.new-held.result.items c.in-Ok.ensures.cut c.new-held.ensures.items),
+      (sym c.new-levels.ensures.items) (text_begins _ _ _ _ c.in-Ok.ensures.cut c.new-held.ensures.items),
 )
 
 pub returns-in-Err : goal.returns-in-Err
@@ -50,20 +49,15 @@ returns-in-Done g c =
 pub follow_by-requires : goal.follow_by-requires
 follow_by-requires g c =
     let before = seen_levels c.nodes.levels.items in
-    follows c.args.keys c.args.text.now before (seen_levels c.as_slice.result.now) c.nodes.rest.now c.in-Node.next c.nodes.held.items
-    c.nodes.invariant.1
-    (stepped_at before c.nodes.rest.now c.in-Ok-step.next c.in-Node.next c.step.new.levels.items c.as_slice.result.now c.as_slice.ensures.value
-    c.in-Node.is c.in-Ok-step.ensures)
+    follows c.args.keys c.args.text.now before (seen_levels c.as_slice.result.now) c.nodes.rest.now c.in-Node.next c.nodes.held.items c.nodes.invariant.1
+    (stepped_at _ _ _ _ _ _ c.as_slice.ensures.value c.in-Node.is c.in-Ok-step.ensures)
 
 pub returns-in-Err-follow_by : goal.returns-in-Err-follow_by
 returns-in-Err-follow_by g c =
     let before = seen_levels c.nodes.levels.items in
     let after = seen_levels c.as_slice.result.now in
-    let stepped = stepped_at before c.nodes.rest.now c.in-Ok-step.next c.in-Node.next c.step.new.levels.items c.as_slice.result.now
-    c.as_slice.ensures.value c.in-Node.is c.in-Ok-step.ensures in
-    follow_stops c.args.keys c.args.text.now before after c.nodes.rest.now c.in-Node.next c.nodes.held.items c.follow_by.new.keys.items
-    c.nodes.invariant.1 stepped c.in-Err-follow_by.stop
-    (c.in-Err-follow_by.ensures
+    let stepped = stepped_at _ _ _ _ _ _ c.as_slice.ensures.value c.in-Node.is c.in-Ok-step.ensures in
+    follow_stops _ _ _ _ _ c.in-Node.next _ c.follow_by.new.keys.items c.nodes.invariant.1 stepped _ (c.in-Err-follow_by.ensures
     (follows c.args.keys c.args.text.now before after c.nodes.rest.now c.in-Node.next c.nodes.held.items c.nodes.invariant.1 stepped))
 
 pub nodes-preserved : goal.nodes-preserved
@@ -75,14 +69,8 @@ nodes-preserved g c =
       search rules,
       subst
           (λ (levels : List (Level g.row.A.Denot)).
-          TextAt c.args.keys c.args.text.now (seen_levels levels) c.in-Node.next.now c.follow_by.new.keys.items)
-          c.as_slice.ensures.value
+          TextAt c.args.keys c.args.text.now (seen_levels levels) c.in-Node.next.now c.follow_by.new.keys.items) c.as_slice.ensures.value
           (text_on c.args.keys c.args.text.now before after c.nodes.rest.now c.in-Node.next c.nodes.held.items c.nodes.invariant.1 stepped
-          c.follow_by.new.keys.items
-          (c.in-Ok-follow_by.ensures
+          c.follow_by.new.keys.items (c.in-Ok-follow_by.ensures
           (follows c.args.keys c.args.text.now before after c.nodes.rest.now c.in-Node.next c.nodes.held.items c.nodes.invariant.1 stepped))),
     )
-
-pub nodes-smaller : goal.nodes-smaller
-nodes-smaller g c =
-    subst (λ (next : Next g.row.A.Denot). NextShorter c.nodes.rest.now next) c.in-Node.is c.in-Ok-step.ensures.shorter

@@ -20,9 +20,7 @@ returns-in-Ok-read_run g c =
           λ events run.
           c.in-Ok-read_run.ensures.only events run.node run.run run.in_node
           (cut_is (codes "---\n") c.args.text.now c.in-Ok.node.now (encode_utf8_all (run.node ++ line_feed ∷ [])) c.in-Ok.ensures.cut run.parts);
-      sound =
-          events_sound c.args.text.now c.in-Ok.node.now (map seen_event c.read_run.new.events.items) c.in-Ok.ensures.cut
-          c.in-Ok-read_run.ensures.sound;
+      sound = events_sound c.args.text.now c.in-Ok.node.now (map seen_event c.read_run.new.events.items) c.in-Ok.ensures.cut c.in-Ok-read_run.ensures.sound;
       stops = tt;
     }
 
@@ -31,8 +29,7 @@ returns-in-Err-read_run g c =
     record {
       reads =
           λ events run.
-          memory_is c.in-Err-read_run.stop
-          (c.in-Err-read_run.ensures.reads events run.node run.run run.in_node
+          memory_is c.in-Err-read_run.stop (c.in-Err-read_run.ensures.reads events run.node run.run run.in_node
           (cut_is (codes "---\n") c.args.text.now c.in-Ok.node.now (encode_utf8_all (run.node ++ line_feed ∷ [])) c.in-Ok.ensures.cut run.parts));
       sound = tt;
       stops = events_stop c.args.text.now c.in-Ok.node.now c.in-Err-read_run.stop c.in-Ok.ensures.cut c.in-Err-read_run.ensures.stops;

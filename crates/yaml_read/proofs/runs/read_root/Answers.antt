@@ -5,8 +5,7 @@ use Rattle.yaml_read.proofs.runs.read_root.Goals as goal
 
 pub steps-init : goal.steps-init
 steps-init g c =
-    let begins = run_begins c.args.text.now (map seen_event c.args.events.now.items) (seen_awaits c.args.awaits.now.items) c.requires.begun
-    c.requires.none_open in
+    let begins = run_begins c.args.text.now _ _ c.requires.begun c.requires.none_open in
     (search rules, begins.0, begins.1)
 
 pub steps-preserved : goal.steps-preserved
@@ -22,21 +21,16 @@ steps-preserved g c =
 
 pub steps-smaller : goal.steps-smaller
 steps-smaller g c =
-    subst (λ (p : Progress). length (bytes_behind p) < length c.steps.rest.now) c.in-Continues.is
-    (event_shorter (seen_awaits c.steps.awaits.items) c.steps.rest.now (bytes_behind c.in-Ok.progress)
-    (open_now (seen_awaits c.read_event.new.awaits.items) c.in-Ok.progress) c.in-Ok.ensures.reads.event c.in-Ok.ensures.reads.read)
+    subst (λ (p : Progress). length (bytes_behind p) < length c.steps.rest.now) c.in-Continues.is (event_shorter _ _ _ _ _ c.in-Ok.ensures.reads.read)
 
 pub returns-in-RootEnds : goal.returns-in-RootEnds
 returns-in-RootEnds g c =
     let now = seen_awaits c.read_event.new.awaits.items in
     let new = map seen_event c.read_event.new.events.items in
-    let goes = run_goes c.args.text.now (map seen_event c.steps.events.items) new (seen_awaits c.steps.awaits.items) c.steps.rest.now
-    (bytes_behind c.in-Ok.progress) (open_now now c.in-Ok.progress) c.steps.invariant.1 c.steps.invariant.2 c.in-Ok.ensures.reads in
+    let goes = run_goes _ _ _ _ _ _ _ c.steps.invariant.1 c.steps.invariant.2 c.in-Ok.ensures.reads in
     root_ended c.args.text.now new c.in-RootEnds.end.now
     (subst (λ (p : Progress). RunRead c.args.text.now new (open_now now p) (bytes_behind p) × RunDue c.args.text.now new (open_now now p) (bytes_behind p))
     c.in-RootEnds.is goes)
 
 pub returns-in-Err : goal.returns-in-Err
-returns-in-Err g c =
-    fails_at_event c.args.text.now (map seen_event c.steps.events.items) (seen_awaits c.steps.awaits.items) c.steps.rest.now c.in-Err.stop
-    c.steps.invariant.1 c.steps.invariant.2 c.in-Err.ensures.reads c.in-Err.ensures.placed
+returns-in-Err g c = fails_at_event _ _ _ _ _ c.steps.invariant.1 c.steps.invariant.2 c.in-Err.ensures.reads c.in-Err.ensures.placed
