@@ -1,10 +1,8 @@
 -- A conversion of each file by itself.
-use Rattle.std.proofs.Common.{ℕ, List, [], ◌∷◌, ◌++◌, map, ◌≡◌, ◌⊎◌, inl, inr, ap, arith, subst, sym, ◌∙◌, Bor, ◌+◌, ◌<◌, length, take}
-use Rattle.std.proofs.Common.{le_refl, take_all, slice_index_or as get_or}
-use Rattle.std.proofs.lemmas.Grind.{common_steps}
-use Rattle.std.proofs.lemmas.List.{map_push, take_more}
-use Rattle.std.proofs.lemmas.List.Quantifiers.{Any-push}
-use Rattle.std.specs.List.{Any}
+use Rattle.std.proofs.Common.{ℕ, List, [], ◌∷◌, ◌++◌, map, ◌≡◌, ◌⊎◌, inl, inr, ap, arith, subst, sym, ◌∙◌, Bor, ◌+◌, ◌<◌, length, take, le_refl, take_all}
+use Rattle.std.proofs.Common.{slice_index_or as get_or}
+use Rattle.std.{proofs.lemmas.Grind.common_steps, proofs.lemmas.List.map_push, proofs.lemmas.List.take_more, proofs.lemmas.List.Quantifiers.Any-push}
+use Rattle.std.{specs.List.Any}
 use Rattle.yaml_program.specs.Conversions.{HoldsOfEach}
 
 -- One more name.

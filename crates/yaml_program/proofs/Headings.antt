@@ -1,7 +1,6 @@
 -- A stream after a heading.
-use Rattle.std.proofs.Common.{ℕ, Option, List, ◌++◌, refl}
-use Rattle.std.specs.Io.KnownBytes.{Appends}
-use Rattle.std.proofs.KnownBytes.{Appends-trans}
+use Rattle.std.{proofs.Common.ℕ, proofs.Common.Option, proofs.Common.List, proofs.Common.◌++◌, proofs.Common.refl, specs.Io.KnownBytes.Appends}
+use Rattle.std.{proofs.KnownBytes.Appends-trans}
 use Rattle.yaml_program.specs.Conversions.{WroteFiles, WroteStream, heading_bytes}
 
 pub behind_heading : (IsYaml : List (List ℕ) → List ℕ → Type 0) (heading : Option (List ℕ)) (files : List (List ℕ)) (start before after : Option (List ℕ))

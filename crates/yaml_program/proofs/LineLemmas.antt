@@ -79,8 +79,7 @@ next_alike old new old_rest new_rest old_later new_later number other alike old_
     line = first_line old_rest
 
     shorter : Ends line → length old_later < length old_rest
-    shorter ends =
-        omega (arith, ap length old_split, length-append line old_later, ap length ends.is, length-append ends.before (codes "\n"))
+    shorter ends = omega (arith, ap length old_split, length-append line old_later, ap length ends.is, length-append ends.before (codes "\n"))
 
     past : Ends line → BeginAlike old new (number + 1) old_later new_later × (length old_later < length old_rest)
     past ends = (
@@ -99,5 +98,4 @@ next_alike old new old_rest new_rest old_later new_later number other alike old_
         → BeginAlike old new (number + 1) old_later new_later × (length old_later < length old_rest)
     by (inl ends) _ = past ends
     by (inr all) (inl ends) = past (subst Ends (sym same) ends)
-    by (inr all) (inr whole) =
-        absurd (other (alike.old_is ∙ ap (λ (l : List ℕ). alike.same ++ l) (sym all ∙ same ∙ whole) ∙ sym alike.new_is))
+    by (inr all) (inr whole) = absurd (other (alike.old_is ∙ ap (λ (l : List ℕ). alike.same ++ l) (sym all ∙ same ∙ whole) ∙ sym alike.new_is))

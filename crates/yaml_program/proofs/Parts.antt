@@ -1,14 +1,10 @@
 -- The texts of values in a part, and lines of such texts.
 use Rattle.std.proofs.Common.{ℕ, Option, None, Some, List, [], ◌∷◌, ◌++◌, ◌≡◌, ap, sym, ◌∙◌, append_assoc, append-nil, subst, IfSome, codes, false, refl}
-use Rattle.std.specs.Fmt.{WritesText}
-use Rattle.std.specs.Fmt.InlineText.{AppendsIfIntact, IsIntact, inline_text}
-use Rattle.std.specs.List.{FoldsTo, concat}
-use Rattle.std.specs.declared.fmt.InlineText.{InlineText}
-use Rattle.yaml_base.specs.Quoting.{quoted_text}
-use Rattle.yaml_base.specs.declared.places.Position.{Position}
+use Rattle.std.specs.{Fmt.WritesText, Fmt.InlineText.AppendsIfIntact, Fmt.InlineText.IsIntact, Fmt.InlineText.inline_text, List.FoldsTo, List.concat}
+use Rattle.std.specs.{declared.fmt.InlineText.InlineText}
+use Rattle.yaml_base.specs.{Quoting.quoted_text, declared.places.Position.Position}
 use Rattle.yaml_program.specs.Messages.{IsNameLine, Tells, Told, failure_line, message_line, numbers_text}
-use Rattle.yaml_program.specs.declared.messages.Loss.{Loss}
-use Rattle.yaml_program.specs.declared.messages.Messages.{Messages}
+use Rattle.yaml_program.specs.{declared.messages.Loss.Loss, declared.messages.Messages.Messages}
 
 module _ {n : ℕ} where
   after_calls : (start : InlineText n) (texts : List (List ℕ)) (part : InlineText n) → FoldsTo AppendsIfIntact start texts part → IsIntact start

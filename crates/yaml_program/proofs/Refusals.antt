@@ -1,23 +1,14 @@
 -- Files that are refused among several, and streams that no emitter refuses.
-use Rattle.std.proofs.Common.{ℕ, Option, List, [], ◌∷◌, ◌++◌, map, ◌≡◌, inl, inr, refl, ap, subst, sym, ◌∙◌, Some, codes}
-use Rattle.std.proofs.Common.{Bor, ◌<◌, suc, arith, drop, drop-cons, length, take, take-append-drop, slice_index_or as get_or, Result, Ok, Err, IfErr}
-use Rattle.yaml_base.proofs.Common.{map-append, Event}
-use Rattle.yaml_base.specs.Refusal.{IsAccepted}
-use Rattle.yaml_base.specs.Settings.{Settings}
-use Rattle.yaml_base.specs.declared.errors.yaml_error_t.{yaml_error_t}
-use Rattle.yaml_base.specs.declared.errors.yaml_error_t.TheVariants.{Memory, WriteError}
-use Rattle.std.proofs.Common.{ap₂, Bool}
+use Rattle.std.proofs.Common.{ℕ, Option, List, [], ◌∷◌, ◌++◌, map, ◌≡◌, inl, inr, refl, ap, subst, sym, ◌∙◌, Some, codes, Bor, ◌<◌, suc, arith, drop}
+use Rattle.std.proofs.Common.{drop-cons, length, take, take-append-drop, slice_index_or as get_or, Result, Ok, Err, IfErr, ap₂, Bool}
 use Rattle.std.proofs.Math.Path.{subst₂}
-use Rattle.yaml_emitter.specs.Emits.{IsPromised}
-use Rattle.yaml_emitter.specs.Promises.{FailsOnlyByMemory, FitsLimit}
-use Rattle.yaml_emitter.specs.State.{State}
-use Rattle.yaml_emitter.specs.Uncut.{IsUncut}
-use Rattle.yaml_writer.specs.Unfinished.{IsNoStream, IsUnfinished, PassesLimit}
-use Rattle.yaml_writer.specs.Writing.{IsStream, WriterState, closing}
-use Rattle.yaml_program.specs.Conversions.{AreBytesOf, names_read}
-use Rattle.yaml_program.specs.Faults.{emitter_status, failure_status}
-use Rattle.yaml_program.specs.declared.faults.Failure.{Failure}
+use Rattle.yaml_base.{proofs.Common.map-append, proofs.Common.Event, specs.Refusal.IsAccepted, specs.Settings.Settings}
+use Rattle.yaml_base.{specs.declared.errors.yaml_error_t.yaml_error_t, specs.declared.errors.yaml_error_t.TheVariants.Memory}
+use Rattle.yaml_base.{specs.declared.errors.yaml_error_t.TheVariants.WriteError}
+use Rattle.yaml_emitter.specs.{Emits.IsPromised, Promises.FailsOnlyByMemory, Promises.FitsLimit, State.State, Uncut.IsUncut}
+use Rattle.yaml_writer.specs.{Unfinished.IsNoStream, Unfinished.IsUnfinished, Unfinished.PassesLimit, Writing.IsStream, Writing.WriterState, Writing.closing}
 use Rattle.yaml_program.specs.Streams.{RefusesBehind, RefusesDocument, RefusesEnd, RefusesNext, RefusesSome, Sending, SentBehind}
+use Rattle.yaml_program.specs.{Conversions.AreBytesOf, Conversions.names_read, Faults.emitter_status, Faults.failure_status, declared.faults.Failure.Failure}
 
 -- What follows of a failure of status 1 follows of it where it is passed on.
 pub refusal_weaker : {N P Q : Type 0} (result : Result (Unit {0}) (N × Failure)) → (P → Q) → IfErr result (λ stop. failure_status stop.1 ≡ 1 → P)
@@ -42,8 +33,7 @@ cut_at bytes_of (one ∷ names) name others (file ∷ files) are =
 names_at : (names : List (Bor (List ℕ))) (index : ℕ) (name : Bor (List ℕ)) → index < length names
     → map (λ n. n.now) (take index names) ++ (get_or names index name).now ∷ map (λ n. n.now) (drop (suc index) names) ≡ map (λ n. n.now) names
 names_at names index name within =
-    sym
-    (ap (map (λ (n : Bor (List ℕ)). n.now)) (sym (take-append-drop index names))
+    sym (ap (map (λ (n : Bor (List ℕ)). n.now)) (sym (take-append-drop index names))
     ∙ map-append (λ (n : Bor (List ℕ)). n.now) (take index names) (drop index names)
     ∙ ap (λ (rest : List (Bor (List ℕ))). map (λ n. n.now) (take index names) ++ map (λ n. n.now) rest) (drop-cons names index name within))
 

@@ -1,10 +1,8 @@
 -- Texts that a sink is given one after another.
-use Rattle.std.proofs.Common.{ℕ, Option, List, ◌∷◌, ◌++◌, ◌≡◌, flat_map, ap, subst, sym, ◌∙◌, append_assoc, Bor, ◌<◌, suc, drop}
-use Rattle.std.proofs.Common.{drop-cons, length, take, take-append-drop, slice_index_or as get_or}
-use Rattle.std.proofs.KnownBytes.{Appends-trans}
-use Rattle.std.specs.Io.KnownBytes.{Appends}
-use Rattle.yaml_base.proofs.Common.{flat_map-append}
-use Rattle.yaml_base.specs.Sinks.{AppendsFirst}
+use Rattle.std.proofs.Common.{ℕ, Option, List, ◌∷◌, ◌++◌, ◌≡◌, flat_map, ap, subst, sym, ◌∙◌, append_assoc, Bor, ◌<◌, suc, drop, drop-cons, length, take}
+use Rattle.std.proofs.Common.{take-append-drop, slice_index_or as get_or}
+use Rattle.std.{proofs.KnownBytes.Appends-trans, specs.Io.KnownBytes.Appends}
+use Rattle.yaml_base.{proofs.Common.flat_map-append, specs.Sinks.AppendsFirst}
 
 abbrev bytes_of : List (Bor (List ℕ)) → List ℕ
 bytes_of texts = flat_map (λ text. text.now) texts

@@ -1,6 +1,5 @@
 use Rattle.std.proofs.Common.{rules, codes, subst, sym}
-use Rattle.yaml_program.specs.Options.{IsOn, value_of}
-use Rattle.yaml_program.proofs.Portable.{portable_left, portable_unless}
+use Rattle.yaml_program.{specs.Options.IsOn, specs.Options.value_of, proofs.Portable.portable_left, proofs.Portable.portable_unless}
 use Rattle.yaml_program.proofs.arguments.emitter_settings_of.Goals as goal
 
 pub returns : goal.returns

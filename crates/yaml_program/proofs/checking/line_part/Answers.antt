@@ -1,10 +1,6 @@
 use Rattle.std.proofs.Common.{ℕ, List, ◌≡◌, Bool, true, false, IfSome, None, if◌then◌else◌, refl}
-use Rattle.std.specs.Char.{is_ascii}
-use Rattle.std.specs.List.{list_all}
-use Rattle.std.specs.Str.{IsUtf8}
-use Rattle.std.proofs.lemmas.Str.{IsUtf8-from_ascii}
-use Rattle.yaml_base.proofs.AsciiWords.{ascii_of}
-use Rattle.yaml_base.specs.Quoting.{quoted_text, quoted_ascii}
+use Rattle.std.{specs.Char.is_ascii, specs.List.list_all, specs.Str.IsUtf8, proofs.lemmas.Str.IsUtf8-from_ascii}
+use Rattle.yaml_base.{proofs.AsciiWords.ascii_of, specs.Quoting.quoted_text, specs.Quoting.quoted_ascii}
 use Rattle.yaml_program.proofs.checking.line_part.Goals as goal
 
 -- What isn't UTF-8 isn't ASCII, so its text in a message isn't known.

@@ -1,6 +1,5 @@
 use Rattle.std.proofs.Common.{rules, List, ℕ, ◌≡◌, ◌++◌, ◌+◌, ◌<◌, length, ap, sym, ◌∙◌, arith}
-use Rattle.yaml_program.specs.Differences.{BeginAlike}
-use Rattle.yaml_program.proofs.LineLemmas.{next_alike}
+use Rattle.yaml_program.{specs.Differences.BeginAlike, proofs.LineLemmas.next_alike}
 use Rattle.yaml_program.proofs.differences.first_difference.Goals as goal
 
 -- The next lines are the same.

@@ -1,12 +1,7 @@
-use Rattle.std.proofs.Common.{arith, refl}
-use Rattle.std.specs.List.{Any}
+use Rattle.std.{proofs.Common.arith, proofs.Common.refl, specs.List.Any}
 use Rattle.yaml_program.specs.Conversions.{EachIsDone, EndsOtherwise, IsDoneBeside, IsUndoneBeside}
 use Rattle.yaml_program.proofs.Doing.{next_done, next_some, of_all}
 use Rattle.yaml_program.proofs.each.convert_each.Goals as goal
-
-pub loop-name-init : goal.loop-name-init
-loop-name-init g c =
-    (omega arith, refl, omega arith, (λ zero. tt), (λ one. absurd (omega (arith, one))), (λ two. absurd (omega (arith, two))))
 
 pub loop-name-preserved : goal.loop-name-preserved
 loop-name-preserved g c =
@@ -27,23 +22,3 @@ loop-name-preserved g c =
           c.as_slice-names.result.now l.name-index _ 2 l.status c.convert_beside-one.result c.worse-status.result c.loop-name-test.true
           c.worse-status.ensures.one l.invariant.5 c.convert_beside-one.ensures.otherwise,
     )
-
-pub returns-clause-done : goal.returns-clause-done
-returns-clause-done g c zero =
-    let l = c.loop-name in
-    of_all (EachIsDone g.F.Format.is_yaml g.F.Format.ending (g.S.Sources.bytes_of c.args.sources.now) c.args.conversion.now) c.as_slice-names.result.now
-    c.args.conversion.now.files.items l.name-index (omega (arith, l.invariant.0, l.invariant.1, c.loop-name-test.false)) c.as_slice-names.ensures.value
-    (l.invariant.3 zero)
-
-pub returns-clause-undone : goal.returns-clause-undone
-returns-clause-undone g c one =
-    let l = c.loop-name in
-    of_all (Any (IsUndoneBeside g.F.Format.is_yaml g.F.Format.ending (g.S.Sources.bytes_of c.args.sources.now) c.args.conversion.now))
-    c.as_slice-names.result.now c.args.conversion.now.files.items l.name-index (omega (arith, l.invariant.0, l.invariant.1, c.loop-name-test.false))
-    c.as_slice-names.ensures.value (l.invariant.4 one)
-
-pub returns-clause-otherwise : goal.returns-clause-otherwise
-returns-clause-otherwise g c two =
-    let l = c.loop-name in
-    of_all (Any (EndsOtherwise g.F.Format.ending)) c.as_slice-names.result.now c.args.conversion.now.files.items l.name-index
-    (omega (arith, l.invariant.0, l.invariant.1, c.loop-name-test.false)) c.as_slice-names.ensures.value (l.invariant.5 two)

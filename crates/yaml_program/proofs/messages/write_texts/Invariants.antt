@@ -4,6 +4,5 @@ use Rattle.yaml_program.proofs.messages.write_texts.Given as goal
 
 abbrev pub invariant-loop-text : goal.invariant-loop-text
 invariant-loop-text g l =
-    (l.text-index ≤ l.text-index-end)
-    × (l.text-index-end ≡ length l.fn.texts)
+    (l.text-index ≤ l.text-index-end) × (l.text-index-end ≡ length l.fn.texts)
     × Appends (g.W.Write.contents l.initial.sink) (g.W.Write.contents l.sink) (flat_map (λ text. text.now) (take l.text-index l.fn.texts))

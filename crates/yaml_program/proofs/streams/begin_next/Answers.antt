@@ -2,9 +2,6 @@ use Rattle.std.proofs.Common.{ap, ◌∙◌}
 use Rattle.yaml_writer.specs.Writing.{awaits_node}
 use Rattle.yaml_program.proofs.streams.begin_next.Goals as goal
 
-pub returns-in-Ok-clause-free : goal.returns-in-Ok-clause-free
-returns-in-Ok-clause-free g c = ap awaits_node c.in-Ok.ensures.kept ∙ ap awaits_node (c.in_default.ensures.passed c.requires).rest ∙ c.requires
-
 pub returns-in-Ok-clause-begun : goal.returns-in-Ok-clause-begun
 returns-in-Ok-clause-begun g c = record {
   begun = c.next_document.new.self;

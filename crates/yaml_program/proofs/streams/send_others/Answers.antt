@@ -1,6 +1,5 @@
 use Rattle.std.proofs.Common.{arith, inr, refl}
-use Rattle.yaml_program.proofs.FilesInTurn.{behind_none, next_behind}
-use Rattle.yaml_program.proofs.Refusals.{behind_refused, behind_unbegun}
+use Rattle.yaml_program.proofs.{FilesInTurn.behind_none, FilesInTurn.next_behind, Refusals.behind_refused, Refusals.behind_unbegun}
 use Rattle.yaml_program.proofs.streams.send_others.Goals as goal
 
 pub loop-name-init : goal.loop-name-init

@@ -1,5 +1,4 @@
-use Rattle.std.proofs.Common.{ℕ, List, subst}
-use Rattle.std.specs.Io.KnownBytes.{Appends}
+use Rattle.std.{proofs.Common.ℕ, proofs.Common.List, proofs.Common.subst, specs.Io.KnownBytes.Appends}
 use Rattle.yaml_program.proofs.streams.send_stream.Goals as goal
 
 pub returns-in-Ok-write_all-clause-sent : goal.returns-in-Ok-write_all-clause-sent
