@@ -1,9 +1,8 @@
 -- The places at which bytes break off: at a word, after words, and in a line.
 use Rattle.yaml_read.proofs.Common.{ℕ, ◌+◌, ◌*◌, ◌<◌, [], ◌∷◌, ◌++◌, ◌≡◌, ◌∙◌, zero, suc, None, List, refl, ap, subst, sym, inl, inr, arith, append_assoc}
-use Rattle.yaml_read.proofs.Common.{codes, flat_map, replicate, space, line_at, replicate-append-replicate, these_or_those, entry_end, levels_then, line_then}
-use Rattle.yaml_read.proofs.Common.{nothing, word_then, BreaksAt, BreaksOff, IsHere, no_level, past_word, Stop}
-use Rattle.yaml_read.specs.Places.{LacksLine, no_line}
-use Rattle.yaml_read.proofs.Words.{no_word}
+use Rattle.yaml_read.proofs.Common.{codes, flat_map, replicate, space, line_at, replicate-append-replicate, these_or_those, entry_end, levels_then}
+use Rattle.yaml_read.proofs.Common.{line_then, nothing, word_then, BreaksAt, BreaksOff, IsHere, no_level, past_word, Stop}
+use Rattle.yaml_read.{specs.Places.LacksLine, specs.Places.no_line, proofs.Words.no_word}
 use Rattle.yaml_read.specs.declared.errors.Stop.TheVariants as stop
 
 -- ---- at a word
@@ -19,8 +18,7 @@ here These bytes error due more place begins none =
 pub missing : (word bytes : List ℕ) (More : List (List ℕ) → Type 0) (error : Stop) (more : List (List ℕ)) → past_word word bytes ≡ None
     → IsHere bytes error → More more → BreaksAt (word_then word More) bytes error
 missing word bytes More error more none place begins =
-    here (word_then word More) bytes error word more place (refl, begins)
-    (λ next after is. subst (λ (w : List ℕ). past_word w bytes ≡ None) (sym is.0) none)
+    here (word_then word More) bytes error word more place (refl, begins) (λ next after is. subst (λ (w : List ℕ). past_word w bytes ≡ None) (sym is.0) none)
 
 -- the bytes begin with neither of two words
 pub neither : (first second bytes : List ℕ) (error : Stop) → past_word first bytes ≡ None → past_word second bytes ≡ None → IsHere bytes error

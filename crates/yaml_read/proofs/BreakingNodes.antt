@@ -4,15 +4,14 @@ use Rattle.yaml_read.proofs.Common.{append_assoc, append-nil, codes, flat_map, l
 use Rattle.yaml_read.proofs.Common.{most_nested, quote, in_quotes, IsUtf8-past_char, encode_ascii, encodes-append, ℤ, ◌^◌, signed_decimal, mag, IsUtf8}
 use Rattle.yaml_read.proofs.Common.{behind_tag, characters, these_or_those, integer, line_then, node, nothing, quoted_text, unless_deep, word_then}
 use Rattle.yaml_read.proofs.Common.{ReadsCharacter, tag_word, BreaksAt, BreaksOff, IsHere, IsHereOrMemory, IsWholeWord, LacksEnd, StopsIn, behind_all}
-use Rattle.yaml_read.proofs.Common.{behind_node, in_node, more_follows, OpenLevel, items_open, pairs_open, value_due, Keys, KeysAllow, OpenKeysAllow, HasRead}
-use Rattle.yaml_read.proofs.Common.{IsOpen, OpenCanBeRead, no_end, IsCharacter, IsMemory, past_word, Stop, Kind}
+use Rattle.yaml_read.proofs.Common.{behind_node, in_node, more_follows, OpenLevel, items_open, pairs_open, value_due, Keys, KeysAllow, OpenKeysAllow}
+use Rattle.yaml_read.proofs.Common.{HasRead, IsOpen, OpenCanBeRead, no_end, IsCharacter, IsMemory, past_word, Stop, Kind}
 use Rattle.yaml_read.proofs.Breaking.{here, missing, passed, passed_at, second_of}
+use Rattle.yaml_read.{specs.Grammar.behind_in, proofs.CharactersRead.ReadSoFar, proofs.Words.absent, proofs.Words.behind_word as behind_itself}
+use Rattle.yaml_read.{proofs.Words.no_word}
 use Rattle.std.proofs.lemmas.Bool.{cases_lt}
-use Rattle.yaml_read.specs.Grammar.{behind_in}
-use Rattle.yaml_read.proofs.CharactersRead.{ReadSoFar}
 use Rattle.yaml_read.specs.declared.errors.Stop.TheVariants as stop
 use Rattle.yaml_read.specs.declared.heads.Kind.TheVariants as kind
-use Rattle.yaml_read.proofs.Words.{absent, behind_word as behind_itself, no_word}
 
 -- ---- the text after words in UTF-8 is UTF-8
 
@@ -130,9 +129,8 @@ pub no_list : (depth : ℕ) (bytes rest : List ℕ) (error : Stop) → bytes ≡
     → IsHere rest error → BreaksAt (node depth) bytes error
 no_list depth bytes rest error is none place =
     let inside = words_inside depth (these_or_those (word_then (codes "]") nothing) (line_then (suc depth) nothing)) (codes "]" ∷ []) (inl (refl, tt)) in
-    tag_passed depth kind.List kind.List bytes rest error refl is
-    (missing (codes "[") rest (unless_deep depth (these_or_those (word_then (codes "]") nothing) (line_then (suc depth) nothing))) error inside.0 none place
-    inside.1)
+    tag_passed depth kind.List kind.List _ rest error refl is
+    (missing _ _ (unless_deep depth (these_or_those (word_then (codes "]") nothing) (line_then (suc depth) nothing))) error inside.0 none place inside.1)
 
 pub no_map : (depth : ℕ) (bytes rest : List ℕ) (error : Stop) → bytes ≡ codes "!!map " ++ rest → past_word (codes "{") rest ≡ None
     → IsHere rest error → BreaksAt (node depth) bytes error

@@ -4,8 +4,7 @@ use Rattle.yaml_read.proofs.Common.{append-nil, arith, codes, flat_map, all_scal
 use Rattle.yaml_read.proofs.Common.{escape_after_backslash, hex_digits, letter_among, needs_escape, short_escapes, Text, quote, in_quotes, backslash}
 use Rattle.yaml_read.proofs.Common.{letter_meaning, encode_same, encodes-append, characters, integer, quoted_text}
 use Rattle.yaml_read.proofs.OneWays.{OneWay, nothing_more, word_way, words_same}
-use Rattle.yaml_read.proofs.Escapes.{Stands, as_escape, as_itself, stands}
-use Rattle.yaml_read.proofs.Firsts.{AfterBackslash, after_backslash}
+use Rattle.yaml_read.proofs.{Escapes.Stands, Escapes.as_escape, Escapes.as_itself, Escapes.stands, Firsts.AfterBackslash, Firsts.after_backslash}
 use Rattle.yaml_read.proofs.{Encoded.word_encoded, HeadsRead.word_bytes, Scalars.int_scalars, WordTexts.flat}
 
 -- ---- characters
@@ -72,11 +71,7 @@ record BetweenWord (word : List ℕ) : Type 0 where
 between_word : (word : List ℕ) (words : List (List ℕ)) → characters (word ∷ words) → BetweenWord word
 between_word word words (inl ends) = record { text = quote ∷ []; between = closes; is = ends.0 ∙ sym (word_bytes (codes "\"") refl) }
 between_word word words (inr goes) =
-    record {
-      text = character_text true goes.0;
-      between = goes_on goes.0 (character_text true goes.0) goes.1 (stands goes.0);
-      is = goes.2;
-    }
+    record { text = character_text true goes.0; between = goes_on goes.0 (character_text true goes.0) goes.1 (stands goes.0); is = goes.2 }
 
 word_alike : (one other a b : List ℕ) → BetweenWord one → BetweenWord other → one ++ a ≡ other ++ b → one ≡ other
 word_alike one other a b first second is =

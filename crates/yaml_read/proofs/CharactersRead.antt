@@ -94,9 +94,8 @@ short_read bytes tail rest first c number few starts is =
       scalar = number.scalar;
       needs = number.needs;
       text =
-          behind_first bytes rest tail 120 (hex_digits 2 c) (escape_after_backslash (letter_among short_escapes c) c)
-          (starts ∙ ap (λ f. encode_utf8 f ++ tail) is) number.text
-          (ap (λ o. escape_after_backslash o c) number.none ∙ by_tests c true (nat_le c 0xFFFF) at_most refl);
+          behind_first _ rest _ 120 (hex_digits 2 c) _ (starts ∙ ap (λ f. encode_utf8 f ++ tail) is) number.text
+          (ap (λ o. escape_after_backslash o c) number.none ∙ by_tests _ _ (nat_le c 0xFFFF) at_most refl);
     }
 
 pub long_read : (bytes tail rest : List ℕ) (first c : ℕ) → IsByNumber tail 4 c rest → 256 ≤ c → c < 65536 → bytes ≡ encode_utf8 first ++ tail

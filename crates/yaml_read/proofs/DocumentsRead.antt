@@ -18,11 +18,7 @@ pub events_sound : (text behind : List ℕ) (found : List Event) → text ≡ co
     → (events : List Event) × (node : Text) × (found ≡ in_document events) × HasRunText [] events node × All IsInNode events
     × (behind ≡ encode_utf8_all (node ++ line_feed ∷ [])) → AreEventsOf text found
 events_sound text behind found is (events, node, whole, run, in_node, parts) =
-    record {
-      events = events;
-      whole = whole;
-      run = record { node = node; run = run; in_node = in_node; parts = is ∙ ap (λ t. codes "---\n" ++ t) parts };
-    }
+    record { events = events; whole = whole; run = record { node = node; run = run; in_node = in_node; parts = is ∙ ap (λ t. codes "---\n" ++ t) parts } }
 
 pub events_stop : (text behind : List ℕ) (error : Stop) → text ≡ codes "---\n" ++ behind → RunStops behind error → DocumentStops text error
 events_stop text behind (stop.Refused left) is stops = inr (behind, is, stops)

@@ -1,16 +1,15 @@
 -- The canonical reader finds a graph's content in the bytes of its dump, however deep it nests and however long they are.
-use Rattle.yaml_read.proofs.Common.{[], ◌∷◌, ◌++◌, ◌≡◌, ◌∙◌, ℕ, true, false, Option, None, Some, List, refl, ap, subst, sym, All}
-use Rattle.yaml_read.proofs.Common.{All-head, All-tail, arith, and_from, list_all, Text, encode}
-use Rattle.yaml_read.proofs.Common.{utf8, Event, document_end, documents_and, no_documents, document_events, node_events, Graph, canonical_content, Isomorphic}
-use Rattle.yaml_read.proofs.Common.{option_and_then, unwrap_or, dumped_text, node_content, anchor_fault, content_unfolds, same_shape, Unfolds}
-use Rattle.yaml_read.proofs.Common.{content_shape, BeginsNode, IsAnchor, IsInNode, is_alias, is_mapping, is_scalar, is_sequence, AreDumpedBytes}
-use Rattle.yaml_read.proofs.Common.{unstyled_graph, bare_start, in_document}
+use Rattle.yaml_read.proofs.Common.{[], ◌∷◌, ◌++◌, ◌≡◌, ◌∙◌, ℕ, true, false, Option, None, Some, List, refl, ap, subst, sym, All, All-head, All-tail, arith}
+use Rattle.yaml_read.proofs.Common.{and_from, list_all, Text, encode, utf8, Event, document_end, documents_and, no_documents, document_events}
+use Rattle.yaml_read.proofs.Common.{Graph, canonical_content, Isomorphic, option_and_then, unwrap_or, dumped_text, node_content, anchor_fault}
+use Rattle.yaml_read.proofs.Common.{content_unfolds, same_shape, Unfolds, content_shape, BeginsNode, IsAnchor, IsInNode, is_alias, is_mapping, is_scalar}
+use Rattle.yaml_read.proofs.Common.{is_sequence, AreDumpedBytes, unstyled_graph, in_document}
+use Rattle.yaml_read.proofs.DumpedRuns.{dumped_bytes_run, run_is_dumped, same_parts}
+use Rattle.yaml_read.proofs.OneGraph.{isomorphic_styled, styled_isomorphic}
 use Rattle.yaml_base.proofs.Common.{DocumentContent, Node, TreeUnfolds, Content}
 use Rattle.yaml_base.{proofs.DumpedLeaves.s, proofs.DumpedOutputs.bare_document, proofs.DumpedOutputs.stream_alone, proofs.DumpedOutputs.tree_text}
-use Rattle.yaml_base.specs.reading.Content.{alias_content, documents_content}
-use Rattle.yaml_emitter.{proofs.canonical.Canonical.bytes_read, proofs.canonical.CanonicalSound.is_good_canonical, proofs.canonical.CanonicalSound.documents_ok}
-use Rattle.yaml_read.proofs.{DumpedRuns.dumped_bytes_run, DumpedRuns.run_is_dumped, DumpedRuns.same_parts, OneGraph.isomorphic_styled}
-use Rattle.yaml_read.proofs.{OneGraph.styled_isomorphic}
+use Rattle.yaml_base.{specs.reading.Content.alias_content, specs.reading.Content.documents_content}
+use Rattle.yaml_emitter.proofs.{canonical.Canonical.bytes_read, canonical.CanonicalSound.is_good_canonical, canonical.CanonicalSound.documents_ok}
 
 -- ---- events
 
@@ -53,13 +52,12 @@ record ReadsRoot (graph : Graph) (bytes : List ℕ) : Type 0 where
 
 dumped_reads : (graph : Graph) (bytes : List ℕ) → AreDumpedBytes graph bytes → ReadsRoot graph bytes
 dumped_reads graph bytes dumped =
-    let run = dumped_bytes_run graph bytes dumped in
-    let without = run_is_dumped (unstyled_graph graph) run.events run.node bytes run.whole run.is_list run.run run.in_node run.is in
+    let run = dumped_bytes_run _ _ dumped in
+    let without = run_is_dumped _ _ _ _ run.whole run.is_list run.run run.in_node run.is in
     let has = without.is_dumped.events in
-    let parts = same_parts has.document.start bare_start (node_events has.document.root) run.events has.document.end_implicit true
-    (has.is_document ∙ run.is_list) in
+    let parts = same_parts _ _ _ _ _ _ (has.is_document ∙ run.is_list) in
     let good : list_all is_good_canonical (document_events (bare_document true has.document.root)) ≡ true =
-    ap (λ events. list_all is_good_canonical (in_document events)) parts.inside ∙ run_good run.events run.in_node in
+    ap (λ events. list_all is_good_canonical (in_document events)) parts.inside ∙ run_good _ run.in_node in
     record {
       root = has.document.root;
       unfolds = without.is_dumped.unfolds;
@@ -74,12 +72,11 @@ first_root (content ∷ rest) = content.root
 -- documents whose dumps have the same bytes are isomorphic
 pub one_graph : (one other : Graph) (bytes : List ℕ) → AreDumpedBytes one bytes → AreDumpedBytes other bytes → Isomorphic one other
 one_graph one other bytes dumped also =
-    let first = dumped_reads one bytes dumped in
-    let second = dumped_reads other bytes also in
+    let first = dumped_reads _ _ dumped in
+    let second = dumped_reads _ _ also in
     let same : node_content first.root ≡ node_content second.root =
     ap (λ (found : Option (List DocumentContent)). first_root (unwrap_or found [])) (sym first.read ∙ second.read) in
-    isomorphic_styled one other (styled_isomorphic one (unstyled_graph other)
-    (same_shape (unstyled_graph one) (unstyled_graph other) (content_shape (node_content first.root))
+    isomorphic_styled _ _ (styled_isomorphic _ _ (same_shape (unstyled_graph one) (unstyled_graph other) (content_shape (node_content first.root))
     (content_unfolds (unstyled_graph one) first.root first.unfolds)
     (subst (λ (content : Content). Unfolds false (unstyled_graph other) (content_shape content)) (sym same)
     (content_unfolds (unstyled_graph other) second.root second.unfolds))))

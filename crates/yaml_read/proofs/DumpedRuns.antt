@@ -1,6 +1,6 @@
 -- The canonical bytes of a graph's dump are the text of a run of events, and such a run is a dump's.
 use Rattle.yaml_read.proofs.Common.{ℕ, All, Bool, true, None, Some, List, [], ◌∷◌, ◌++◌, refl, ◌≡◌, ap, subst, sym, ◌∙◌, arith, map, map-append, codes, Text}
-use Rattle.yaml_read.proofs.Common.{line_feed, encode, utf8, encode_utf8_all, Event, document_start, document_end, node_events, Graph, document_event_list}
+use Rattle.yaml_read.proofs.Common.{line_feed, encode, utf8, encode_utf8_all, Event, document_start, document_end, Graph, document_event_list}
 use Rattle.yaml_read.proofs.Common.{IsWholeGraph, dumped_text, node_text, text_bytes-utf8, document_unfolds, unstyled, All-append, All-cons, All-nil}
 use Rattle.yaml_read.proofs.Common.{All-weaker, BeginsNode, HasRunText, IsInNode, begins_node, is_alias, is_mapping, is_scalar, is_sequence, AreDumpedBytes}
 use Rattle.yaml_read.proofs.Common.{IsWritable, unstyled_graph, bare_start, in_document}
@@ -56,20 +56,19 @@ dumped_bytes_run graph bytes dumped =
     let has : HaveText (document_event_list graph) (dumped_text root) =
     record { document = unfolded.document; is_document = unfolded.is_document; is_text = refl } in
     let text : dumped.text ≡ dumped_text root = one_text (document_event_list graph) dumped.text (dumped_text root) dumped.is_dumped.events has in
-    let parts = same_parts unfolded.document.start graph.start (node_events root) (root_events graph) unfolded.document.end_implicit graph.end_implicit
-    (unfolded.is_document ∙ root_between graph dumped.whole) in
+    let parts = same_parts _ _ _ _ _ _ (unfolded.is_document ∙ root_between _ dumped.whole) in
     let without = map unstyled (root_events graph) in
     let start = start_bare graph.start dumped.bare.version dumped.bare.directives in
     record {
       events = without;
       node = node_text 0 root;
       run = subst (λ (events : List Event). HasRunText [] (map unstyled events) (node_text 0 root)) parts.inside
-          (run_unstyled [] (node_events root) (node_text 0 root) (tree_runs root));
-      in_node = root_in_node graph dumped.whole dumped.writable;
+          (run_unstyled _ _ _ (tree_runs root));
+      in_node = root_in_node _ dumped.whole dumped.writable;
       is = sym dumped.is_encoded ∙ ap (λ (t : Text). encode (Some utf8) t) text ∙ text_encoded (node_text 0 root);
-      whole = whole_unstyled graph dumped.whole;
+      whole = whole_unstyled _ dumped.whole;
       is_list =
-          document_unstyled graph ∙ ap (λ (events : List Event). map unstyled events) (root_between graph dumped.whole)
+          document_unstyled graph ∙ ap (λ (events : List Event). map unstyled events) (root_between _ dumped.whole)
           ∙ ap (λ (events : List Event). unstyled (document_start graph.start) ∷ events)
           (map-append unstyled (root_events graph) (document_end graph.end_implicit ∷ []))
           ∙ ap (λ (event : Event). event ∷ (without ++ document_end graph.end_implicit ∷ [])) start
@@ -100,12 +99,11 @@ pub run_is_dumped : (graph : Graph) (events : List Event) (node : Text) (bytes :
 run_is_dumped graph events node bytes whole is_list run in_node is =
     let unfolded = document_unfolds graph whole in
     let root = unfolded.document.root in
-    let parts = same_parts unfolded.document.start bare_start (node_events root) events unfolded.document.end_implicit true
-    (unfolded.is_document ∙ is_list) in
+    let parts = same_parts _ _ _ _ _ _ (unfolded.is_document ∙ is_list) in
     let start : graph.start ≡ bare_start = sym unfolded.start ∙ parts.starts in
     let of_tree : HasRunText [] events (node_text 0 root) =
     subst (λ (list : List Event). HasRunText [] list (node_text 0 root)) parts.inside (tree_runs root) in
-    let text : node ≡ node_text 0 root = one_run_text [] events node (node_text 0 root) run of_tree in
+    let text : node ≡ node_text 0 root = one_run_text _ _ _ _ run of_tree in
     record {
       whole = whole;
       bare = record {
@@ -113,11 +111,8 @@ run_is_dumped graph events node bytes whole is_list run in_node is =
         directives = ap (λ (s : DocumentStart). s.directives) start;
         implicit = sym unfolded.end_implicit ∙ parts.ends;
       };
-      writable = subst (λ (list : List Event). All IsWritable list) (sym is_list) (all_writable events in_node);
+      writable = subst (λ (list : List Event). All IsWritable list) (sym is_list) (all_writable _ in_node);
       text = dumped_text root;
-      is_dumped = record {
-        events = record { document = unfolded.document; is_document = unfolded.is_document; is_text = refl };
-        unfolds = unfolded.unfolds;
-      };
+      is_dumped = record { events = record { document = unfolded.document; is_document = unfolded.is_document; is_text = refl }; unfolds = unfolded.unfolds };
       is_encoded = text_encoded (node_text 0 root) ∙ ap (λ (t : Text). codes "---\n" ++ encode_utf8_all (t ++ line_feed ∷ [])) (sym text) ∙ sym is;
     }

@@ -23,11 +23,7 @@ lead_behind depth lead text line (Err error) is cut place = no_lead line is cut 
 pub entry_behind : (depth : ℕ) (lead end text behind : List ℕ) (result : Result Entry Stop) → text ≡ codes "," ++ behind
     → LineEntryRead depth lead end behind result → EntryRead depth lead end text result
 entry_behind depth lead end text behind result is entry =
-    record {
-      cut = cut result entry.stands;
-      breaks = breaks result entry.breaks;
-      shorter = shorter result entry.shorter;
-    }
+    record { cut = cut result entry.stands; breaks = breaks result entry.breaks; shorter = shorter result entry.shorter }
   where
     cut : (result : Result Entry Stop) → EntryStands (line_at (depth * 2) ++ lead) (line_at (depth * 2) ++ end) behind result
         → IfOk result (EntryCut depth lead end text)

@@ -1,9 +1,8 @@
 -- The place of an event that is impossible.
-use Rattle.yaml_read.proofs.Common.{ℕ, None, Option, List, ◌++◌, ◌≡◌, refl, subst, sym, true, length, Event, Err, IfErr, Result, can_end, IsOpeningRead, ReadOr}
-use Rattle.yaml_read.proofs.Common.{trail_behind_opening, Await, Pending, closing_text, lead_text, outside, trail_text, IsHere, IsWholeWord, IsEventPlace}
-use Rattle.yaml_read.proofs.Common.{IsNodePlace, StopsBy, IsMemory, past_word, Stop, arith}
-use Rattle.yaml_read.specs.RunPlaces.{after_bracket, after_node, in_event_at}
-use Rattle.yaml_read.proofs.Words.{memory_only}
+use Rattle.yaml_read.proofs.Common.{ℕ, None, Option, List, ◌++◌, ◌≡◌, refl, subst, sym, true, length, Event, Err, IfErr, Result, can_end, IsOpeningRead}
+use Rattle.yaml_read.proofs.Common.{ReadOr, trail_behind_opening, Await, Pending, closing_text, lead_text, outside, trail_text, IsHere, IsWholeWord}
+use Rattle.yaml_read.proofs.Common.{IsEventPlace, IsNodePlace, StopsBy, IsMemory, past_word, Stop, arith}
+use Rattle.yaml_read.{specs.RunPlaces.after_bracket, specs.RunPlaces.after_node, specs.RunPlaces.in_event_at, proofs.Words.memory_only}
 use Rattle.yaml_read.specs.declared.errors.Stop.TheVariants as stop
 
 -- at the first word of the bytes

@@ -1,17 +1,16 @@
 -- A document's events, one after another: what was read, and what is due.
-use Rattle.yaml_read.proofs.Common.{ℕ, [], ◌∷◌, ◌++◌, ◌≡◌, ◌∙◌, false≢true, ◌⊎◌, ◌<◌, true, Option, None, Some, List, refl, ap, subst, sym, append_assoc, All}
-use Rattle.yaml_read.proofs.Common.{All-head, All-tail, codes, line_feed, Text, encode_utf8_all, Event, sequence_end, mapping_end, document_start, document_end}
-use Rattle.yaml_read.proofs.Common.{length, arith, length-append, length-le-encodes, Result, Ok, Err, map, Bor, append_cancel_left, map-append, All-nil}
-use Rattle.yaml_read.proofs.Common.{encodes-append, Pending, HasRunText, IsInNode, closing_text, ends_name, event_text, lead_text, may_come, more_come}
-use Rattle.yaml_read.proofs.Common.{next_open, left_open, outside, root_ends, value_awaited, IsOver, IsEventPlace, RunStops, StopsBy, bare_start, in_document}
-use Rattle.yaml_read.proofs.Common.{NoEventBegins, ReadOr, LacksEnd, more_follows, no_end, ReadsEvent, OrMemory, Stop}
+use Rattle.yaml_read.proofs.Common.{ℕ, [], ◌∷◌, ◌++◌, ◌≡◌, ◌∙◌, false≢true, ◌⊎◌, ◌<◌, true, Option, None, Some, List, refl, ap, subst, sym, append_assoc}
+use Rattle.yaml_read.proofs.Common.{All, All-head, All-tail, codes, line_feed, Text, encode_utf8_all, Event, sequence_end, mapping_end, document_start}
+use Rattle.yaml_read.proofs.Common.{document_end, length, arith, length-append, length-le-encodes, Result, Ok, Err, map, Bor, append_cancel_left, map-append}
+use Rattle.yaml_read.proofs.Common.{All-nil, encodes-append, Pending, HasRunText, IsInNode, closing_text, ends_name, event_text, lead_text, may_come}
+use Rattle.yaml_read.proofs.Common.{more_come, next_open, left_open, outside, root_ends, value_awaited, IsOver, IsEventPlace, RunStops, StopsBy, bare_start}
+use Rattle.yaml_read.proofs.Common.{in_document, NoEventBegins, ReadOr, LacksEnd, more_follows, no_end, ReadsEvent, OrMemory, Stop}
 use Rattle.yaml_read.specs.EventReads.{EndDue, EndRead, IsEventRead, RootRead, RunAnswer, RunEnded, RunFails}
 use Rattle.yaml_read.proofs.EventSteps.{behind_text, end_shorter, mapping_ends, node_event, sequence_ends}
-use Rattle.std.proofs.lemmas.List.Elements.{All-push}
 use Rattle.yaml_read.{specs.EventTexts.HasBegunText, specs.EventTexts.none_begun, specs.EventTexts.one_more, specs.RunPlaces.after_root}
-use Rattle.yaml_read.{specs.RunPlaces.in_event}
-use Rattle.yaml_read.proofs.{NameEnds.longer_over, NameEnds.nothing_over, NameEnds.opening_some, Encoded.word_encoded, EventPlaces.memory_placed}
-use Rattle.yaml_read.proofs.{Words.memory_only, Words.no_word}
+use Rattle.yaml_read.{specs.RunPlaces.in_event, proofs.NameEnds.longer_over, proofs.NameEnds.nothing_over, proofs.NameEnds.opening_some}
+use Rattle.yaml_read.{proofs.Encoded.word_encoded, proofs.EventPlaces.memory_placed, proofs.Words.memory_only, proofs.Words.no_word}
+use Rattle.std.proofs.lemmas.List.Elements.{All-push}
 use Rattle.yaml_read.specs.declared.errors.Stop.TheVariants as stop
 
 -- ---- a name ends before an event in a collection
@@ -50,8 +49,7 @@ pub begun_and_run : (levels : List Pending) (events more : List Event) (text res
 begun_and_run _ _ more _ rest none_begun run = run
 begun_and_run _ _ more _ rest (one_more before levels events event text begun comes after) run =
     subst (λ (e : List Event). HasRunText [] e ((text ++ event_text before event) ++ rest)) (sym (append_assoc events (event ∷ []) more))
-    (subst (λ (t : Text). HasRunText [] (events ++ event ∷ more) t) (sym (append_assoc text (event_text before event) rest))
-    (begun_and_run before events (event ∷ more) text (event_text before event ++ rest) begun
+    (subst (λ (t : Text). HasRunText [] (events ++ event ∷ more) t) (sym (append_assoc text (event_text before event) rest)) (begun_and_run _ _ _ _ _ begun
     (more_come before levels event more rest (event_text before event ++ rest) comes after refl run)))
 
 -- the events found so far, the document's start before them, are those up to here
@@ -90,22 +88,20 @@ event_more whole found levels bytes rest None event begun read =
       events = begun.events ++ event ∷ [];
       text = begun.text ++ event_text levels event;
       found_are = ap (λ (e : List Event). e ++ event ∷ []) begun.found_are;
-      run =
-          begun_and_run levels begun.events (event ∷ []) begun.text (event_text levels event) begun.begun
-          (root_ends levels event (event_text levels event) read.comes read.opened refl);
+      run = begun_and_run _ _ _ _ _ begun.begun (root_ends levels event (event_text levels event) read.comes read.opened refl);
       in_node = All-push IsInNode begun.events event begun.in_node read.in_node;
-      parts = one_more_parts whole bytes rest begun.text (event_text levels event) begun.parts read.parts;
-      over = longer_over begun.text (event_text levels event) rest (event_some levels event read.in_node read.comes) read.over;
+      parts = one_more_parts _ _ rest begun.text (event_text levels event) begun.parts read.parts;
+      over = longer_over begun.text _ _ (event_some levels _ read.in_node read.comes) read.over;
     }
 event_more whole found levels bytes rest (Some next) event begun read =
     record {
       events = begun.events ++ event ∷ [];
       text = begun.text ++ event_text levels event;
       found_are = ap (λ (e : List Event). e ++ event ∷ []) begun.found_are;
-      begun = one_more levels next begun.events event begun.text begun.begun read.comes read.opened;
+      begun = one_more _ _ _ _ _ begun.begun read.comes read.opened;
       in_node = All-push IsInNode begun.events event begun.in_node read.in_node;
-      parts = one_more_parts whole bytes rest begun.text (event_text levels event) begun.parts read.parts;
-      over = longer_over begun.text (event_text levels event) rest (event_some levels event read.in_node read.comes) read.over;
+      parts = one_more_parts _ _ rest begun.text (event_text levels event) begun.parts read.parts;
+      over = longer_over begun.text _ _ (event_some levels _ read.in_node read.comes) read.over;
     }
 
 -- ---- the events that are due
@@ -131,9 +127,7 @@ pub record RunDue (whole : List ℕ) (found : List Event) (open_yet : Option (Li
 
 pub all_due : (whole : List ℕ) → RunDue whole (document_start bare_start ∷ []) (Some []) whole
 all_due whole =
-    record {
-      due = λ events node run in_node is. record { later = events; text = node; all = refl; run = run; in_node = in_node; bytes_are = is };
-    }
+    record { due = λ events node run in_node is. record { later = events; text = node; all = refl; run = run; in_node = in_node; bytes_are = is } }
 
 -- the rest after an event, by what is open then
 abbrev Follows : Option (List Pending) → List Event → Text → Type 0

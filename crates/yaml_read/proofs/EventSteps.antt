@@ -2,15 +2,14 @@
 use Rattle.yaml_read.proofs.Common.{ℕ, ◌<◌, true, false, Option, Some, List, [], ◌∷◌, ◌++◌, refl, ◌≡◌, ap, subst, sym, ◌∙◌, append_assoc, append-nil, arith}
 use Rattle.yaml_read.proofs.Common.{false≢true, length, length-append, Text, encode_utf8_all, Event, alias, sequence_start, sequence_end, mapping_start}
 use Rattle.yaml_read.proofs.Common.{mapping_end, Err, append_cancel_left, encodes-append, Bor, GoesTo, ReadsEvent, await_opened, open_behind_opening}
-use Rattle.yaml_read.proofs.Common.{text_behind_lead, trail_behind_opening, Pending, BeginsNode, IsInNode, begins_node, closing_text, ends_mapping, ends_name}
-use Rattle.yaml_read.proofs.Common.{ends_sequence, event_text, is_alias, is_mapping, is_scalar, is_sequence, item_awaited, key_awaited, lead_text, may_come}
-use Rattle.yaml_read.proofs.Common.{next_open, left_open, opening_text, IsOver, outside, trail_text, LeadStands, can_end, closing_event, seen_await, Await}
-use Rattle.yaml_read.proofs.Common.{Stop}
+use Rattle.yaml_read.proofs.Common.{text_behind_lead, trail_behind_opening, Pending, BeginsNode, IsInNode, begins_node, closing_text, ends_mapping}
+use Rattle.yaml_read.proofs.Common.{ends_name, ends_sequence, event_text, is_alias, is_mapping, is_scalar, is_sequence, item_awaited, key_awaited, lead_text}
+use Rattle.yaml_read.proofs.Common.{may_come, next_open, left_open, opening_text, IsOver, outside, trail_text, LeadStands, can_end, closing_event}
+use Rattle.yaml_read.proofs.Common.{seen_await, Await, Stop}
 use Rattle.yaml_read.proofs.NameEnds.{behind_over, end_over, longer_over, opening_some}
 use Rattle.yaml_read.proofs.Awaits.{closing_encoded, lead_encoded, lead_or_end, trail_encoded}
+use Rattle.yaml_read.{specs.EventSteps.ReadsNode, specs.declared.steps.Progress.TheVariants.Continues, proofs.Words.no_word}
 use Rattle.yaml_base.proofs.Common.{scalar, Scalar, Collection}
-use Rattle.yaml_read.{specs.EventSteps.ReadsNode, specs.declared.steps.Progress.TheVariants.Continues}
-use Rattle.yaml_read.proofs.Words.{no_word}
 
 -- ---- an event that begins a node
 
@@ -28,19 +27,11 @@ scalar_event levels content = record { text = refl; opened = refl; comes = refl 
 
 sequence_event : (levels : List Pending) (start : Collection) → IsNodeEvent levels (sequence_start start)
 sequence_event levels start =
-    record {
-      text = ap (λ t. lead_text levels ++ t) (sym (append-nil (opening_text (sequence_start start))));
-      opened = refl;
-      comes = refl;
-    }
+    record { text = ap (λ t. lead_text levels ++ t) (sym (append-nil (opening_text (sequence_start start)))); opened = refl; comes = refl }
 
 mapping_event : (levels : List Pending) (start : Collection) → IsNodeEvent levels (mapping_start start)
 mapping_event levels start =
-    record {
-      text = ap (λ t. lead_text levels ++ t) (sym (append-nil (opening_text (mapping_start start))));
-      opened = refl;
-      comes = refl;
-    }
+    record { text = ap (λ t. lead_text levels ++ t) (sym (append-nil (opening_text (mapping_start start)))); opened = refl; comes = refl }
 
 pub node_event : (levels : List Pending) (event : Event) → BeginsNode event → IsNodeEvent levels event
 node_event levels _ (is_alias name named) = alias_event levels name
@@ -129,11 +120,7 @@ event_read levels text behind rest after event is node =
           ∙ ap (λ t. t ++ rest) (sym (lead_encoded levels (text_behind_lead levels event)) ∙ ap encode_utf8_all (sym known.text));
       over =
           subst (λ (t : Text). IsOver t rest) (sym known.text) (longer_over (lead_text levels) (text_behind_lead levels event) rest
-          (omega (
-            arith,
-            length-append (opening_text event) (trail_behind_opening levels (await_opened event)),
-            opening_some event node.begins,
-          )) node.over);
+          (omega (arith, length-append (opening_text event) (trail_behind_opening levels (await_opened event)), opening_some event node.begins)) node.over);
     }
 
 -- a collection's end was read

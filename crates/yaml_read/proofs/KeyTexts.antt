@@ -1,13 +1,12 @@
 -- The texts of keys tell the keys.
 use Rattle.yaml_read.proofs.Common.{ℕ, ◌+◌, ◌*◌, ◌<◌, ◌≤◌, suc, zero, true, false, List, [], ◌∷◌, ◌++◌, ◌≡◌, ap, subst, sym, ◌∙◌, arith, append_assoc, codes}
 use Rattle.yaml_read.proofs.Common.{encode_utf8_all, Text, length, line_feed, or_parts, bytes_eq, bytes_eq-Decides, inl, inr, TypedValue, TypedPairs}
-use Rattle.yaml_read.proofs.Common.{list_value, most_nested, no_values, values_and, no_value_pairs, value_pairs_and, IsNewKey}
-use Rattle.yaml_read.proofs.Common.{line_at, map_begun, value_text, encodes-append, append_cancel_left, OpenLevel, pairs_open, value_due, IsOpen, opened_text}
-use Rattle.yaml_read.proofs.Common.{CanBeReadAt, PairsCanBeReadAt, column_in, key_bytes}
+use Rattle.yaml_read.proofs.Common.{list_value, most_nested, no_values, values_and, no_value_pairs, value_pairs_and, IsNewKey, line_at, map_begun}
+use Rattle.yaml_read.proofs.Common.{value_text, encodes-append, append_cancel_left, OpenLevel, pairs_open, value_due, IsOpen, opened_text, CanBeReadAt}
+use Rattle.yaml_read.proofs.Common.{PairsCanBeReadAt, column_in, key_bytes}
+use Rattle.yaml_read.{specs.HeldKeys.is_key, proofs.Turns.column_is, proofs.WrittenValues.text_tells}
 use Rattle.yaml_base.proofs.Common.{or_cases}
-use Rattle.std.{proofs.lemmas.List.append_cancel_right, proofs.lemmas.Bool.both_ways}
-use Rattle.yaml_read.specs.HeldKeys.{is_key}
-use Rattle.yaml_read.proofs.{Turns.column_is, WrittenValues.text_tells}
+use Rattle.std.proofs.{lemmas.List.append_cancel_right, lemmas.Bool.both_ways}
 
 -- texts with equal bytes have equal bytes within others
 within : (front first second behind : Text) → encode_utf8_all first ≡ encode_utf8_all second
@@ -23,8 +22,7 @@ list_same : (column : ℕ) (first second : TypedValue) → encode_utf8_all (valu
 list_same column first second same =
     let behind = line_at column ++ codes "]" in
     let front = codes "!!seq [" ++ line_at (column + 2) in
-    ap encode_utf8_all (regroup (line_at (column + 2)) (value_text (column + 2) first) behind)
-    ∙ within front (value_text (column + 2) first) (value_text (column + 2) second) (codes "," ++ behind) same
+    ap encode_utf8_all (regroup (line_at (column + 2)) (value_text (column + 2) first) behind) ∙ within front _ _ (codes "," ++ behind) same
     ∙ ap encode_utf8_all (sym (regroup (line_at (column + 2)) (value_text (column + 2) second) behind))
   where
     regroup : (line text behind : Text)
@@ -34,8 +32,7 @@ list_same column first second same =
 -- values at a depth whose texts there have equal bytes are equal
 value_tells : (depth : ℕ) (first second : TypedValue) → CanBeReadAt depth first → CanBeReadAt depth second → depth ≤ most_nested
     → encode_utf8_all (value_text (depth * 2) first) ≡ encode_utf8_all (value_text (depth * 2) second) → first ≡ second
-value_tells zero first second one other few same =
-    text_tells first second one other (within (codes "---\n") (value_text 0 first) (value_text 0 second) (line_feed ∷ []) same)
+value_tells zero first second one other few same = text_tells first second one other (within (codes "---\n") _ _ (line_feed ∷ []) same)
 value_tells (suc depth) first second one other few same =
     let deeper : suc depth * 2 ≡ depth * 2 + 2 = omega arith in
     let room : depth < most_nested = omega (arith, few) in

@@ -48,10 +48,9 @@ name_ends (c ∷ name) behind letters run =
 
 -- the text after a tag ends with no name
 pub held_over : (held : Held) (written front : Text) (bytes : List ℕ) → HasHeldText held written → IsOver (front ++ written) bytes
-held_over _ _ front bytes (value_quoted value scalars) =
-    longer_over front (in_quotes value) bytes (omega arith) (other_last (in_quotes value) (0x22 ∷ _) 0x22 bytes refl refl)
-held_over _ _ front bytes sequence_opened = other_last (front ++ codes "[") front 0x5B bytes refl refl
-held_over _ _ front bytes mapping_opened = other_last (front ++ codes "{") front 0x7B bytes refl refl
+held_over _ _ front bytes (value_quoted value scalars) = longer_over front _ _ (omega arith) (other_last _ (0x22 ∷ _) 0x22 _ refl refl)
+held_over _ _ front bytes sequence_opened = other_last _ front 0x5B _ refl refl
+held_over _ _ front bytes mapping_opened = other_last _ front 0x7B _ refl refl
 
 some_behind : (front back : List ℕ) → 0 < length back → 0 < length (front ++ back)
 some_behind front back some = omega (arith, some, length-append front back)

@@ -1,13 +1,12 @@
 -- Names, and the anchors in front of nodes.
 use Rattle.yaml_read.proofs.Common.{ℕ, ◌+◌, ◌<◌, ◌==◌, [], ◌∷◌, ◌++◌, ◌≡◌, ◌∙◌, true≢false, if◌then◌else◌, ◌&&◌, Bool, true, false, cond, Option, None, Some}
 use Rattle.yaml_read.proofs.Common.{List, refl, ap, subst, sym, arith, nat_tests, eqb-true, not-true, and_parts, and_from, append_assoc, length}
-use Rattle.yaml_read.proofs.Common.{list_all-append, list_all, take, drop, chars, chars-IsAscii, codes, nat_lt, ltb-true, Text, encode_utf8_all, AliasAlphabet}
-use Rattle.yaml_read.proofs.Common.{AnchorAlphabet, encode_utf8, is_alpha, alias_fault, space, all_pass, ascii_of, seen_text, yaml_error_t, anchor_text}
-use Rattle.yaml_read.proofs.Common.{IsUtf8-from_ascii, append_cancel_left, prefix_len, IsCharBoundary, IsUtf8, String, string_bytes, IsAnchor, ends_name}
-use Rattle.yaml_read.proofs.Common.{past_word}
-use Rattle.std.{proofs.lemmas.Str.IsCharBoundary-from_take, proofs.lemmas.Str.char_from_byte, proofs.lemmas.List.take-append-drop}
-use Rattle.std.{proofs.lemmas.List.Sums.prefix_len-le-length}
+use Rattle.yaml_read.proofs.Common.{list_all-append, list_all, take, drop, chars, chars-IsAscii, codes, nat_lt, ltb-true, Text, encode_utf8_all}
+use Rattle.yaml_read.proofs.Common.{AliasAlphabet, AnchorAlphabet, encode_utf8, is_alpha, alias_fault, space, all_pass, ascii_of, seen_text, yaml_error_t}
+use Rattle.yaml_read.proofs.Common.{anchor_text, IsUtf8-from_ascii, append_cancel_left, prefix_len, IsCharBoundary, IsUtf8, String, string_bytes, IsAnchor}
+use Rattle.yaml_read.proofs.Common.{ends_name, past_word}
 use Rattle.yaml_read.proofs.{Encoded.are_ascii, Encoded.word_encoded, HeadsRead.word_bytes, Words.no_word}
+use Rattle.std.proofs.{lemmas.Str.IsCharBoundary-from_take, lemmas.Str.char_from_byte, lemmas.List.take-append-drop, lemmas.List.Sums.prefix_len-le-length}
 
 -- ---- the alphabet
 

@@ -1,16 +1,15 @@
 -- The events of a dump's node, without their styles, are such as are read.
-use Rattle.yaml_base.proofs.Common.{ℕ, numbers_in, All, true, false, Option, None, Some, List, [], ◌∷◌, ◌++◌, refl, ◌≡◌, ap, subst, ◌∙◌, map, arith, flat_map}
-use Rattle.yaml_base.proofs.Common.{list_all, Contains, option_and_then, option_or, unwrap_or, is_alpha, Text, Event, alias, document_start}
+use Rattle.yaml_base.proofs.Common.{ℕ, numbers_in, All, true, false, Option, None, Some, List, [], ◌∷◌, ◌++◌, refl, ◌≡◌, ap, subst, ◌∙◌, map, arith}
+use Rattle.yaml_base.proofs.Common.{flat_map, list_all, Contains, option_and_then, option_or, unwrap_or, is_alpha, Text, Event, alias, document_start}
 use Rattle.yaml_base.proofs.Common.{document_end, sequence_end, mapping_end, Held, scalar_held, sequence_held, mapping_held, GraphNode, Graph, node_numbered}
 use Rattle.yaml_base.proofs.Common.{Step, enters, leaves, meets_again, anchor_of, opening_event_of, opening_events, closing_event_of, closing_events}
 use Rattle.yaml_base.proofs.Common.{step_events, document_event_list, IsWholeGraph, name_fault, anchor_fault, tag_fault, All-tail}
 use Rattle.yaml_base.specs.declared.errors.yaml_error_t.TheVariants.{AliasAlphabet, AliasEmpty, AnchorAlphabet, AnchorEmpty, TagEmpty}
+use Rattle.yaml_base.{proofs.Twins.contained_in, proofs.Unstyled.unstyled, specs.declared.errors.yaml_error_t.yaml_error_t}
+use Rattle.yaml_base.{specs.graphs.Meetings.graph_steps, proofs.GraphRefusals.IsWritable as HasNoFault, proofs.GraphRefusals.document_writable}
 use Rattle.std.proofs.lemmas.List.Elements.{All-append, All-cons, All-contains_itself, All-map, All-nil, All-pop, All-weaker}
 use Rattle.yaml_read.specs.EventTexts.{IsAnchor, IsInNode, begins_node, ends_mapping, ends_sequence, is_alias, is_mapping, is_scalar, is_sequence}
-use Rattle.yaml_base.{proofs.Twins.contained_in, proofs.Unstyled.unstyled, specs.declared.errors.yaml_error_t.yaml_error_t, specs.graphs.Meetings.graph_steps}
-use Rattle.yaml_read.proofs.ChildWalks.{walks_same}
-use Rattle.yaml_read.{specs.DocumentTexts.IsWritable, specs.RunPlaces.bare_start}
-use Rattle.yaml_base.proofs.GraphRefusals.{IsWritable as HasNoFault, document_writable}
+use Rattle.yaml_read.{proofs.ChildWalks.walks_same, specs.DocumentTexts.IsWritable, specs.RunPlaces.bare_start}
 
 -- ---- the events of a walk
 
@@ -124,8 +123,7 @@ events_bare graph walk (step ∷ part) = grind (arith, flat_map, step_events, st
 root_bare : (graph : Graph) → root_events (bare_graph graph) ≡ root_events graph
 root_bare graph =
     ap (λ (walk : List Step). flat_map (step_events (bare_graph graph) walk) walk)
-    (walks_same (bare_graph graph) graph refl (λ number. ap numbers_in (node_bare graph number)))
-    ∙ events_bare graph (graph_steps graph) (graph_steps graph)
+    (walks_same (bare_graph graph) graph refl (λ number. ap numbers_in (node_bare graph number))) ∙ events_bare graph (graph_steps graph) (graph_steps graph)
 
 -- no event of a root has a fault of its own but an empty tag
 root_sound : (graph : Graph) → IsWholeGraph graph → All HasNoFault (root_events graph)

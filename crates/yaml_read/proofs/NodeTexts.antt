@@ -75,8 +75,7 @@ at_bracket _ _ rest text inside mapping_opened is cut =
 -- a mapping opens
 pub at_brace : (held : Held) (written rest : Text) (text inside : List ℕ) → HasHeldText held written → text ≡ encode_utf8_all (written ++ rest)
     → text ≡ codes "{" ++ inside → (mapping_held [] any_layout ≡ held) × (inside ≡ encode_utf8_all rest)
-at_brace _ _ rest text inside (value_quoted value scalars) is cut =
-    absurd (first_differs 0x22 0x7B _ inside refl (sym (is ∙ quoted_bytes value rest) ∙ cut))
+at_brace _ _ rest text inside (value_quoted value scalars) is cut = absurd (first_differs 0x22 0x7B _ inside refl (sym (is ∙ quoted_bytes value rest) ∙ cut))
 at_brace _ _ rest text inside sequence_opened is cut =
     absurd (first_differs 0x5B 0x7B (encode_utf8_all rest) inside refl (sym (is ∙ word_encoded (codes "[") rest refl) ∙ cut))
 at_brace _ _ rest text inside mapping_opened is cut =
@@ -92,8 +91,7 @@ pub record IsQuoted (held : Held) (rest : Text) (text : List ℕ) : Type 0 where
 pub at_quote : (held : Held) (written rest : Text) (text : List ℕ) → HasHeldText held written → text ≡ encode_utf8_all (written ++ rest)
     → past_word (codes "[") text ≡ None → past_word (codes "{") text ≡ None → IsQuoted held rest text
 at_quote _ _ rest text (value_quoted value scalars) is none also = record { value = value; is = refl; scalars = scalars; stands = is }
-at_quote _ _ rest text sequence_opened is none also =
-    absurd (no_word (codes "[") text (encode_utf8_all rest) none (is ∙ word_encoded (codes "[") rest refl))
+at_quote _ _ rest text sequence_opened is none also = absurd (no_word (codes "[") text (encode_utf8_all rest) none (is ∙ word_encoded (codes "[") rest refl))
 at_quote _ _ rest text mapping_opened is none also = absurd (no_word (codes "{") text (encode_utf8_all rest) also (is ∙ word_encoded (codes "{") rest refl))
 
 -- ---- before a tag

@@ -13,16 +13,12 @@ inside_way : (depth : ℕ) (end : List ℕ) (More : List (List ℕ) → Type 0) 
 inside_way depth end More none way = unless_way depth _ (two_way end (codes "\n") _ _ none nothing_way (levels_way (suc depth) _ way))
 
 behind_way : (depth : ℕ) (k : Kind) → OneWay (behind_tag depth k)
-behind_way depth kind.Null = word_way (codes "\"null\"") nothing nothing_way
-behind_way depth kind.Bool = two_way (codes "\"true\"") (codes "\"false\"") nothing nothing (λ rest. refl) nothing_way nothing_way
+behind_way depth kind.Null = word_way (codes "\"null\"") _ nothing_way
+behind_way depth kind.Bool = two_way (codes "\"true\"") (codes "\"false\"") _ _ (λ rest. refl) nothing_way nothing_way
 behind_way depth kind.Int = integer_way
 behind_way depth kind.Text = quoted_way
-behind_way depth kind.List =
-    word_way (codes "[") (unless_deep depth (these_or_those (word_then (codes "]") nothing) (line_then (suc depth) nothing)))
-    (inside_way depth (codes "]") nothing (λ rest. refl) nothing_way)
-behind_way depth kind.Map =
-    word_way (codes "{") (unless_deep depth (these_or_those (word_then (codes "}") nothing) (line_then (suc depth) (word_then (codes "? ") nothing))))
-    (inside_way depth (codes "}") (word_then (codes "? ") nothing) (λ rest. refl) (word_way (codes "? ") nothing nothing_way))
+behind_way depth kind.List = word_way (codes "[") _ (inside_way depth (codes "]") _ (λ rest. refl) nothing_way)
+behind_way depth kind.Map = word_way (codes "{") _ (inside_way depth (codes "}") _ (λ rest. refl) (word_way (codes "? ") _ nothing_way))
 
 -- ---- nodes
 

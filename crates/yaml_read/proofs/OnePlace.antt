@@ -1,19 +1,18 @@
 -- Bytes have one place of their fault.
 use Rattle.yaml_read.proofs.Common.{ℕ, ◌+◌, ◌*◌, ◌-◌, ◌<◌, ◌≤◌, suc, Bool, true, false, true≢false, Option, None, Some, List, [], ◌∷◌, ◌++◌, refl, ◌≡◌, ap}
-use Rattle.yaml_read.proofs.Common.{subst, sym, ◌∙◌, ◌⊎◌, inl, inr, append-nil, arith, codes, encode, encode_utf8_all, length, line_feed}
-use Rattle.yaml_read.proofs.Common.{utf8, TypedValue, most_nested, Position, document_text, line_at, list_begun, map_begun}
-use Rattle.yaml_read.proofs.Common.{value_text, append_cancel_left, IsUtf8, OpenLevel, items_open, pairs_open, value_due, behind_value, entry_end, line_then}
-use Rattle.yaml_read.proofs.Common.{node, nothing, word_then, HasRead, IsOpen, OpenCanBeRead, opened_text, BreaksInValue, BreaksOff, CannotStand, IsWordPlace}
-use Rattle.yaml_read.proofs.Common.{OpensPastDepth, behind_all, behind_node, in_node, AllCanBeReadAt, CanBeRead, CanBeReadAt, PairsCanBeReadAt, column_in}
-use Rattle.yaml_read.proofs.Common.{IsPlacedBy, ReadError, text_bytes-utf8}
+use Rattle.yaml_read.proofs.Common.{subst, sym, ◌∙◌, ◌⊎◌, inl, inr, append-nil, arith, codes, encode, encode_utf8_all, length, line_feed, utf8, TypedValue}
+use Rattle.yaml_read.proofs.Common.{most_nested, Position, document_text, value_text, append_cancel_left, IsUtf8, OpenLevel}
+use Rattle.yaml_read.proofs.Common.{items_open, pairs_open, value_due, behind_value, entry_end, line_then, node, nothing, word_then, HasRead, IsOpen}
+use Rattle.yaml_read.proofs.Common.{OpenCanBeRead, opened_text, BreaksInValue, BreaksOff, CannotStand, IsWordPlace, OpensPastDepth, behind_all, behind_node}
+use Rattle.yaml_read.proofs.Common.{in_node, AllCanBeReadAt, CanBeRead, CanBeReadAt, PairsCanBeReadAt, column_in, IsPlacedBy, ReadError, text_bytes-utf8}
 use Rattle.yaml_read.proofs.OneWays.{nothing_more, nothing_way, place_same, whole_breaks, word_way, words_same}
 use Rattle.yaml_read.proofs.TextWalks.{LeadsTo, items_lead, key_leads, pairs_lead, then_leads, value_leads, words_lead}
 use Rattle.yaml_read.proofs.Walks.{Halts, Spot, Walk, a_key, a_list, a_map, at_node, after_node, broken_halts, mark, next_spot, one_halt, one_walk, at_end}
 use Rattle.yaml_read.proofs.Walks.{past_halts, stays, walk_on, way_at, words_at}
-use Rattle.yaml_base.{specs.Positions.IsPositionOf, specs.values.LinesAndColumns.column_of, specs.values.LinesAndColumns.line_of}
-use Rattle.std.{proofs.Common.ap₂, proofs.lemmas.Str.utf8_valid_len-IsValidUpTo}
-use Rattle.yaml_read.specs.Places.{IsBehindMarker, IsDepthPlace}
-use Rattle.yaml_read.proofs.{Encoded.word_encoded, HeadsRead.word_bytes, Remaining.readable_root, Scalars.document_utf8, Turns.column_is, WordTexts.flat}
+use Rattle.yaml_read.{specs.Places.IsBehindMarker, specs.Places.IsDepthPlace, proofs.Encoded.word_encoded, proofs.HeadsRead.word_bytes}
+use Rattle.yaml_read.{proofs.Remaining.readable_root, proofs.Scalars.document_utf8, proofs.Turns.column_is, proofs.WordTexts.flat}
+use Rattle.yaml_base.specs.{Positions.IsPositionOf, values.LinesAndColumns.column_of, values.LinesAndColumns.line_of}
+use Rattle.std.proofs.{Common.ap₂, lemmas.Str.utf8_valid_len-IsValidUpTo}
 use Rattle.yaml_value.specs.declared.keys.Keys.TheVariants as keys
 use Rattle.yaml_read.specs.declared.errors.ReadError.TheVariants as told
 use Rattle.yaml_read.specs.declared.heads.Kind.TheVariants as kind
@@ -43,20 +42,17 @@ few_bare levels room = subst (λ n. n < most_nested) (bare_length levels) room
 opened_leads : (levels : List OpenLevel) → OpenCanBeRead levels → LeadsTo (at_node []) (opened_text levels) (at_node (bare levels))
 opened_leads [] readable = record { walk = λ rest. stays (at_node []) rest }
 opened_leads (items_open items ∷ levels) readable =
-    then_leads (at_node []) (at_node (bare levels)) (at_node (a_list ∷ bare levels)) (opened_text levels) (list_begun (column_in levels) items)
+    then_leads _ _ _ _ _
     (opened_leads levels readable.0) (items_lead items (bare levels) (column_in levels) (bare_column levels) (few_bare levels readable.1.0)
     (subst (λ n. AllCanBeReadAt (suc n) items) (bare_length levels) readable.1.1))
 opened_leads (pairs_open pairs ∷ levels) readable =
-    then_leads (at_node []) (at_node (bare levels)) (at_node (a_map ∷ bare levels)) (opened_text levels) (map_begun (column_in levels) pairs)
+    then_leads _ _ _ _ _
     (opened_leads levels readable.0) (pairs_lead pairs (bare levels) (column_in levels) (bare_column levels) (few_bare levels readable.1.0)
     (subst (λ n. PairsCanBeReadAt (suc n) pairs) (bare_length levels) readable.1.1))
 opened_leads (value_due pairs key ∷ levels) readable =
     let column = column_in levels in
-    let text = value_text (column + 2) key in
     let same = bare_column levels in
-    then_leads (at_node []) (at_node (bare levels)) (at_node (a_key ∷ bare levels)) (opened_text levels)
-    (map_begun column pairs ++ (text ++ (line_at (column + 2) ++ codes ": "))) (opened_leads levels readable.0)
-    (key_leads (bare levels) column same (map_begun column pairs) text (pairs_lead pairs (bare levels) column same (few_bare levels readable.1.0)
+    then_leads _ _ _ _ _ (opened_leads levels readable.0) (key_leads _ _ same _ _ (pairs_lead pairs (bare levels) column same (few_bare levels readable.1.0)
     (subst (λ n. PairsCanBeReadAt (suc n) pairs) (bare_length levels) readable.1.1.0))
     (value_leads key (a_map ∷ bare levels) (column + 2) (omega (arith, same)) (subst (λ n. CanBeReadAt (suc n) key) (bare_length levels) readable.1.1.1)))
 
@@ -67,8 +63,7 @@ opened_walk whole bytes levels opened =
 read_walk : (whole bytes : List ℕ) (levels : List OpenLevel) (value : TypedValue) → HasRead whole levels value bytes
     → Walk (at_node []) whole (after_node (bare levels)) bytes
 read_walk whole bytes levels value read =
-    subst (λ (t : List ℕ). Walk (at_node []) t (after_node (bare levels)) bytes) (sym read.text)
-    ((then_leads _ _ (after_node (bare levels)) _ (value_text (column_in levels) value) (opened_leads levels read.outer)
+    subst (λ (t : List ℕ). Walk (at_node []) t (after_node (bare levels)) bytes) (sym read.text) ((then_leads _ _ _ _ _ (opened_leads levels read.outer)
     (value_leads value (bare levels) (column_in levels) (bare_column levels) (subst (λ n. CanBeReadAt n value) (bare_length levels) read.readable))).walk bytes)
 
 -- ---- why no way leads on
@@ -116,8 +111,7 @@ record Found (whole : List ℕ) (deep : Bool) (left : ℕ) : Type 0 where
 
 found_once : (whole : List ℕ) (deep dark : Bool) (left other : ℕ) → Found whole deep left → Found whole dark other → (deep ≡ dark) × (left ≡ other)
 found_once whole deep dark left other one two =
-    let same = one_halt (at_node []) one.spot two.spot whole one.bytes two.bytes one.walk two.walk (stops_halt one.spot one.bytes deep left one.stops)
-    (stops_halt two.spot two.bytes dark other two.stops) in
+    let same = one_halt _ _ _ _ _ _ one.walk two.walk (stops_halt _ _ deep left one.stops) (stops_halt _ _ dark other two.stops) in
     stops_once one.spot one.bytes deep dark left other one.stops (subst (λ (s : Spot). Stops s one.bytes dark other) (sym same.spot)
     (subst (λ (b : List ℕ). Stops two.spot b dark other) (sym same.bytes) two.stops))
 
@@ -153,10 +147,8 @@ breaks_found whole left (behind_all value bytes rest read allowed is some place)
 
 deep_by : (levels : List OpenLevel) (bytes inside : List ℕ) → most_nested ≤ length levels
     → (bytes ≡ codes "!!seq [" ++ inside) ⊎ (bytes ≡ codes "!!map {" ++ inside) → Stops (at_node levels) bytes true (length bytes)
-deep_by levels bytes inside many (inl is) =
-    too_deep levels bytes (codes "!!seq " ∷ codes "[" ∷ []) inside (kind.List, (refl, (refl, inr (many, tt)))) refl is
-deep_by levels bytes inside many (inr is) =
-    too_deep levels bytes (codes "!!map " ∷ codes "{" ∷ []) inside (kind.Map, (refl, (refl, inr (many, tt)))) refl is
+deep_by levels bytes inside many (inl is) = too_deep levels bytes (codes "!!seq " ∷ codes "[" ∷ []) inside (kind.List, (refl, (refl, inr (many, tt)))) refl is
+deep_by levels bytes inside many (inr is) = too_deep levels bytes (codes "!!map " ∷ codes "{" ∷ []) inside (kind.Map, (refl, (refl, inr (many, tt)))) refl is
 
 deep_found : (whole : List ℕ) (left : ℕ) → OpensPastDepth keys.MayRepeat whole left → Found whole true left
 deep_found whole left deep =

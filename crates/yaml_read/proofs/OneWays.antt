@@ -44,9 +44,8 @@ same_by These way read [] [] a b are also is = refl
 same_by These way read [] (other ∷ others) a b are also is = absurd (way.ends read other others (subst These (append-nil read) are) also)
 same_by These way read (one ∷ ones) [] a b are also is = absurd (way.ends read one ones (subst These (append-nil read) also) are)
 same_by These way read (one ∷ ones) (other ∷ others) a b are also is =
-    let both = together These way read one other ones others (flat ones ++ a) (flat others ++ b) are also
-    (sym (append_assoc one (flat ones) a) ∙ is ∙ append_assoc other (flat others) b) in
-    ap (λ ws. one ∷ ws) (same_by These way (read ++ one ∷ []) ones others a b both.first both.second both.rest) ∙ ap (λ w. w ∷ others) both.same
+    let both = together _ way _ _ _ _ _ _ _ are also (sym (append_assoc one (flat ones) a) ∙ is ∙ append_assoc other (flat others) b) in
+    ap (λ ws. one ∷ ws) (same_by _ way (read ++ one ∷ []) ones others a b both.first both.second both.rest) ∙ ap (λ w. w ∷ others) both.same
 
 -- bytes begin with one list of words only
 pub words_same : (These : List (List ℕ) → Type 0) (ones others : List (List ℕ)) (a b : List ℕ) → OneWay These → These ones → These others
@@ -82,9 +81,8 @@ whole_by These way before [] [] rest after lacks are is = grind (arith, append-n
 whole_by These way before [] (word ∷ words) rest after lacks are is = grind (arith, no_word, flat, append_assoc)
 whole_by These way before (first ∷ read) [] rest after lacks are is = grind (arith, append-nil)
 whole_by These way before (first ∷ read) (word ∷ words) rest after lacks are is =
-    let both = together These way before first word (read ++ lacks.due ∷ lacks.more) words (flat read ++ rest) (flat words ++ after) lacks.begins are
-    (sym (append_assoc first (flat read) rest) ∙ is ∙ append_assoc word (flat words) after) in
-    whole_by These way (before ++ first ∷ []) read words rest after (lacks_on These before first read rest lacks) both.second both.rest
+    let both = together _ way _ _ _ _ _ _ _ lacks.begins are (sym (append_assoc first (flat read) rest) ∙ is ∙ append_assoc word (flat words) after) in
+    whole_by _ way (before ++ first ∷ []) read words rest after (lacks_on These before first read rest lacks) both.second both.rest
 
 pub whole_breaks : (These : List (List ℕ) → Type 0) (bytes : List ℕ) (left : ℕ) (words : List (List ℕ)) (after : List ℕ) → OneWay These
     → BreaksOff These bytes left → These words → bytes ≡ flat words ++ after → ⊥
@@ -97,9 +95,8 @@ place_by These way before [] [] a b lacks also is = is
 place_by These way before [] (word ∷ other) a b lacks also is = grind (arith, no_word, flat, append_assoc)
 place_by These way before (word ∷ one) [] a b lacks also is = grind (arith, no_word, flat, append_assoc)
 place_by These way before (word ∷ one) (second ∷ other) a b lacks also is =
-    let both = together These way before word second (one ++ lacks.due ∷ lacks.more) (other ++ also.due ∷ also.more) (flat one ++ a) (flat other ++ b)
-    lacks.begins also.begins (sym (append_assoc word (flat one) a) ∙ is ∙ append_assoc second (flat other) b) in
-    place_by These way (before ++ word ∷ []) one other a b (lacks_on These before word one a lacks)
+    let both = together _ way _ _ _ _ _ _ _ lacks.begins also.begins (sym (append_assoc word (flat one) a) ∙ is ∙ append_assoc second (flat other) b) in
+    place_by _ way (before ++ word ∷ []) one other a b (lacks_on These before word one a lacks)
     (lacks_on These before word other b (subst (λ (w : List ℕ). Lacks These before (w ∷ other) b) (sym both.same) also)) both.rest
 
 -- they break off at one place

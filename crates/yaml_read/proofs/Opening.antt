@@ -91,8 +91,7 @@ pair_on whole levels pairs key value bytes rest read cut =
     let end = line_at column ++ codes "? " in
     record {
       text =
-          word_read whole bytes rest (codes "," ++ (line_at (length levels * 2) ++ codes "  ? ")) (codes "," ++ end)
-          (opened_text (value_due pairs key ∷ levels) ++ value_text column value) read.text
+          word_read _ _ rest _ _ (opened_text (value_due pairs key ∷ levels) ++ value_text column value) read.text
           (cut ∙ entry_word (line_at (length levels * 2)) (codes "  ? ") rest)
           (comma_deeper levels (codes "? ") ∙ ap (λ t. codes "," ++ (line_at (length levels * 2) ++ (codes "  " ++ t))) (word_bytes (codes "? ") refl))
           ∙ ap (λ t. encode_utf8_all t ++ rest)
@@ -110,8 +109,7 @@ pair_out whole levels pairs key value bytes rest read cut =
     let end = line_at (column_in levels) ++ codes "}" in
     record {
       text =
-          word_read whole bytes rest (codes "," ++ (line_at (length levels * 2) ++ codes "}")) (codes "," ++ end)
-          (opened_text (value_due pairs key ∷ levels) ++ value_text column value) read.text
+          word_read _ _ rest _ _ (opened_text (value_due pairs key ∷ levels) ++ value_text column value) read.text
           (cut ∙ entry_word (line_at (length levels * 2)) (codes "}") rest)
           (comma_line levels (codes "}") ∙ ap (λ t. codes "," ++ (line_at (length levels * 2) ++ t)) (word_bytes (codes "}") refl))
           ∙ ap (λ t. encode_utf8_all t ++ rest)
@@ -129,8 +127,7 @@ list_in whole levels bytes rest opened deep cut =
     ap encode_utf8_all (sym (append-nil (line_at (column_in levels + 2)))) ∙ deeper_bytes levels [] refl ∙ append-nil (line_at (length levels * 2 + 2)) in
     record {
       text =
-          word_read whole bytes rest (codes "!!seq [" ++ line_at (length levels * 2 + 2)) (codes "!!seq [" ++ line_at (column_in levels + 2))
-          (opened_text levels) opened.text (cut ∙ sym (append_assoc (codes "!!seq [") (line_at (length levels * 2 + 2)) rest))
+          word_read _ _ rest _ _ (opened_text levels) opened.text (cut ∙ sym (append_assoc (codes "!!seq [") (line_at (length levels * 2 + 2)) rest))
           (word_encoded (codes "!!seq [") (line_at (column_in levels + 2)) refl ∙ ap (λ t. codes "!!seq [" ++ t) line);
       readable = (opened.readable, (deep, tt));
     }
@@ -141,11 +138,10 @@ pub map_in : (whole : List ℕ) (levels : List OpenLevel) (bytes rest : List ℕ
 map_in whole levels bytes rest opened deep cut =
     record {
       text =
-          word_read whole bytes rest (codes "!!map {" ++ (line_at (length levels * 2 + 2) ++ codes "? "))
-          (codes "!!map {" ++ (line_at (column_in levels + 2) ++ codes "? ")) (opened_text levels) opened.text
+          word_read _ _ rest _ _ (opened_text levels) opened.text
           (cut ∙ sym (append_assoc (codes "!!map {") (line_at (length levels * 2 + 2) ++ codes "? ") rest))
           (word_encoded (codes "!!map {") (line_at (column_in levels + 2) ++ codes "? ") refl
-          ∙ ap (λ t. codes "!!map {" ++ t) (deeper_bytes levels (codes "? ") (word_bytes (codes "? ") refl)));
+          ∙ ap (λ t. codes "!!map {" ++ t) (deeper_bytes levels _ (word_bytes (codes "? ") refl)));
       readable = (opened.readable, (deep, tt));
     }
 

@@ -1,13 +1,12 @@
 -- Up to the place of an error the bytes begin a canonical text.
 use Rattle.yaml_read.proofs.Common.{ℕ, ◌-◌, ◌+◌, ◌*◌, ◌<◌, List, [], ◌∷◌, ◌++◌, refl, ◌≡◌, ap, subst, sym, ◌∙◌, append_assoc, arith, codes, flat_map-append}
-use Rattle.yaml_read.proofs.Common.{length, line_feed, encode_utf8_all, Text, TypedValue, list_value, map_value, most_nested, value_pairs_and, values_and}
-use Rattle.yaml_read.proofs.Common.{line_at, value_text, take-append_seam, length-append, encodes-append, take, OpenLevel, pairs_open}
-use Rattle.yaml_read.proofs.Common.{Completes, column_in, item_follows, list_ends, map_ends, pair_follows, text_ends, behind_value, opened_text, CanBeReadAt}
-use Rattle.yaml_read.proofs.Common.{node, HasRead, IsOpen, BreaksOff, value_follows}
+use Rattle.yaml_read.proofs.Common.{length, line_feed, encode_utf8_all, Text, TypedValue, most_nested}
+use Rattle.yaml_read.proofs.Common.{line_at, value_text, take-append_seam, length-append, encodes-append, take, OpenLevel, Completes, column_in}
+use Rattle.yaml_read.proofs.Common.{item_follows, list_ends, map_ends, pair_follows, text_ends, behind_value, opened_text, CanBeReadAt, node, HasRead}
+use Rattle.yaml_read.proofs.Common.{IsOpen, BreaksOff, value_follows}
 use Rattle.yaml_read.proofs.Opening.{item_on, item_out, key_on, pair_on, pair_out, value_in, value_out}
-use Rattle.yaml_read.proofs.{Turns.comma_deeper, Turns.comma_line, Turns.key_line, WordSteps.node_words, WordsBehind.closing, WordsBehind.behind_words}
-use Rattle.yaml_read.proofs.{WordTexts.flat, Encoded.word_encoded}
-use Rattle.yaml_read.specs.TextsAndWords.{BeginsValue}
+use Rattle.yaml_read.{proofs.Turns.comma_deeper, proofs.Turns.comma_line, proofs.Turns.key_line, proofs.WordSteps.node_words, proofs.WordsBehind.closing}
+use Rattle.yaml_read.{proofs.WordsBehind.behind_words, proofs.WordTexts.flat, proofs.Encoded.word_encoded, specs.TextsAndWords.BeginsValue}
 
 -- ---- a text that was read and the text that completes it are a value's text
 
@@ -17,8 +16,7 @@ IsText whole root = (whole ≡ encode_utf8_all (value_text 0 root ++ line_feed �
 value_next : (whole : List ℕ) (levels : List OpenLevel) (value : TypedValue) (rest : Text)
     → IsOpen whole levels (encode_utf8_all (value_text (column_in levels) value ++ rest)) → CanBeReadAt (length levels) value
     → HasRead whole levels value (encode_utf8_all rest)
-value_next whole levels value rest opened readable =
-    value_in _ _ value _ (encode_utf8_all rest) opened (encodes-append (value_text (column_in levels) value) rest) readable
+value_next whole levels value rest opened readable = value_in _ _ _ _ _ opened (encodes-append (value_text (column_in levels) value) rest) readable
 
 -- the bytes of a comma, a line and a bracket
 closing_bytes : (levels : List OpenLevel) (bracket rest text : Text) → encode_utf8_all (bracket ++ rest) ≡ bracket ++ encode_utf8_all rest
@@ -32,25 +30,21 @@ completed whole root _ _ _ (text_ends value text same is) read =
     subst (λ (v : TypedValue). IsText whole v) same (value_out _ _ _ read (ap encode_utf8_all is ∙ word_encoded (codes "\n") [] refl), read.readable)
 completed whole root _ _ _ (item_follows levels items value item rest text readable is more) read =
     let next = value_text (column_in levels + 2) item ++ rest in
-    completed _ root _ _ rest more (value_next _ _ item rest
+    completed _ root _ _ _ more (value_next _ _ _ _
     (item_on whole levels items value (encode_utf8_all text) (encode_utf8_all next) read (ap encode_utf8_all is ∙ comma_deeper levels next)) readable)
 completed whole root _ _ _ (list_ends levels items value rest text is more) read =
-    completed whole root levels (list_value (values_and items value)) rest more (item_out _ levels items _ _ (encode_utf8_all rest) read
-    (closing_bytes levels (codes "]") rest _ (word_encoded (codes "]") rest refl) is))
+    completed _ root _ _ _ more (item_out _ _ items _ _ _ read (closing_bytes levels (codes "]") rest _ (word_encoded (codes "]") rest refl) is))
 completed whole root _ _ _ (value_follows levels pairs key value rest text readable is more) read =
     let next = value_text (column_in levels + 2) value ++ rest in
-    completed _ root _ _ rest more (value_next _ _ value rest
+    completed _ root _ _ _ more (value_next _ _ _ _
     (key_on whole levels pairs key (encode_utf8_all text) (encode_utf8_all next) read (ap encode_utf8_all is ∙ key_line levels next)) readable)
 completed whole root _ _ _ (pair_follows levels pairs key value next rest text readable is more) read =
     let behind = value_text (column_in levels + 2) next ++ rest in
-    completed whole root (pairs_open (value_pairs_and pairs key value) ∷ levels) next rest more
-    (value_next whole (pairs_open (value_pairs_and pairs key value) ∷ levels) next rest
-    (pair_on whole levels pairs key value (encode_utf8_all text) (encode_utf8_all behind) read
+    completed _ root _ _ _ more (value_next _ _ _ _ (pair_on whole levels pairs key value (encode_utf8_all text) (encode_utf8_all behind) read
     (ap encode_utf8_all is ∙ comma_deeper levels (codes "? " ++ behind)
     ∙ ap (λ t. codes "," ++ (line_at (length levels * 2) ++ (codes "  " ++ t))) (word_encoded (codes "? ") behind refl))) readable)
 completed whole root _ _ _ (map_ends levels pairs key value rest text is more) read =
-    completed whole root levels (map_value (value_pairs_and pairs key value)) rest more (pair_out _ levels pairs key _ _ (encode_utf8_all rest) read
-    (closing_bytes levels (codes "}") rest _ (word_encoded (codes "}") rest refl) is))
+    completed _ root _ _ _ more (pair_out _ _ pairs key _ _ _ read (closing_bytes levels (codes "}") rest _ (word_encoded (codes "}") rest refl) is))
 
 -- ---- the bytes up to a place
 
@@ -74,20 +68,19 @@ words_apart read after bytes rest is = grind (arith, flat_map-append, append_ass
 pub node_place : (whole : List ℕ) (levels : List OpenLevel) (bytes : List ℕ) (left : ℕ) → IsOpen whole levels bytes → length levels < most_nested
     → BreaksOff (node (length levels)) bytes left → BeginsValue (take (length whole - left) whole)
 node_place whole levels bytes left opened room breaks =
-    let begins = node_words levels (breaks.read ++ breaks.due ∷ breaks.more) room breaks.begins in
-    let closed = closing levels begins.value in
+    let begins = node_words _ _ room breaks.begins in
+    let closed = closing _ _ in
     let value = encode_utf8_all (value_text (column_in levels) begins.value) in
     let opens = encode_utf8_all (opened_text levels) in
-    let other = opens ++ encode_utf8_all (value_text (column_in levels) begins.value ++ closed.text) in
     let after = flat (breaks.due ∷ breaks.more) ++ begins.rest in
-    let text = completed other closed.root levels begins.value closed.text closed.completes
-    (value_next other levels begins.value closed.text (record { text = refl; readable = opened.readable }) begins.readable) in
+    let text = completed _ closed.root _ _ _ closed.completes
+    (value_next _ _ _ _ (record { text = refl; readable = opened.readable }) begins.readable) in
     record {
       root = closed.root;
       readable = text.1;
       rest = after ++ encode_utf8_all closed.text;
       text =
-          sym text.0 ∙ shared opens whole other breaks.read breaks.rest (after ++ encode_utf8_all closed.text) left
+          sym text.0 ∙ shared opens _ _ breaks.read breaks.rest (after ++ encode_utf8_all closed.text) _
           (opened.text ∙ ap (λ b. opens ++ b) breaks.parts) breaks.place
           (ap (λ b. opens ++ b) (encodes-append (value_text (column_in levels) begins.value) closed.text
           ∙ ap (λ b. b ++ encode_utf8_all closed.text) (words_apart breaks.read (breaks.due ∷ breaks.more) value begins.rest begins.is)

@@ -3,8 +3,7 @@ use Rattle.yaml_read.proofs.Common.{ℕ, ◌==◌, true, Option, None, Some, Lis
 use Rattle.yaml_read.proofs.Common.{Text, encode_utf8_all, encode_utf8, all_scalars, and_parts, character_text, true≢false, chars, chars-encodes, flat_map}
 use Rattle.yaml_read.proofs.Common.{seen_text, needs_escape, quote, in_quotes, backslash, encode_same, encodes-append, encode_ascii, MatchOption, String}
 use Rattle.yaml_read.proofs.Common.{string_bytes, Bor, append_cancel_left, ReadsCharacter, past_word}
-use Rattle.yaml_read.proofs.Escapes.{Stands, as_itself, as_escape, stands}
-use Rattle.yaml_read.proofs.{Encoded.word_encoded, Words.no_word}
+use Rattle.yaml_read.proofs.{Escapes.Stands, Escapes.as_itself, Escapes.as_escape, Escapes.stands, Encoded.word_encoded, Words.no_word}
 
 -- the characters between quotes, the closing quote, and a rest
 abbrev pub to_quote : Text → Text → Text

@@ -1,9 +1,8 @@
 -- A value that was written is read back.
-use Rattle.yaml_read.proofs.Common.{ℕ, ◌<◌, ◌≤◌, ◌≡◌, List, Some, arith, encode, utf8, Err, IfErr, IfOk, Ok, Result, Vec, TypedValue, WritesValue, most_nested}
-use Rattle.yaml_read.proofs.Common.{nesting, document_text, seen_value, Value, IsJust, CanBeRead, ReadError}
+use Rattle.yaml_read.proofs.Common.{ℕ, ◌<◌, ◌≤◌, ◌≡◌, List, Some, arith, encode, utf8, Err, IfErr, IfOk, Ok, Result, Vec, TypedValue, WritesValue}
+use Rattle.yaml_read.proofs.Common.{most_nested, nesting, document_text, seen_value, Value, IsJust, CanBeRead, ReadError}
+use Rattle.yaml_read.{proofs.Texts.texts_of, specs.ReadBack.IsAnswerTo}
 use Rattle.yaml_value.proofs.WritingLemmas.{text_written}
-use Rattle.yaml_read.proofs.Texts.{texts_of}
-use Rattle.yaml_read.specs.ReadBack.{IsAnswerTo}
 use Rattle.yaml_read.specs.declared.errors.ReadError.TheVariants as told
 
 -- a value that was written, and doesn't nest too deep, is readable

@@ -1,18 +1,17 @@
 -- A readable value's text consists of Unicode scalar values, so its bytes are UTF-8.
 use Rattle.yaml_read.proofs.Common.{ℕ, ◌+◌, ◌%◌, ◌/◌, ◌<◌, ◌==◌, suc, zero, Bool, true, false, Some, [], ◌∷◌, ◌++◌, refl, ◌≡◌, ap, sym, ◌∙◌, arith, codes}
-use Rattle.yaml_read.proofs.Common.{space, line_feed, Text, replicate, all_scalars, encode_utf8_all, and_parts, and_from, agree_below_at, hex_digit, hex_digits}
-use Rattle.yaml_read.proofs.Common.{character_text, flat_map, if◌then◌else◌, chars-IsAscii, eqb-true, TypedValue, null_value, bool_value, int_value, text_value}
-use Rattle.yaml_read.proofs.Common.{list_value, map_value, TypedValues, no_values, values_and, TypedPairs, no_value_pairs, value_pairs_and, line_at, value_text}
-use Rattle.yaml_read.proofs.Common.{closing_line, node_pairs_text, nodes_text, value_nodes, value_pairs, document_text, in_quotes, seen_text, meaning_among}
-use Rattle.yaml_read.proofs.Common.{quote, ℤ, ◌^◌, Result, Ok, Err, String, scalars-chars, IsUtf8-from_ascii, encodes-chars, IsUtf8-string_bytes}
-use Rattle.yaml_read.proofs.Common.{signed_decimal, mag, IsUtf8, IsAscii-signed, FitsSigned, w64, string_bytes}
+use Rattle.yaml_read.proofs.Common.{space, line_feed, Text, replicate, all_scalars, encode_utf8_all, and_parts, and_from, agree_below_at, hex_digit}
+use Rattle.yaml_read.proofs.Common.{hex_digits, character_text, flat_map, if◌then◌else◌, chars-IsAscii, eqb-true, TypedValue, null_value, bool_value}
+use Rattle.yaml_read.proofs.Common.{int_value, text_value, list_value, map_value, TypedValues, no_values, values_and, TypedPairs, no_value_pairs}
+use Rattle.yaml_read.proofs.Common.{value_pairs_and, line_at, value_text, closing_line, node_pairs_text, nodes_text, value_nodes, value_pairs, document_text}
+use Rattle.yaml_read.proofs.Common.{in_quotes, seen_text, meaning_among, quote, ℤ, ◌^◌, Result, Ok, Err, String, scalars-chars, IsUtf8-from_ascii}
+use Rattle.yaml_read.proofs.Common.{encodes-chars, IsUtf8-string_bytes, signed_decimal, mag, IsUtf8, IsAscii-signed, FitsSigned, w64, string_bytes}
 use Rattle.yaml_read.proofs.Common.{CanBeRead, CanBeReadAt, AllCanBeReadAt, PairsCanBeReadAt}
-use lib.Utf8.{scalar}
 use Rattle.yaml_read.proofs.Firsts.{AfterBackslash, by_letter, by_two, by_four, after_backslash}
-use Rattle.yaml_read.proofs.Escapes.{Stands, as_itself, as_escape, stands}
+use Rattle.yaml_read.proofs.{Escapes.Stands, Escapes.as_itself, Escapes.as_escape, Escapes.stands, Remaining.readable_root}
 use Rattle.yaml_base.proofs.Common.{has_no_nodes, has_no_pairs}
 use Rattle.std.proofs.lemmas.Str.{encodes-IsAscii}
-use Rattle.yaml_read.proofs.Remaining.{readable_root}
+use lib.Utf8.{scalar}
 
 pub joined_scalars : (a b : Text) → all_scalars a ≡ true → all_scalars b ≡ true → all_scalars (a ++ b) ≡ true
 joined_scalars [] b ha hb = hb
@@ -120,8 +119,7 @@ document_utf8 value readable =
 pub digits_are : {A : Type 0} (digits : String A) (n : ℤ) → mag n < 2 ^ 63 → seen_text digits ≡ signed_decimal n → string_bytes digits ≡
     signed_decimal n
 digits_are digits n few is =
-    sym (encodes-chars (string_bytes digits) (IsUtf8-string_bytes digits)) ∙ ap encode_utf8_all is
-    ∙ encodes-IsAscii (signed_decimal n) (IsAscii-signed n few)
+    sym (encodes-chars (string_bytes digits) (IsUtf8-string_bytes digits)) ∙ ap encode_utf8_all is ∙ encodes-IsAscii (signed_decimal n) (IsAscii-signed n few)
 
 pub fits_signed : (n : ℤ) → mag n < 2 ^ 63 → FitsSigned w64 n
 fits_signed _ few = omega (arith, few)

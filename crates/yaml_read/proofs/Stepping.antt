@@ -63,8 +63,7 @@ node_stopped A before after text error stops = record { read = λ whole opened. 
 -- its words break off
 node_broken : (A : Type 0) (before after : List OpenLevel) (text : List ℕ) (error : Stop) → BreaksAt (node (length before)) text error
     → NodeStepped {A = A} before after text (Err error)
-node_broken A before after text error breaks =
-    node_stopped A before after text error (λ mode whole opened allow. node_stops mode whole before text error opened allow breaks)
+node_broken A before after text error breaks = node_stopped A _ _ _ _ (λ mode whole opened allow. node_stops mode _ _ _ error opened allow breaks)
 
 pub no_scalar_steps : (A : Type 0) (before after : List OpenLevel) (k : Kind) (text behind : List ℕ) (error : Stop) → text ≡ tag_word k ++ behind
     → ScalarRead {A = A} k behind (Err error) → NodeStepped {A = A} before after text (Err error)
@@ -81,9 +80,7 @@ pub null_found : (A : Type 0) (bytes : List ℕ) (rest : Bor (List ℕ)) → byt
     → ScalarRead {A = A} kind.Null bytes (Ok (declared.Null, rest))
 null_found A bytes rest is =
     record {
-      sound =
-          subst (λ value. IsScalarValue (tag_word kind.Null ++ bytes) value rest.now) (sym (seen_null A))
-          (null_read (tag_word kind.Null ++ bytes) bytes rest.now refl is);
+      sound = subst (λ value. IsScalarValue (tag_word kind.Null ++ bytes) value rest.now) (sym (seen_null A)) (null_read _ _ _ refl is);
       breaks = λ depth. tt;
       shorter = omega (arith, ap length is);
     }
@@ -186,9 +183,8 @@ opened_steps before after _ _ _ _ _ text behind inside (Ok (Node rest)) empty_ma
       moved = level_opened (pairs_open no_value_pairs) begins_map entered.0;
     }
 opened_steps {A} before after _ _ _ _ _ text behind inside (Err error) empty_list_level tagged bracket none entered =
-    node_broken A before after text error
-    (list_line_breaks (length before) text inside error bracket.1 (tagged ∙ ap (λ t. codes "!!seq " ++ t) bracket.0, none)
-    (list_breaks (length before) _ _ entered))
+    node_broken A _ _ _ _ (list_line_breaks (length before) text inside error bracket.1 (tagged ∙ ap (λ t. codes "!!seq " ++ t) bracket.0, none)
+    (list_breaks _ _ _ entered))
 opened_steps {A} before after _ _ _ _ _ text behind inside (Err error) empty_map_level tagged bracket none entered =
-    node_broken A before after text error
+    node_broken A _ _ _ _
     (map_line_breaks (length before) text inside error bracket.1 (tagged ∙ ap (λ t. codes "!!map " ++ t) bracket.0, none) (lead_breaks _ _ _ _ entered))

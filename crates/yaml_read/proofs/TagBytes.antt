@@ -140,9 +140,8 @@ all_unread text read left value rest parts few none scalars ends is = by un.todo
   where
     un : Unread read (encode_utf8_all value) left (encode_utf8_all rest)
     un =
-        unread read (encode_utf8_all value) left rest few (encoded_bytes value scalars) ends
-        (sym parts ∙ is ∙ word_encoded (percent_escaped value) rest (escaped_ascii value)
-        ∙ ap (λ t. t ++ encode_utf8_all rest) (escaped_bytes value scalars))
+        unread read (encode_utf8_all value) left rest few (encoded_bytes _ scalars) ends
+        (sym parts ∙ is ∙ word_encoded (percent_escaped value) rest (escaped_ascii value) ∙ ap (λ t. t ++ encode_utf8_all rest) (escaped_bytes _ scalars))
 
     by : (todo : List ℕ) → read ++ todo ≡ encode_utf8_all value → left ≡ flat_map byte_in_tag todo ++ encode_utf8_all rest → are_bytes todo ≡ true
         → (read ≡ encode_utf8_all value) × (left ≡ encode_utf8_all rest)

@@ -52,8 +52,7 @@ verbatim_is (c ∷ tail) h =
     let both = and_parts (not (is_some (behind (codes "!") (c ∷ tail)))) (not (is_some (behind type_prefix (c ∷ tail)))) h in (
       refl,
       ap (λ o. spelled false (spelling_by (codes "!") o (spelling_by (codes "!!") (behind type_prefix (c ∷ tail)) (verbatim (c ∷ tail)))) ++ space ∷ [])
-          (none_is (behind (codes "!") (c ∷ tail)) both.0)
-          ∙ ap (λ o. spelled false (spelling_by (codes "!!") o (verbatim (c ∷ tail))) ++ space ∷ []) (none_is (behind type_prefix (c ∷ tail)) both.1)
+          (none_is _ both.0) ∙ ap (λ o. spelled false (spelling_by (codes "!!") o (verbatim (c ∷ tail))) ++ space ∷ []) (none_is _ both.1)
           ∙ ap (λ t. codes "!<" ++ t) (append_assoc (percent_escaped (c ∷ tail)) (codes ">") (space ∷ [])),
     )
 
@@ -257,7 +256,7 @@ spelled_behind prefix tag h1 = grind (arith, true≢false)
 
 -- ---- tags that were read
 
-pub verbatim_sound : (tag : Text) (text inside rest : List ℕ) → text ≡ codes "!<" ++ inside → stays_verbatim tag ≡ true
+verbatim_sound : (tag : Text) (text inside rest : List ℕ) → text ≡ codes "!<" ++ inside → stays_verbatim tag ≡ true
     → inside ≡ percent_escaped tag ++ (codes "> " ++ rest) → (tag_fault tag ≡ None) × (text ≡ encode_utf8_all (tag_text (Some tag) false) ++ rest)
 verbatim_sound tag text inside rest cut stays read =
     let is = verbatim_is tag stays in (
@@ -266,24 +265,17 @@ verbatim_sound tag text inside rest cut stays read =
           ∙ ap (λ t. t ++ rest) (sym (verbatim_bytes tag)) ∙ ap (λ t. encode_utf8_all t ++ rest) (sym is.1),
     )
 
-pub type_sound : (tag suffix : Text) (text inside rest : List ℕ) → text ≡ codes "!!" ++ inside → 0 < length suffix → tag ≡ type_prefix ++ suffix
+-- a tag after its handle, by what its text and its bytes are
+handle_sound : (handle prefix tag suffix : Text) (text inside rest : List ℕ)
+    → (tag_fault (prefix ++ suffix) ≡ None) × (tag_text (Some (prefix ++ suffix)) false ≡ handle_text handle suffix)
+    → encode_utf8_all (handle_text handle suffix) ≡ handle_text handle suffix → text ≡ handle ++ inside → tag ≡ prefix ++ suffix
     → inside ≡ percent_escaped suffix ++ space ∷ rest → (tag_fault tag ≡ None) × (text ≡ encode_utf8_all (tag_text (Some tag) false) ++ rest)
-type_sound tag suffix text inside rest cut some same read =
-    let is = type_is suffix some in
+handle_sound handle prefix tag suffix text inside rest is bytes cut same read =
     subst (λ (t : Text). (tag_fault t ≡ None) × (text ≡ encode_utf8_all (tag_text (Some t) false) ++ rest)) (sym same) (
       is.0,
-      cut ∙ ap (λ t. codes "!!" ++ t) (read ∙ sym (append_assoc (percent_escaped suffix) (space ∷ []) rest))
-          ∙ ap (λ t. t ++ rest) (sym (type_bytes suffix)) ∙ ap (λ t. encode_utf8_all t ++ rest) (sym is.1),
-    )
-
-pub document_sound : (tag suffix : Text) (text inside rest : List ℕ) → text ≡ codes "!" ++ inside → 0 < length suffix → tag ≡ codes "!" ++ suffix
-    → inside ≡ percent_escaped suffix ++ space ∷ rest → (tag_fault tag ≡ None) × (text ≡ encode_utf8_all (tag_text (Some tag) false) ++ rest)
-document_sound tag suffix text inside rest cut some same read =
-    let is = document_is suffix some in
-    subst (λ (t : Text). (tag_fault t ≡ None) × (text ≡ encode_utf8_all (tag_text (Some t) false) ++ rest)) (sym same) (
-      is.0,
-      cut ∙ ap (λ t. codes "!" ++ t) (read ∙ sym (append_assoc (percent_escaped suffix) (space ∷ []) rest))
-          ∙ ap (λ t. t ++ rest) (sym (document_bytes suffix)) ∙ ap (λ t. encode_utf8_all t ++ rest) (sym is.1),
+      cut ∙ ap (λ t. handle ++ t) (read ∙ sym (append_assoc (percent_escaped suffix) (space ∷ []) rest))
+          ∙ sym (append_assoc handle (percent_escaped suffix ++ space ∷ []) rest)
+          ∙ ap (λ t. t ++ rest) (sym bytes) ∙ ap (λ t. encode_utf8_all t ++ rest) (sym is.1),
     )
 
 -- ---- by its handle
@@ -329,6 +321,8 @@ pub tag_sound : (tag word : Text) (text prefix end inside rest : List ℕ) → O
 tag_sound tag word text _ _ inside rest (opens_whole _ cut) same spelled read =
     verbatim_sound tag text inside rest cut spelled (read ∙ ap (λ t. percent_escaped t ++ (codes "> " ++ rest)) (sym same))
 tag_sound tag word text _ _ inside rest (opens_type _ none cut) same spelled read =
-    type_sound tag word text inside rest cut (suffix_some type_prefix tag word same spelled) same read
+    let is = type_is word (suffix_some type_prefix tag word same spelled) in
+    handle_sound (codes "!!") type_prefix tag word text inside rest is (type_bytes word) cut same read
 tag_sound tag word text _ _ inside rest (opens_document _ none also cut) same spelled read =
-    document_sound tag word text inside rest cut (suffix_some (codes "!") tag word same spelled) same read
+    let is = document_is word (suffix_some (codes "!") tag word same spelled) in
+    handle_sound (codes "!") (codes "!") tag word text inside rest is (document_bytes word) cut same read

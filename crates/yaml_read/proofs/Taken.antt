@@ -79,19 +79,8 @@ taken_ends depth level value more whole text rest is ends found =
 taken_nowhere : (A : Type 0) (depth : ℕ) (level : OpenLevel) (value : TypedValue) (text : List ℕ) (error : Stop)
     → BehindRead depth (with_value level value) text (Err error) → ValueTaken {A = A} depth level value text (Err error)
 taken_nowhere A depth (pairs_open pairs) key text error lacks =
-    record {
-      read = λ whole levels at read. tt;
-      breaks = lead_breaks _ _ _ _ lacks.lacks;
-      shorter = tt;
-      took = tt;
-    }
-taken_nowhere A depth _ value text error lacks =
-    record {
-      read = λ whole levels at read. tt;
-      breaks = lacks.breaks;
-      shorter = tt;
-      took = tt;
-    }
+    record { read = λ whole levels at read. tt; breaks = lead_breaks _ _ _ _ lacks.lacks; shorter = tt; took = tt }
+taken_nowhere A depth _ value text error lacks = record { read = λ whole levels at read. tt; breaks = lacks.breaks; shorter = tt; took = tt }
 
 pub taken_lacks : (A : Type 0) (depth : ℕ) (level more : OpenLevel) (value : TypedValue) (text : List ℕ) (error : Stop) → more ≡ with_value level value
     → BehindRead depth more text (Err error) → ValueTaken {A = A} depth level value text (Err error)

@@ -54,14 +54,12 @@ null_leads levels column =
 
 true_leads : (levels : List OpenLevel) (column : ℕ) → LeadsTo (at_node levels) (value_text column (bool_value true)) (after_node levels)
 true_leads levels column =
-    words_lead (at_node levels) (after_node levels) (value_text column (bool_value true)) (tag_word kind.Bool ∷ codes "\"true\"" ∷ [])
-    (kind.Bool, (refl, inl (refl, tt))) refl
+    words_lead _ _ _ (tag_word kind.Bool ∷ codes "\"true\"" ∷ []) (kind.Bool, (refl, inl (refl, tt))) refl
     (value_flat column (bool_value true) kind.Bool (codes "\"true\"" ∷ []) refl (word_encoded (codes "\"true\"") [] refl))
 
 false_leads : (levels : List OpenLevel) (column : ℕ) → LeadsTo (at_node levels) (value_text column (bool_value false)) (after_node levels)
 false_leads levels column =
-    words_lead (at_node levels) (after_node levels) (value_text column (bool_value false)) (tag_word kind.Bool ∷ codes "\"false\"" ∷ [])
-    (kind.Bool, (refl, inr (refl, tt))) refl
+    words_lead _ _ _ (tag_word kind.Bool ∷ codes "\"false\"" ∷ []) (kind.Bool, (refl, inr (refl, tt))) refl
     (value_flat column (bool_value false) kind.Bool (codes "\"false\"" ∷ []) refl (word_encoded (codes "\"false\"") [] refl))
 
 -- ---- lines
@@ -115,15 +113,13 @@ deeper column depth same = omega (arith, same)
 empty_list_leads : (levels : List OpenLevel) (column : ℕ) → length levels < most_nested
     → LeadsTo (at_node levels) (value_text column (list_value no_values)) (after_node levels)
 empty_list_leads levels column room =
-    words_lead (at_node levels) (after_node levels) (value_text column (list_value no_values)) (tag_word kind.List ∷ codes "[" ∷ codes "]" ∷ [])
-    (kind.List, (refl, (refl, inl (room, inl (refl, tt))))) refl
+    words_lead _ _ _ (tag_word kind.List ∷ codes "[" ∷ codes "]" ∷ []) (kind.List, (refl, (refl, inl (room, inl (refl, tt))))) refl
     (value_flat column (list_value no_values) kind.List (codes "[" ∷ codes "]" ∷ []) refl (word_encoded (codes "[]") [] refl))
 
 empty_map_leads : (levels : List OpenLevel) (column : ℕ) → length levels < most_nested
     → LeadsTo (at_node levels) (value_text column (map_value no_value_pairs)) (after_node levels)
 empty_map_leads levels column room =
-    words_lead (at_node levels) (after_node levels) (value_text column (map_value no_value_pairs)) (tag_word kind.Map ∷ codes "{" ∷ codes "}" ∷ [])
-    (kind.Map, (refl, (refl, inl (room, inl (refl, tt))))) refl
+    words_lead _ _ _ (tag_word kind.Map ∷ codes "{" ∷ codes "}" ∷ []) (kind.Map, (refl, (refl, inl (room, inl (refl, tt))))) refl
     (value_flat column (map_value no_value_pairs) kind.Map (codes "{" ∷ codes "}" ∷ []) refl (word_encoded (codes "{}") [] refl))
 
 list_in : (levels : List OpenLevel) (column : ℕ) → column ≡ length levels * 2 → length levels < most_nested
@@ -148,10 +144,9 @@ map_in levels column same room =
 item_on : (levels : List OpenLevel) (column : ℕ) → column ≡ length levels * 2
     → LeadsTo (after_node (a_list ∷ levels)) (codes "," ++ line_at (column + 2)) (at_node (a_list ∷ levels))
 item_on levels column same =
-    entry_leads (after_node (a_list ∷ levels)) (at_node (a_list ∷ levels)) (length levels) (codes "  ") (codes "]") (codes "  ")
-    (codes "," ++ line_at (column + 2)) (λ words are. are) (inl (refl, tt)) refl
+    entry_leads _ _ (length levels) (codes "  ") (codes "]") (codes "  ") _ (λ words are. are) (inl (refl, tt)) refl
     (ap encode_utf8_all (ap (λ t. codes "," ++ t) (sym (append-nil (line_at (column + 2))) ∙ line_deeper column []))
-    ∙ entry_flat column (length levels) (codes "  ") same refl)
+    ∙ entry_flat _ (length levels) (codes "  ") same refl)
 
 list_out : (levels : List OpenLevel) (column : ℕ) → column ≡ length levels * 2
     → LeadsTo (after_node (a_list ∷ levels)) (codes "," ++ (line_at column ++ codes "]")) (after_node levels)
@@ -162,17 +157,15 @@ list_out levels column same =
 key_on : (levels : List OpenLevel) (column : ℕ) → column ≡ length levels * 2
     → LeadsTo (after_node (a_map ∷ levels)) (line_at (column + 2) ++ codes ": ") (at_node (a_key ∷ levels))
 key_on levels column same =
-    words_lead (after_node (a_map ∷ levels)) (at_node (a_key ∷ levels)) (line_at (column + 2) ++ codes ": ")
-    (codes "\n" ∷ (replicate (length levels) (codes "  ") ++ codes "  : " ∷ []))
+    words_lead _ _ _ (codes "\n" ∷ (replicate (length levels) (codes "  ") ++ codes "  : " ∷ []))
     (refl, levels_go (length levels) (word_then (codes "  : ") nothing) (codes "  : " ∷ []) (refl, tt)) refl
-    (ap encode_utf8_all (line_deeper column (codes ": ")) ∙ line_flat column (length levels) (codes "  : ") same refl)
+    (ap encode_utf8_all (line_deeper column (codes ": ")) ∙ line_flat _ (length levels) (codes "  : ") same refl)
 
 pair_on : (levels : List OpenLevel) (column : ℕ) → column ≡ length levels * 2
     → LeadsTo (after_node (a_key ∷ levels)) (codes "," ++ (line_at (column + 2) ++ codes "? ")) (at_node (a_map ∷ levels))
 pair_on levels column same =
-    entry_leads (after_node (a_key ∷ levels)) (at_node (a_map ∷ levels)) (length levels) (codes "  ? ") (codes "}") (codes "  ? ")
-    (codes "," ++ (line_at (column + 2) ++ codes "? ")) (λ words are. are) (inl (refl, tt)) refl
-    (ap encode_utf8_all (ap (λ t. codes "," ++ t) (line_deeper column (codes "? "))) ∙ entry_flat column (length levels) (codes "  ? ") same refl)
+    entry_leads _ _ (length levels) (codes "  ? ") (codes "}") (codes "  ? ") _ (λ words are. are) (inl (refl, tt)) refl
+    (ap encode_utf8_all (ap (λ t. codes "," ++ t) (line_deeper column (codes "? "))) ∙ entry_flat _ (length levels) (codes "  ? ") same refl)
 
 map_out : (levels : List OpenLevel) (column : ℕ) → column ≡ length levels * 2
     → LeadsTo (after_node (a_key ∷ levels)) (codes "," ++ (line_at column ++ codes "}")) (after_node levels)
@@ -253,12 +246,11 @@ mutual
 
   map_leads : (pairs : TypedPairs) (levels : List OpenLevel) (column : ℕ) → column ≡ length levels * 2 → length levels < most_nested
       → PairsCanBeReadAt (suc (length levels)) pairs → LeadsTo (at_node levels) (value_text column (map_value pairs)) (after_node levels)
-  map_leads no_value_pairs levels column same room readable = empty_map_leads levels column room
+  map_leads no_value_pairs levels column same room readable = empty_map_leads _ column room
   map_leads (value_pairs_and pairs key value) levels column same room readable =
-      pair_leads pairs key value levels column (line_at column ++ codes "}") (after_node levels)
-      (key_leads levels column same (map_begun column pairs) (value_text (column + 2) key) (pairs_lead pairs levels column same room readable.0)
+      pair_leads pairs key value _ column (line_at column ++ codes "}") _ (key_leads _ _ same _ _ (pairs_lead pairs levels column same room readable.0)
       (value_leads key (a_map ∷ levels) (column + 2) (deeper column (length levels) same) readable.1.0))
-      (value_leads value (a_key ∷ levels) (column + 2) (deeper column (length levels) same) readable.1.1) (map_out levels column same)
+      (value_leads value (a_key ∷ levels) (column + 2) (deeper column (length levels) same) readable.1.1) (map_out levels _ same)
 
   pub pairs_lead : (pairs : TypedPairs) (levels : List OpenLevel) (column : ℕ) → column ≡ length levels * 2 → length levels < most_nested
       → PairsCanBeReadAt (suc (length levels)) pairs → LeadsTo (at_node levels) (map_begun column pairs) (at_node (a_map ∷ levels))

@@ -4,7 +4,7 @@ use Rattle.yaml_read.proofs.Common.{append-nil, append_assoc, codes, flat_map, l
 use Rattle.yaml_read.proofs.Common.{character_text, Text, TypedValue, TypedValues, TypedPairs, null_value, bool_value, int_value, text_value, list_value}
 use Rattle.yaml_read.proofs.Common.{map_value, bool_text, most_nested, no_value_pairs, no_values, value_pairs_and, values_and, quote, in_quotes, line_at}
 use Rattle.yaml_read.proofs.Common.{value_text, ℤ, ◌^◌, encodes-append, signed_decimal, mag, behind_tag, behind_value, characters, these_or_those, entry_end}
-use Rattle.yaml_read.proofs.Common.{integer, levels_then, line_then, node, nothing, quoted_text, truth, unless_deep, word_then, OpenLevel, items_open}
+use Rattle.yaml_read.proofs.Common.{integer, levels_then, line_then, node, nothing, quoted_text, truth, word_then, OpenLevel, items_open}
 use Rattle.yaml_read.proofs.Common.{Completes, IsDue, column_in, item_follows, list_ends, map_ends, pair_follows, text_ends, value_follows, tag_word}
 use Rattle.yaml_read.proofs.Common.{CanBeReadAt, Kind, arith}
 use Rattle.yaml_read.proofs.HeadTexts.{list_tail, map_tail, value_bytes, value_tail, value_word}
@@ -40,14 +40,11 @@ levels_go : (depth : ℕ) (More : List (List ℕ) → Type 0) (bytes rest : List
     → BeginsWith (levels_then depth More) bytes
 levels_go zero More bytes rest is goes = subst (BeginsWith More) (sym is) goes
 levels_go (suc depth) More bytes rest is goes =
-    word_goes (levels_then depth More) (codes "  ") bytes (replicate (depth * 2) space ++ rest) (level_first depth bytes rest is)
-    (levels_go depth More (replicate (depth * 2) space ++ rest) rest refl goes)
+    word_goes _ (codes "  ") _ _ (level_first depth _ rest is) (levels_go depth More (replicate (depth * 2) space ++ rest) rest refl goes)
 
 line_goes : (depth : ℕ) (More : List (List ℕ) → Type 0) (bytes rest : List ℕ) → bytes ≡ line_at (depth * 2) ++ rest → BeginsWith More rest
     → BeginsWith (line_then depth More) bytes
-line_goes depth More bytes rest is goes =
-    word_goes (levels_then depth More) (codes "\n") bytes (replicate (depth * 2) space ++ rest) is
-    (levels_go depth More (replicate (depth * 2) space ++ rest) rest refl goes)
+line_goes depth More bytes rest is goes = word_goes _ (codes "\n") _ _ is (levels_go depth More (replicate (depth * 2) space ++ rest) rest refl goes)
 
 -- ---- after a tag
 
@@ -77,12 +74,8 @@ integer_goes n rest few =
     goes_on integer _ (encode_utf8_all word) _ _ (λ words more. (n, few, (refl, more))) (encodes-append word rest) (nothing_goes (encode_utf8_all rest))
 
 truth_goes : (b : Bool) (rest : Text) → BeginsWith truth (encode_utf8_all (in_quotes (bool_text b) ++ rest))
-truth_goes true rest =
-    goes_on truth nothing (codes "\"true\"") (encode_utf8_all (codes "\"true\"" ++ rest)) (encode_utf8_all rest) (λ words more. inl (refl, more))
-    (word_encoded (codes "\"true\"") rest refl) (nothing_goes (encode_utf8_all rest))
-truth_goes false rest =
-    goes_on truth nothing (codes "\"false\"") (encode_utf8_all (codes "\"false\"" ++ rest)) (encode_utf8_all rest) (λ words more. inr (refl, more))
-    (word_encoded (codes "\"false\"") rest refl) (nothing_goes (encode_utf8_all rest))
+truth_goes true rest = goes_on _ _ (codes "\"true\"") _ _ (λ words more. inl (refl, more)) (word_encoded (codes "\"true\"") rest refl) (nothing_goes _)
+truth_goes false rest = goes_on _ _ (codes "\"false\"") _ _ (λ words more. inr (refl, more)) (word_encoded (codes "\"false\"") rest refl) (nothing_goes _)
 
 -- the line of the first entry
 pub entry_line : (levels : List OpenLevel) (rest : Text)
@@ -92,44 +85,25 @@ entry_line levels rest = grind (arith, line_encoded, column_in, line_at, encode_
 list_goes : (levels : List OpenLevel) (items : TypedValues) (rest : Text) → length levels < most_nested
     → BeginsWith (behind_tag (length levels) kind.List) (encode_utf8_all (list_tail (column_in levels) items rest))
 list_goes levels no_values rest room =
-    let ends = word_then (codes "]") nothing in
-    let goes = line_then (suc (length levels)) nothing in
-    word_goes (unless_deep (length levels) (these_or_those ends goes)) (codes "[") (encode_utf8_all (codes "[]" ++ rest)) (encode_utf8_all (codes "]" ++ rest))
-    (word_encoded (codes "[") (codes "]" ++ rest) refl)
-    (goes_as ends (unless_deep (length levels) (these_or_those ends goes)) (encode_utf8_all (codes "]" ++ rest)) (λ words these. inl (room, inl these))
-    (word_goes _ (codes "]") (encode_utf8_all (codes "]" ++ rest)) _ (word_encoded (codes "]") rest refl) (nothing_goes (encode_utf8_all rest))))
+    word_goes _ (codes "[") _ _ (word_encoded (codes "[") (codes "]" ++ rest) refl) (goes_as _ _ _ (λ words these. inl (room, inl these))
+    (word_goes _ (codes "]") _ _ (word_encoded (codes "]") rest refl) (nothing_goes _)))
 list_goes levels (values_and items item) rest room =
-    let ends = word_then (codes "]") nothing in
-    let goes = line_then (suc (length levels)) nothing in
     let column = column_in levels in
     let inside = items_behind (column + 2) items item (codes "," ++ (line_at column ++ (codes "]" ++ rest))) in
-    let line = encode_utf8_all (line_at (column + 2) ++ inside) in
-    word_goes (unless_deep (length levels) (these_or_those ends goes)) (codes "[") (encode_utf8_all (list_tail column (values_and items item) rest)) line
-    (word_encoded (codes "[") (line_at (column + 2) ++ inside) refl)
-    (goes_as _ (unless_deep (length levels) (these_or_those ends goes)) _ (λ words these. inl (room, inr these))
-    (line_goes (suc (length levels)) _ _ _ (entry_line levels inside) (nothing_goes (encode_utf8_all inside))))
+    word_goes _ (codes "[") _ _ (word_encoded (codes "[") (line_at (column + 2) ++ inside) refl) (goes_as _ _ _ (λ words these. inl (room, inr these))
+    (line_goes (suc (length levels)) _ _ _ (entry_line levels inside) (nothing_goes _)))
 
 map_goes : (levels : List OpenLevel) (pairs : TypedPairs) (rest : Text) → length levels < most_nested
     → BeginsWith (behind_tag (length levels) kind.Map) (encode_utf8_all (map_tail (column_in levels) pairs rest))
 map_goes levels no_value_pairs rest room =
-    let ends = word_then (codes "}") nothing in
-    let goes = line_then (suc (length levels)) (word_then (codes "? ") nothing) in
-    word_goes (unless_deep (length levels) (these_or_those ends goes)) (codes "{") (encode_utf8_all (codes "{}" ++ rest)) (encode_utf8_all (codes "}" ++ rest))
-    (word_encoded (codes "{") (codes "}" ++ rest) refl)
-    (goes_as ends (unless_deep (length levels) (these_or_those ends goes)) (encode_utf8_all (codes "}" ++ rest)) (λ words these. inl (room, inl these))
-    (word_goes _ (codes "}") (encode_utf8_all (codes "}" ++ rest)) _ (word_encoded (codes "}") rest refl) (nothing_goes (encode_utf8_all rest))))
+    word_goes _ (codes "{") _ _ (word_encoded (codes "{") (codes "}" ++ rest) refl) (goes_as _ _ _ (λ words these. inl (room, inl these))
+    (word_goes _ (codes "}") _ _ (word_encoded (codes "}") rest refl) (nothing_goes _)))
 map_goes levels (value_pairs_and pairs key value) rest room =
-    let ends = word_then (codes "}") nothing in
-    let goes = line_then (suc (length levels)) (word_then (codes "? ") nothing) in
     let column = column_in levels in
     let inside = pairs_behind (column + 2) pairs key value (codes "," ++ (line_at column ++ (codes "}" ++ rest))) in
-    let line = encode_utf8_all (line_at (column + 2) ++ (codes "? " ++ inside)) in
-    word_goes (unless_deep (length levels) (these_or_those ends goes)) (codes "{")
-    (encode_utf8_all (map_tail column (value_pairs_and pairs key value) rest)) line
-    (word_encoded (codes "{") (line_at (column + 2) ++ (codes "? " ++ inside)) refl)
-    (goes_as goes (unless_deep (length levels) (these_or_those ends goes)) line (λ words these. inl (room, inr these))
-    (line_goes (suc (length levels)) (word_then (codes "? ") nothing) _ (encode_utf8_all (codes "? " ++ inside)) (entry_line levels (codes "? " ++ inside))
-    (word_goes _ (codes "? ") (encode_utf8_all (codes "? " ++ inside)) _ (word_encoded (codes "? ") inside refl) (nothing_goes (encode_utf8_all inside)))))
+    word_goes _ (codes "{") _ _ (word_encoded (codes "{") (line_at (column + 2) ++ (codes "? " ++ inside)) refl)
+    (goes_as _ _ _ (λ words these. inl (room, inr these)) (line_goes (suc (length levels)) _ _ _ (entry_line levels (codes "? " ++ inside))
+    (word_goes _ (codes "? ") _ _ (word_encoded (codes "? ") inside refl) (nothing_goes _))))
 
 -- ---- nodes
 
@@ -142,8 +116,7 @@ tail_goes : (levels : List OpenLevel) (k : Kind) (value : TypedValue) (rest : Te
     → BeginsWith (node (length levels)) (encode_utf8_all (value_text (column_in levels) value ++ rest))
 tail_goes levels k value rest same goes =
     let tail = encode_utf8_all (value_tail (column_in levels) value rest) in
-    tag_goes (length levels) k (encode_utf8_all (value_text (column_in levels) value ++ rest)) tail
-    (value_bytes (column_in levels) value rest ∙ ap (λ w. w ++ tail) same) goes
+    tag_goes (length levels) k _ _ (value_bytes (column_in levels) value rest ∙ ap (λ w. w ++ tail) same) goes
 
 node_goes : (levels : List OpenLevel) (value : TypedValue) (rest : Text) → CanBeReadAt (length levels) value
     → BeginsWith (node (length levels)) (encode_utf8_all (value_text (column_in levels) value ++ rest))
@@ -167,14 +140,13 @@ entry_goes : (depth : ℕ) (lead end word rest bytes : List ℕ) → these_or_th
     → bytes ≡ codes "," ++ (line_at (depth * 2) ++ (word ++ rest)) → BeginsWith (entry_end depth lead end) bytes
 entry_goes depth lead end word rest bytes are is =
     let ends = these_or_those (word_then lead nothing) (word_then end nothing) in
-    word_goes (line_then depth ends) (codes ",") bytes (line_at (depth * 2) ++ (word ++ rest)) is
-    (line_goes depth ends (line_at (depth * 2) ++ (word ++ rest)) (word ++ rest) refl
+    word_goes _ (codes ",") _ _ is (line_goes depth ends _ (word ++ rest) refl
     (record { words = word ∷ []; rest = rest; are = are; parts = ap (λ w. w ++ rest) (sym (append-nil word)) }))
 
 text_goes_on : (root : TypedValue) (levels : List OpenLevel) (value : TypedValue) (bytes : List ℕ) (text : Text) → bytes ≡ encode_utf8_all text
     → Completes root levels value text → BeginsWith (behind_value levels) bytes
 text_goes_on root _ _ bytes _ at (text_ends value text same is) =
-    word_goes nothing (codes "\n") bytes [] (at ∙ ap encode_utf8_all is ∙ word_encoded (codes "\n") [] refl) (nothing_goes [])
+    word_goes _ (codes "\n") _ _ (at ∙ ap encode_utf8_all is ∙ word_encoded (codes "\n") [] refl) (nothing_goes _)
 text_goes_on root _ _ bytes _ at (item_follows levels items value item rest text readable is more) =
     let tail = value_text (column_in levels + 2) item ++ rest in
     entry_goes (length levels) (codes "  ") (codes "]") (codes "  ") (encode_utf8_all tail) bytes (inl (refl, tt))
@@ -193,10 +165,8 @@ text_goes_on root _ _ bytes _ at (map_ends levels pairs key value rest text is m
     (at ∙ ap encode_utf8_all is ∙ comma_line levels (codes "}" ++ rest)
     ∙ ap (λ t. codes "," ++ (line_at (length levels * 2) ++ t)) (word_encoded (codes "}") rest refl))
 text_goes_on root _ _ bytes _ at (value_follows levels pairs key value rest text readable is more) =
-    let tail = encode_utf8_all (value_text (column_in levels + 2) value ++ rest) in
-    line_goes (length levels) (word_then (codes "  : ") nothing) bytes (codes "  : " ++ tail)
-    (at ∙ ap encode_utf8_all is ∙ key_line levels (value_text (column_in levels + 2) value ++ rest))
-    (word_goes nothing (codes "  : ") (codes "  : " ++ tail) tail refl (nothing_goes tail))
+    line_goes (length levels) _ _ _ (at ∙ ap encode_utf8_all is ∙ key_line levels (value_text (column_in levels + 2) value ++ rest))
+    (word_goes _ (codes "  : ") _ _ refl (nothing_goes _))
 
 -- if a value's text goes on after a node, it goes on with the words that may come there
 pub read_words : (root : TypedValue) (levels : List OpenLevel) (value : TypedValue) (bytes : List ℕ) → IsRead root levels value bytes

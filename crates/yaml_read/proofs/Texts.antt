@@ -24,8 +24,7 @@ seen_pair pair = (seen_value pair.0, seen_value pair.1)
 pairs_texts : {A : Type 0} (before : TypedPairs) → PairsHaveScalarTexts before → (pairs : List (Held A × Held A))
     → PairsHaveScalarTexts (pairs_of before (map seen_pair (map bare pairs)))
 pairs_texts before texts [] = texts
-pairs_texts before texts (pair ∷ pairs) =
-    pairs_texts (value_pairs_and before (seen_value pair.0.0) (seen_value pair.1.0)) (texts, (pair.0.1, pair.1.1)) pairs
+pairs_texts before texts (pair ∷ pairs) = pairs_texts (value_pairs_and before (seen_value pair.0.0) (seen_value pair.1.0)) (texts, (pair.0.1, pair.1.1)) pairs
 
 level_texts : {A : Type 0} (level : Value-F A (Held A))
     → HasScalarTexts (seen_value_level (map-Value A (Value A) TypedValue seen_value (map-Value A (Held A) (Value A) (λ held. held.0) level)))

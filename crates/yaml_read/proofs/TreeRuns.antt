@@ -66,18 +66,17 @@ mutual
   pub node_run : (node : Node) (levels : List Pending) (more : List Event) (rest : Text) → FollowsNode levels more rest
       → HasRunText levels (node_events node ++ more) (lead_text levels ++ (node_text (length levels * 2) node ++ (trail_text levels ++ rest)))
   node_run (alias_node name) levels more rest follows =
-      ends_node levels levels (alias name) more rest _ refl refl (leaf_grouped (lead_text levels) (codes "*" ++ name) (trail_text levels) rest) follows
+      ends_node _ levels (alias name) more rest _ refl refl (leaf_grouped (lead_text levels) (codes "*" ++ name) (trail_text levels) rest) follows
   node_run (scalar_node content) levels more rest follows =
-      ends_node levels levels (scalar content) more rest _ refl refl
+      ends_node _ levels (scalar content) more rest _ refl refl
       (leaf_grouped (lead_text levels) (scalar_properties content ++ in_quotes content.value) (trail_text levels) rest) follows
   node_run (sequence_node start items) levels more rest follows =
       let open_now = item_awaited (has_no_nodes items) ∷ levels in
       let ending = closing_line (length levels * 2) (has_no_nodes items) ++ codes "]" in
       let behind = ending ++ (trail_text levels ++ rest) in
       let ends : HasRunText open_now (sequence_end ∷ more) behind =
-      ends_node open_now levels sequence_end more rest _ refl refl (sym (append_assoc ending (trail_text levels) rest)) follows in
-      begins_node levels (item_awaited true) (sequence_start start) sequence_end (nodes_events items) more _ _ refl refl
-      (ap (λ (column : ℕ). lead_text levels
+      ends_node _ levels sequence_end more rest _ refl refl (sym (append_assoc ending (trail_text levels) rest)) follows in
+      begins_node _ (item_awaited true) (sequence_start start) sequence_end (nodes_events items) more _ _ refl refl (ap (λ (column : ℕ). lead_text levels
       ++ ((collection_properties start ++ (codes "[" ++ (nodes_text column items ++ ending))) ++ (trail_text levels ++ rest)))
       (deeper (item_awaited true) levels)
       ∙ start_grouped (lead_text levels) (collection_properties start) (codes "[") (nodes_text (length (item_awaited true ∷ levels) * 2) items) ending
@@ -87,8 +86,8 @@ mutual
       let ending = closing_line (length levels * 2) (has_no_pairs pairs) ++ codes "}" in
       let behind = ending ++ (trail_text levels ++ rest) in
       let ends : HasRunText open_now (mapping_end ∷ more) behind =
-      ends_node open_now levels mapping_end more rest _ refl refl (sym (append_assoc ending (trail_text levels) rest)) follows in
-      begins_node levels (key_awaited true) (mapping_start start) mapping_end (pairs_events pairs) more _ _ refl refl (ap (λ (column : ℕ). lead_text levels
+      ends_node _ levels mapping_end more rest _ refl refl (sym (append_assoc ending (trail_text levels) rest)) follows in
+      begins_node _ (key_awaited true) (mapping_start start) mapping_end (pairs_events pairs) more _ _ refl refl (ap (λ (column : ℕ). lead_text levels
       ++ ((collection_properties start ++ (codes "{" ++ (node_pairs_text column pairs ++ ending))) ++ (trail_text levels ++ rest)))
       (deeper (key_awaited true) levels)
       ∙ start_grouped (lead_text levels) (collection_properties start) (codes "{") (node_pairs_text (length (key_awaited true ∷ levels) * 2) pairs) ending

@@ -4,8 +4,7 @@ use Rattle.yaml_read.proofs.Common.{OpenLevel, seen_levels, value_due, Level, Ke
 use Rattle.yaml_read.proofs.Common.{column_in, KeysAllow, OpenKeysAllow, IsPlacedBy, Ended, Moved, NodeStepped, KeyStop, ReadError, OpenKeys, Next}
 use Rattle.yaml_read.proofs.UniqueSoFar.{HasNewKey, ended_allows, key_unique, moved_unique, unique_allows}
 use Rattle.yaml_read.{specs.Errors.TellsKey, specs.HeldKeys.HoldBy, specs.HeldKeys.KeyRepeats, specs.HeldKeys.TextRead}
-use Rattle.yaml_read.{specs.declared.levels.Next.TheVariants.Node}
-use Rattle.yaml_read.proofs.{KeyTexts.key_again, KeyTexts.new_key, Placing.stops_placed}
+use Rattle.yaml_read.{specs.declared.levels.Next.TheVariants.Node, proofs.KeyTexts.key_again, proofs.KeyTexts.new_key, proofs.Placing.stops_placed}
 use Rattle.yaml_value.specs.declared.keys.Keys.TheVariants as keys
 use Rattle.yaml_read.specs.declared.errors.KeyStop.TheVariants as key
 
@@ -25,13 +24,7 @@ pub text_begins : {A : Type 0} (mode : Keys) (text bytes : List ℕ) (held : Lis
     → TextAt mode text [] bytes held
 text_begins mode text bytes held is none =
     let begun = hold_none mode bytes held none in
-    record {
-      whole = bytes;
-      text_is = is;
-      opened = record { text = refl; readable = tt };
-      hold = begun.0;
-      allow = begun.1;
-    }
+    record { whole = bytes; text_is = is; opened = record { text = refl; readable = tt }; hold = begun.0; allow = begun.1 }
 
 new_innermost : (levels : List OpenLevel) → InnermostIsNew levels → HasNewKey levels
 new_innermost (value_due pairs key ∷ outer) is = new_key (column_in outer + 2) pairs key is
@@ -46,25 +39,12 @@ module _ {A : Type 0} (mode : Keys) (text : List ℕ) (before after : List OpenL
     (so_far : TextAt mode text before bytes old) (stepped : NodeStepped {A = A} before after bytes (Ok (Node rest))) where
   -- the next node is open
   abbrev pub follows : FollowsKeys mode old after rest.now
-  follows =
-      record {
-        whole = so_far.whole;
-        before = before;
-        held = so_far.hold;
-        moved = stepped.moved;
-        opened = stepped.read so_far.whole so_far.opened;
-      }
+  follows = record { whole = so_far.whole; before = before; held = so_far.hold; moved = stepped.moved; opened = stepped.read so_far.whole so_far.opened }
 
   pub text_on : (new : List (OpenKeys A)) → FollowedBy mode follows.whole after new (Ok tt) → TextAt mode text after rest.now new
   text_on new followed =
       let held = hold_on mode so_far.whole before after new stepped.moved so_far.allow followed in
-      record {
-        whole = so_far.whole;
-        text_is = so_far.text_is;
-        opened = stepped.read so_far.whole so_far.opened;
-        hold = held.0;
-        allow = held.1;
-      }
+      record { whole = so_far.whole; text_is = so_far.text_is; opened = stepped.read so_far.whole so_far.opened; hold = held.0; allow = held.1 }
 
 -- a key repeats
 module _ {A : Type 0} (text : List ℕ) (before after : List OpenLevel) (bytes : List ℕ) (rest : Bor (List ℕ)) (old : List (OpenKeys A))

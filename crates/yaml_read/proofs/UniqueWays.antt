@@ -47,22 +47,15 @@ module _ (whole : List ℕ) (next : Spot) (bytes rest : List ℕ) (words : List 
       → Ends whole (OpenHasUniqueKeys levels)
   node_on levels (whole_value value readable text leads) to opened =
       ends_as whole (OpenHasUniqueKeys levels × HasUniqueKeys value) (OpenHasUniqueKeys levels) (λ both. both.0)
-      (goes.behind levels value (same_some next (after_node (bare levels)) (sym to ∙ leads (bare levels)))
-      (value_in _ _ value _ rest opened (is ∙ ap (λ t. t ++ rest) (sym text)) readable))
+      (goes.behind levels value (same_some _ _ (sym to ∙ leads (bare levels))) (value_in _ _ _ _ _ opened (is ∙ ap (λ t. t ++ rest) (sym text)) readable))
   node_on levels (list_opened room text leads) to opened =
       ends_as whole (OpenHasUniqueKeys (items_open no_values ∷ levels)) (OpenHasUniqueKeys levels) (λ both. both.0)
-      (goes.node (items_open no_values ∷ levels) (same_some next (at_node (a_list ∷ bare levels)) (sym to ∙ leads (bare levels)))
-      (record {
-        text = word_read _ _ rest _ (codes "!!seq [" ++ line_at (column_in levels + 2)) (opened_text levels) opened.text is text;
-        readable = (opened.readable, (room, tt));
-      }))
+      (goes.node (items_open no_values ∷ levels) (same_some _ _ (sym to ∙ leads (bare levels)))
+      (record { text = word_read _ _ rest _ _ (opened_text levels) opened.text is text; readable = (opened.readable, (room, tt)) }))
   node_on levels (map_opened room text leads) to opened =
       ends_as whole (OpenHasUniqueKeys (pairs_open no_value_pairs ∷ levels)) (OpenHasUniqueKeys levels) (λ both. both.0)
-      (goes.node (pairs_open no_value_pairs ∷ levels) (same_some next (at_node (a_map ∷ bare levels)) (sym to ∙ leads (bare levels)))
-      (record {
-        text = word_read _ _ rest _ (codes "!!map {" ++ (line_at (column_in levels + 2) ++ codes "? ")) (opened_text levels) opened.text is text;
-        readable = (opened.readable, (room, tt));
-      }))
+      (goes.node (pairs_open no_value_pairs ∷ levels) (same_some _ _ (sym to ∙ leads (bare levels)))
+      (record { text = word_read _ _ rest _ _ (opened_text levels) opened.text is text; readable = (opened.readable, (room, tt)) }))
   node_on levels (lies_deep deep leads) to opened = absurd (none_some next (sym (leads (bare levels)) ∙ to))
 
   -- the bytes of an entry's end, and the place after it

@@ -1,13 +1,12 @@
 -- A graph without styles has the events of the graph without theirs.
-use Rattle.yaml_base.proofs.Common.{arith, ℕ, [], ◌∷◌, ◌++◌, ◌==◌, ◌&&◌, ◌≡◌, ◌∙◌, if◌then◌else◌, Bool, true, false, Option, List, refl, ap, sym}
-use Rattle.yaml_base.proofs.Common.{map, flat_map, length, list_all, nat_le, option_map, map-append, length-map, Text, Event, document_start, document_end}
-use Rattle.yaml_base.proofs.Common.{Held, GraphNode, Graph, node_numbered, numbers_held, numbers_in, children, Step, enters, leaves, meets_again}
-use Rattle.yaml_base.proofs.Common.{anchor_of, opening_event_of, opening_events, closing_event_of, closing_events, step_events, document_event_list}
-use Rattle.yaml_base.proofs.Common.{IsWholeGraph}
+use Rattle.yaml_base.proofs.Common.{arith, ℕ, [], ◌∷◌, ◌++◌, ◌==◌, ◌&&◌, ◌≡◌, ◌∙◌, if◌then◌else◌, Bool, true, false, Option, List, refl, ap, sym, map}
+use Rattle.yaml_base.proofs.Common.{flat_map, length, list_all, nat_le, option_map, map-append, length-map, Text, Event, document_start, document_end, Held}
+use Rattle.yaml_base.proofs.Common.{GraphNode, Graph, node_numbered, numbers_held, numbers_in, children, Step, enters, leaves, meets_again, anchor_of}
+use Rattle.yaml_base.proofs.Common.{opening_event_of, opening_events, closing_event_of, closing_events, step_events, document_event_list, IsWholeGraph}
 use Rattle.yaml_base.{proofs.Unstyled.unstyled, specs.graphs.Meetings.graph_steps}
 use Rattle.std.proofs.lemmas.Option.{slice_get-map}
-use Rattle.yaml_read.specs.DocumentTexts.{unstyled_graph, unstyled_held, unstyled_node}
-use Rattle.yaml_read.proofs.{ChildWalks.walks_same, NodeEvents.root_events}
+use Rattle.yaml_read.{specs.DocumentTexts.unstyled_graph, specs.DocumentTexts.unstyled_held, specs.DocumentTexts.unstyled_node, proofs.ChildWalks.walks_same}
+use Rattle.yaml_read.{proofs.NodeEvents.root_events}
 
 -- ---- nodes and their children
 

@@ -102,25 +102,23 @@ map_step levels words (same, inr (deep, ends)) =
 
 tag_step : (levels : List OpenLevel) (k : Kind) (words : List (List ℕ)) → behind_tag (length levels) k words → NodeStep levels (tag_word k ∷ words)
 tag_step levels kind.Null words are =
-    scalar_step levels kind.Null null_value _ _ (single (codes "\"null\"") words are) refl tt (word_encoded (codes "\"null\"") [] refl) (λ spots. refl)
+    scalar_step _ kind.Null null_value _ _ (single (codes "\"null\"") words are) refl tt (word_encoded (codes "\"null\"") [] refl) (λ spots. refl)
 tag_step levels kind.Bool words (inl are) =
-    scalar_step levels kind.Bool (bool_value true) _ _ (single (codes "\"true\"") words are) refl tt
-    (word_encoded (codes "\"true\"") [] refl) (λ spots. refl)
+    scalar_step _ kind.Bool (bool_value true) _ _ (single (codes "\"true\"") words are) refl tt (word_encoded (codes "\"true\"") [] refl) (λ spots. refl)
 tag_step levels kind.Bool words (inr are) =
-    scalar_step levels kind.Bool (bool_value false) _ _ (single (codes "\"false\"") words are) refl tt
-    (word_encoded (codes "\"false\"") [] refl) (λ spots. refl)
+    scalar_step _ kind.Bool (bool_value false) _ _ (single (codes "\"false\"") words are) refl tt (word_encoded (codes "\"false\"") [] refl) (λ spots. refl)
 tag_step levels kind.Int words are =
     let word = encode_utf8_all (in_quotes (signed_decimal are.0)) in
-    scalar_step levels kind.Int (int_value are.0) _ _ (single word words are.2) refl are.1
+    scalar_step _ kind.Int (int_value are.0) _ _ (single word words are.2) refl are.1
     (encodes-append (in_quotes (signed_decimal are.0)) []) (λ spots. ap (next_spot (at_node spots)) (quotes_first (signed_decimal are.0)))
 tag_step levels kind.Text words are =
     let text = quoted_of words are in
-    scalar_step levels kind.Text (text_value text.0) _ _ text.2 refl text.1 (ap encode_utf8_all (append-nil (in_quotes text.0)) ∙ sym (words_flat text.0))
+    scalar_step _ kind.Text (text_value text.0) _ _ text.2 refl text.1 (ap encode_utf8_all (append-nil (in_quotes text.0)) ∙ sym (words_flat text.0))
     (λ spots. ap (next_spot (at_node spots)) (inner_mark (codes "\"") text.0))
 tag_step levels kind.List (word ∷ words) are =
-    subst (λ (w : List ℕ). NodeStep levels (tag_word kind.List ∷ w ∷ words)) (sym are.0) (list_step levels words (refl, are.1))
+    subst (λ (w : List ℕ). NodeStep levels (tag_word kind.List ∷ w ∷ words)) (sym are.0) (list_step _ words (refl, are.1))
 tag_step levels kind.Map (word ∷ words) are =
-    subst (λ (w : List ℕ). NodeStep levels (tag_word kind.Map ∷ w ∷ words)) (sym are.0) (map_step levels words (refl, are.1))
+    subst (λ (w : List ℕ). NodeStep levels (tag_word kind.Map ∷ w ∷ words)) (sym are.0) (map_step _ words (refl, are.1))
 tag_step levels _ [] are = absurd are
 
 pub node_step : (levels : List OpenLevel) (words : List (List ℕ)) → node (length levels) words → NodeStep levels words

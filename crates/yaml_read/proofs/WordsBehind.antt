@@ -129,8 +129,7 @@ behind_words [] value words are =
       rest = [];
       is = word_encoded (codes "\n") [] refl ∙ ap (λ ws. flat ws ++ []) (sym (single (codes "\n") words are));
     }
-behind_words (items_open items ∷ levels) value words are =
-    behind_item levels items value words (entry_words (length levels) (codes "  ") (codes "]") words are)
+behind_words (items_open items ∷ levels) value words are = behind_item levels items _ _ (entry_words (length levels) (codes "  ") (codes "]") words are)
 behind_words (value_due pairs key ∷ levels) value words are =
-    behind_pair levels pairs key value words (entry_words (length levels) (codes "  ? ") (codes "}") words are)
-behind_words (pairs_open pairs ∷ levels) key words are = behind_key levels pairs key words (key_words (length levels) words are)
+    behind_pair levels pairs key _ _ (entry_words (length levels) (codes "  ? ") (codes "}") words are)
+behind_words (pairs_open pairs ∷ levels) key words are = behind_key levels pairs _ _ (key_words (length levels) words are)

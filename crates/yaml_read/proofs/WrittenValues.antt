@@ -1,11 +1,10 @@
 -- A value that can be read has its bytes, and no other value has them.
 use Rattle.yaml_base.proofs.Common.{false, ℕ, ◌+◌, ◌<◌, ◌≤◌, ◌≡◌, ◌∙◌, suc, List, ap, sym, arith, length, encode_utf8_all, canonical_content}
-use Rattle.yaml_base.specs.values.TypedValues.{TypedValue, int_value, text_value, list_value, map_value, TypedValues, no_values}
-use Rattle.yaml_base.specs.values.TypedValues.{values_and, TypedPairs, no_value_pairs, value_pairs_and, WritesValue, nesting, values_nesting}
-use Rattle.yaml_base.specs.values.TypedValues.{value_pairs_nesting, most_nested}
+use Rattle.yaml_base.specs.values.TypedValues.{TypedValue, int_value, text_value, list_value, map_value, TypedValues, no_values, values_and, TypedPairs}
+use Rattle.yaml_base.specs.values.TypedValues.{no_value_pairs, value_pairs_and, WritesValue, nesting, values_nesting, value_pairs_nesting, most_nested}
 use Rattle.yaml_base.{proofs.Decoding.text_bytes-utf8, specs.Settings.largest_usize, specs.graphs.DumpedText.document_text}
-use Rattle.yaml_value.proofs.{ContentLemmas.stream_tells_value, WritingLemmas.holds_bits, WritingLemmas.text_reads, WritingLemmas.writes_value}
-use Rattle.yaml_value.specs.WalkTexts.{HoldsOfProgram, HoldOfProgram, PairsHoldOfProgram}
+use Rattle.yaml_value.{proofs.ContentLemmas.stream_tells_value, proofs.WritingLemmas.holds_bits, proofs.WritingLemmas.text_reads}
+use Rattle.yaml_value.{proofs.WritingLemmas.writes_value, specs.WalkTexts.HoldsOfProgram, specs.WalkTexts.HoldOfProgram, specs.WalkTexts.PairsHoldOfProgram}
 use Rattle.yaml_read.specs.Readable.{CanBeReadAt, AllCanBeReadAt, PairsCanBeReadAt}
 
 mutual

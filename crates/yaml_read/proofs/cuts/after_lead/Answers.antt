@@ -1,6 +1,5 @@
-use Rattle.yaml_read.proofs.Common.{◌*◌, arith, IfOk-weaker, line_at}
-use Rattle.yaml_read.specs.Stepped.{no_line}
-use Rattle.yaml_read.proofs.{Entries.lead_behind, Words.cuts_behind, Words.first_none}
+use Rattle.yaml_read.{proofs.Common.◌*◌, proofs.Common.arith, proofs.Common.IfOk-weaker, proofs.Common.line_at, specs.Stepped.no_line}
+use Rattle.yaml_read.{proofs.Entries.lead_behind, proofs.Words.cuts_behind, proofs.Words.first_none}
 use Rattle.yaml_read.proofs.cuts.after_lead.Goals as goal
 
 pub returns-in-Ok : goal.returns-in-Ok

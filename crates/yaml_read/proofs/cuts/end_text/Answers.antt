@@ -1,5 +1,4 @@
-use Rattle.yaml_read.proofs.Common.{more_follows}
-use Rattle.yaml_read.proofs.Opening.{some_left}
+use Rattle.yaml_read.proofs.{Common.more_follows, Opening.some_left}
 use Rattle.yaml_read.proofs.cuts.end_text.Goals as goal
 
 pub returns-else-is_empty : goal.returns-else-is_empty

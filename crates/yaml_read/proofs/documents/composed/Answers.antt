@@ -1,5 +1,4 @@
-use Rattle.yaml_read.proofs.Common.{◌≡◌, ◌∙◌, sym, graph_of}
-use Rattle.yaml_read.proofs.DocumentsRead.{has_nodes}
+use Rattle.yaml_read.proofs.{Common.◌≡◌, Common.◌∙◌, Common.sym, Common.graph_of, DocumentsRead.has_nodes}
 use Rattle.yaml_dump.specs.declared.composing.ComposeError.TheVariants as compose
 use Rattle.yaml_read.proofs.documents.composed.Goals as goal
 

@@ -24,10 +24,7 @@ pub returns-in-Err-after : goal.returns-in-Err-after
 returns-in-Err-after c =
     let line = line_at (c.args.depth * 2) in
     record {
-      stands = (
-        longer_none line _ _ _ c.in-Ok.ensures.cut c.in-None.ensures.cut,
-        longer_none line _ _ _ c.in-Ok.ensures.cut c.in-Err-after.ensures.cut,
-      );
+      stands = (longer_none line _ _ _ c.in-Ok.ensures.cut c.in-None.ensures.cut, longer_none line _ _ _ c.in-Ok.ensures.cut c.in-Err-after.ensures.cut);
       breaks =
           line_passed c.args.depth _ c.in-Ok.line.now
           (these_or_those (word_then c.args.lead.now nothing) (word_then c.args.end.now nothing)) c.in-Err-after.stop c.in-Ok.ensures.cut
@@ -39,10 +36,7 @@ pub returns-in-Err : goal.returns-in-Err
 returns-in-Err c =
     let line = line_at (c.args.depth * 2) in
     record {
-      stands = (
-        first_none line c.args.lead.now c.args.text.now c.in-Err.ensures.cut,
-        first_none line c.args.end.now c.args.text.now c.in-Err.ensures.cut,
-      );
+      stands = (first_none line c.args.lead.now c.args.text.now c.in-Err.ensures.cut, first_none line c.args.end.now c.args.text.now c.in-Err.ensures.cut);
       breaks =
           line_lacks c.args.depth c.args.text.now (these_or_those (word_then c.args.lead.now nothing) (word_then c.args.end.now nothing))
           c.in-Err.stop (c.args.lead.now ∷ []) c.in-Err.ensures.lacks (inl (refl, tt));

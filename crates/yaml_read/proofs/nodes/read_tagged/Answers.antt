@@ -1,8 +1,7 @@
 use Rattle.yaml_read.proofs.Common.{◌++◌, [], ap, codes, refl, string_bytes, sym, ◌∙◌, IsUtf8-string_bytes, scalars-chars, any_layout, seen_text}
 use Rattle.yaml_read.proofs.Common.{mapping_held, sequence_held, mapping_opened, sequence_opened}
 use Rattle.yaml_read.proofs.NodeTexts.{at_brace, at_bracket, at_quote, held_read, none_read, tagged_read}
-use Rattle.yaml_read.specs.Beginnings.{NoTagged}
-use Rattle.yaml_read.proofs.{HeadsRead.word_bytes, Words.memory_only}
+use Rattle.yaml_read.{specs.Beginnings.NoTagged, proofs.HeadsRead.word_bytes, proofs.Words.memory_only}
 use Rattle.yaml_read.proofs.nodes.read_tagged.Goals as goal
 
 pub returns-in-Some : goal.returns-in-Some

@@ -1,14 +1,9 @@
-use Rattle.yaml_read.proofs.Common.{sym, ◌∙◌, true≢false, IfSome_then}
-use Rattle.yaml_read.proofs.{FirstCharacters.backslash_first, FirstCharacters.character_there, FirstCharacters.itself_first, CharactersRead.escape_read}
-use Rattle.yaml_read.proofs.{CharactersRead.itself_read, CharactersRead.scalar_of}
+use Rattle.yaml_read.proofs.{Common.sym, Common.◌∙◌, Common.true≢false, Common.IfSome_then, FirstCharacters.backslash_first, FirstCharacters.character_there}
+use Rattle.yaml_read.proofs.{FirstCharacters.itself_first, CharactersRead.escape_read, CharactersRead.itself_read, CharactersRead.scalar_of}
 use Rattle.yaml_read.proofs.quoted.read_character.Goals as goal
 
 pub returns-in-None : goal.returns-in-None
-returns-in-None c =
-    record {
-      reads = λ d rest scalar is. absurd (character_there d rest c.args.text.now is c.in-None.ensures.cut);
-      sound = tt;
-    }
+returns-in-None c = record { reads = λ d rest scalar is. absurd (character_there d rest c.args.text.now is c.in-None.ensures.cut); sound = tt }
 
 pub returns-then-c-eq92 : goal.returns-then-c-eq92
 returns-then-c-eq92 c =

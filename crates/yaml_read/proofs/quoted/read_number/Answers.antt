@@ -1,5 +1,4 @@
-use Rattle.yaml_read.proofs.Common.{◌∷◌, [], Some, ℕ, ◌≤◌, true, ap, subst, sym, ◌∙◌, all_scalars, letter_among, needs_escape}
-use Rattle.yaml_read.proofs.Common.{short_escapes}
+use Rattle.yaml_read.proofs.Common.{◌∷◌, [], Some, ℕ, ◌≤◌, true, ap, subst, sym, ◌∙◌, all_scalars, letter_among, needs_escape, short_escapes}
 use Rattle.yaml_read.proofs.quoted.read_number.Goals as goal
 
 pub returns-in-Some-character_of : goal.returns-in-Some-character_of

@@ -57,16 +57,12 @@ characters-smaller g c = character_shorter _ _ _ c.in-Some-read_character.ensure
 pub characters-preserved : goal.characters-preserved
 characters-preserved g c = (
   search rules,
-  omega (
-    arith,
-    c.characters.invariant.1,
-    character_shorter _ _ _ c.in-Some-read_character.ensures.sound,
-  ),
+  omega (arith, c.characters.invariant.1, character_shorter _ _ _ c.in-Some-read_character.ensures.sound),
   subst (λ (value : List ℕ). ReadsOn c.args.text.now value c.in-Some-read_character.next.now) (sym c.in-Ok-push.ensures.bytes)
       (record {
         left = λ value rest scalars is.
-            reads_more _ (string_bytes c.characters.value) c.characters.rest.now
-            (Some (c.in-Some-read_character.c, c.in-Some-read_character.next)) c.characters.invariant.2 c.in-None.ensures.cut c.in-Some-read_character.ensures.reads value rest scalars is;
+            reads_more _ (string_bytes c.characters.value) c.characters.rest.now (Some (c.in-Some-read_character.c, c.in-Some-read_character.next))
+            c.characters.invariant.2 c.in-None.ensures.cut c.in-Some-read_character.ensures.reads value rest scalars is;
       }),
   subst (λ (value : List ℕ). ReadSoFar c.args.text.now value c.in-Some-read_character.next.now) (sym c.in-Ok-push.ensures.bytes)
       (one_more _ _ _ _ _ c.characters.invariant.3 c.in-Some-read_character.ensures.sound),

@@ -1,5 +1,4 @@
-use Rattle.yaml_read.proofs.Common.{subst, sym, ◌∙◌, ◌<◌, rules, length, largest_usize, seen_value, KeyStopsAt, IsUtf8, inr, text_bytes-utf8}
-use Rattle.yaml_read.proofs.Common.{document_text}
+use Rattle.yaml_read.proofs.Common.{subst, sym, ◌∙◌, ◌<◌, rules, length, largest_usize, seen_value, KeyStopsAt, IsUtf8, inr, text_bytes-utf8, document_text}
 use Rattle.yaml_read.proofs.{Scalars.document_utf8, UniqueTexts.key_placed, UniqueWays.none_allowed, WrittenValues.written_value}
 use Rattle.yaml_read.proofs.reading.read_canonical_with.Goals as goal
 

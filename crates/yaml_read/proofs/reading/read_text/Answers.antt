@@ -1,7 +1,6 @@
 use Rattle.yaml_read.proofs.Common.{List, subst, sym, rules, seen_value, seen_levels, Level, NextMoved, Next}
 use Rattle.yaml_read.proofs.UniqueTexts.{TextAt, follow_stops, follows, stepped_at, text_begins, text_on, whole_allows}
-use Rattle.yaml_read.specs.Opened.{NextRead}
-use Rattle.yaml_read.proofs.{Opening.text_read, Placing.marker_stops, Placing.text_stops}
+use Rattle.yaml_read.{specs.Opened.NextRead, proofs.Opening.text_read, proofs.Placing.marker_stops, proofs.Placing.text_stops}
 use Rattle.yaml_read.proofs.reading.read_text.Goals as goal
 
 pub nodes-init : goal.nodes-init
@@ -13,11 +12,7 @@ nodes-init g c = (
 )
 
 pub returns-in-Err : goal.returns-in-Err
-returns-in-Err g c =
-    record {
-      sound = tt;
-      stops = marker_stops c.args.keys c.args.text.now c.in-Err.stop c.in-Err.ensures.cut c.in-Err.ensures.placed;
-    }
+returns-in-Err g c = record { sound = tt; stops = marker_stops c.args.keys c.args.text.now c.in-Err.stop c.in-Err.ensures.cut c.in-Err.ensures.placed }
 
 pub returns-in-Err-step : goal.returns-in-Err-step
 returns-in-Err-step g c =
@@ -34,8 +29,7 @@ returns-in-Done g c =
     let so_far = c.nodes.invariant.1 in
     let before = seen_levels c.nodes.levels.items in
     let after = seen_levels c.step.new.levels.items in
-    let read = subst (λ (next : Next g.row.A.Denot). NextRead so_far.whole after next) c.in-Done.is
-    (c.in-Ok-step.ensures.read so_far.whole so_far.opened) in
+    let read = subst (λ (next : Next g.row.A.Denot). NextRead so_far.whole after next) c.in-Done.is (c.in-Ok-step.ensures.read so_far.whole so_far.opened) in
     let moved = subst (λ (next : Next g.row.A.Denot). NextMoved before after next) c.in-Done.is c.in-Ok-step.ensures.moved in
     record {
       sound = (

@@ -1,5 +1,4 @@
-use Rattle.yaml_read.proofs.Common.{length, Utf8, shadow, seen_levels}
-use Rattle.yaml_read.proofs.UniqueTexts.{TextAt}
+use Rattle.yaml_read.proofs.{Common.length, Common.Utf8, Common.shadow, Common.seen_levels, UniqueTexts.TextAt}
 use Rattle.yaml_read.proofs.reading.read_text.Given as goal
 
 abbrev pub invariant-nodes : goal.invariant-nodes

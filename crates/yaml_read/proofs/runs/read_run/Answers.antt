@@ -1,5 +1,4 @@
-use Rattle.yaml_read.proofs.Common.{map, Err, refl, seen_event}
-use Rattle.yaml_read.proofs.EventRuns.{end_answer, end_lacking, run_ends}
+use Rattle.yaml_read.proofs.{Common.map, Common.Err, Common.refl, Common.seen_event, EventRuns.end_answer, EventRuns.end_lacking, EventRuns.run_ends}
 use Rattle.yaml_read.proofs.runs.read_run.Goals as goal
 
 pub returns-in-Ok-end_text : goal.returns-in-Ok-end_text

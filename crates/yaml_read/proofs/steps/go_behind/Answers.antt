@@ -1,5 +1,4 @@
-use Rattle.yaml_read.proofs.Common.{ap, ◌∙◌, seen_awaits}
-use Rattle.yaml_read.proofs.{Awaits.await_more, EventSteps.opened_on}
+use Rattle.yaml_read.proofs.{Common.ap, Common.◌∙◌, Common.seen_awaits, Awaits.await_more, EventSteps.opened_on}
 use Rattle.yaml_read.proofs.steps.go_behind.Goals as goal
 
 pub returns-in-Ok-clause-goes : goal.returns-in-Ok-clause-goes

@@ -1,6 +1,5 @@
 use Rattle.yaml_read.proofs.Common.{◌≡◌, None, ap, ◌∙◌, seen_await, seen_awaits, trail_text, past_word}
-use Rattle.yaml_read.proofs.Awaits.{await_more, node_left, node_stays}
-use Rattle.yaml_read.proofs.{NodeTexts.none_read}
+use Rattle.yaml_read.proofs.{Awaits.await_more, Awaits.node_left, Awaits.node_stays, NodeTexts.none_read}
 use Rattle.yaml_read.proofs.steps.leave_node.Goals as goal
 
 pub returns-in-Ok-push-clause-goes : goal.returns-in-Ok-push-clause-goes

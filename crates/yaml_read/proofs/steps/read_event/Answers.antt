@@ -1,11 +1,9 @@
-use Rattle.yaml_read.proofs.Common.{◌++◌, ◌∷◌, ◌∙◌, [], List, ap, encode_utf8_all, map, refl, subst, sym, map-append, Event, seen_event, GoesTo}
-use Rattle.yaml_read.proofs.Common.{Pending, left_open, outside, trail_text, NoEventBegins, Another, End, closing_event, seen_awaits, past_word}
-use Rattle.yaml_read.proofs.Common.{IsEventPlace}
+use Rattle.yaml_read.proofs.Common.{◌++◌, ◌∷◌, ◌∙◌, [], List, ap, encode_utf8_all, map, refl, subst, sym, map-append, Event, seen_event, GoesTo, Pending}
+use Rattle.yaml_read.proofs.Common.{left_open, outside, trail_text, NoEventBegins, Another, End, closing_event, seen_awaits, past_word, IsEventPlace}
 use Rattle.yaml_read.proofs.Awaits.{awaits_length, innermost_is, lead_at, taken_off}
 use Rattle.yaml_read.proofs.EventSteps.{end_due, end_read, event_read, it_comes, node_due, none_comes}
-use Rattle.yaml_read.proofs.EventPlaces.{bracket_placed, lead_placed, whole_placed_at}
-use Rattle.yaml_read.proofs.{NodeTexts.none_read, NodeTexts.read_or_then, Words.no_word}
-use Rattle.yaml_read.specs.RunPlaces.{at_event}
+use Rattle.yaml_read.{proofs.EventPlaces.bracket_placed, proofs.EventPlaces.lead_placed, proofs.EventPlaces.whole_placed_at, proofs.NodeTexts.none_read}
+use Rattle.yaml_read.{proofs.NodeTexts.read_or_then, proofs.Words.no_word, specs.RunPlaces.at_event}
 use Rattle.yaml_read.proofs.steps.read_event.Goals as goal
 
 pub returns-in-Another-clause-reads : goal.returns-in-Another-clause-reads

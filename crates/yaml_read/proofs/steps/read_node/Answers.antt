@@ -1,9 +1,8 @@
 use Rattle.yaml_read.proofs.Common.{[], ◌∷◌, ◌++◌, Option, map, ap, sym, ◌∙◌, append_assoc, encode_utf8_all, map-append, seen_event, await_opened}
 use Rattle.yaml_read.proofs.Common.{bytes_behind, open_behind_opening, trail_behind_opening, seen_awaits, NoOpening, opening_text, Await}
-use Rattle.yaml_read.proofs.NodeTexts.{absent_then, read_or_then, whole_absent}
-use Rattle.yaml_read.{specs.EventReads.NoNode}
-use Rattle.yaml_read.proofs.{EventSteps.behind_encoded, EventSteps.node_read, EventSteps.trail_ends, EventPlaces.node_placed}
-use Rattle.yaml_read.proofs.{Words.no_word}
+use Rattle.yaml_read.{proofs.NodeTexts.absent_then, proofs.NodeTexts.read_or_then, proofs.NodeTexts.whole_absent, specs.EventReads.NoNode}
+use Rattle.yaml_read.{proofs.EventSteps.behind_encoded, proofs.EventSteps.node_read, proofs.EventSteps.trail_ends, proofs.EventPlaces.node_placed}
+use Rattle.yaml_read.{proofs.Words.no_word}
 use Rattle.yaml_read.proofs.steps.read_node.Goals as goal
 
 pub returns-in-Ok-push-clause-reads : goal.returns-in-Ok-push-clause-reads

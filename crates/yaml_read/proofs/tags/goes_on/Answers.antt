@@ -1,5 +1,4 @@
-use Rattle.yaml_read.proofs.Common.{not, ap, ◌∙◌}
-use Rattle.yaml_read.proofs.TagTexts.{goes_on_behind, goes_on_never}
+use Rattle.yaml_read.proofs.{Common.not, Common.ap, Common.◌∙◌, TagTexts.goes_on_behind, TagTexts.goes_on_never}
 use Rattle.yaml_read.proofs.tags.goes_on.Goals as goal
 
 pub returns-in-Some : goal.returns-in-Some

@@ -1,5 +1,4 @@
-use Rattle.yaml_read.proofs.Common.{◌≤◌, length, Utf8, shadow}
-use Rattle.yaml_read.proofs.TagPrefixes.{WordSoFar}
+use Rattle.yaml_read.proofs.{Common.◌≤◌, Common.length, Common.Utf8, Common.shadow, TagPrefixes.WordSoFar}
 use Rattle.yaml_read.proofs.tags.read_escaped.Given as goal
 
 abbrev pub invariant-bytes : goal.invariant-bytes
