@@ -1,9 +1,8 @@
 -- Up to the place of an error the bytes begin a canonical text.
 use Rattle.yaml_read.proofs.Common.{ℕ, ◌-◌, ◌+◌, ◌*◌, ◌<◌, List, [], ◌∷◌, ◌++◌, refl, ◌≡◌, ap, subst, sym, ◌∙◌, append_assoc, arith, codes, flat_map-append}
-use Rattle.yaml_read.proofs.Common.{length, line_feed, encode_utf8_all, Text, TypedValue, most_nested}
-use Rattle.yaml_read.proofs.Common.{line_at, value_text, take-append_seam, length-append, encodes-append, take, OpenLevel, Completes, column_in}
-use Rattle.yaml_read.proofs.Common.{item_follows, list_ends, map_ends, pair_follows, text_ends, behind_value, opened_text, CanBeReadAt, node, HasRead}
-use Rattle.yaml_read.proofs.Common.{IsOpen, BreaksOff, value_follows}
+use Rattle.yaml_read.proofs.Common.{length, line_feed, encode_utf8_all, Text, TypedValue, most_nested, line_at, value_text, take-append_seam, length-append}
+use Rattle.yaml_read.proofs.Common.{encodes-append, take, OpenLevel, Completes, column_in, item_follows, list_ends, map_ends, pair_follows, text_ends}
+use Rattle.yaml_read.proofs.Common.{behind_value, opened_text, CanBeReadAt, node, HasRead, IsOpen, BreaksOff, value_follows}
 use Rattle.yaml_read.proofs.Opening.{item_on, item_out, key_on, pair_on, pair_out, value_in, value_out}
 use Rattle.yaml_read.{proofs.Turns.comma_deeper, proofs.Turns.comma_line, proofs.Turns.key_line, proofs.WordSteps.node_words, proofs.WordsBehind.closing}
 use Rattle.yaml_read.{proofs.WordsBehind.behind_words, proofs.WordTexts.flat, proofs.Encoded.word_encoded, specs.TextsAndWords.BeginsValue}

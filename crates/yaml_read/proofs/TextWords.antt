@@ -4,13 +4,12 @@ use Rattle.yaml_read.proofs.Common.{append-nil, append_assoc, codes, flat_map, l
 use Rattle.yaml_read.proofs.Common.{character_text, Text, TypedValue, TypedValues, TypedPairs, null_value, bool_value, int_value, text_value, list_value}
 use Rattle.yaml_read.proofs.Common.{map_value, bool_text, most_nested, no_value_pairs, no_values, value_pairs_and, values_and, quote, in_quotes, line_at}
 use Rattle.yaml_read.proofs.Common.{value_text, ℤ, ◌^◌, encodes-append, signed_decimal, mag, behind_tag, behind_value, characters, these_or_those, entry_end}
-use Rattle.yaml_read.proofs.Common.{integer, levels_then, line_then, node, nothing, quoted_text, truth, word_then, OpenLevel, items_open}
-use Rattle.yaml_read.proofs.Common.{Completes, IsDue, column_in, item_follows, list_ends, map_ends, pair_follows, text_ends, value_follows, tag_word}
-use Rattle.yaml_read.proofs.Common.{CanBeReadAt, Kind, arith}
+use Rattle.yaml_read.proofs.Common.{integer, levels_then, line_then, node, nothing, quoted_text, truth, word_then, OpenLevel, items_open, Completes, IsDue}
+use Rattle.yaml_read.proofs.Common.{column_in, item_follows, list_ends, map_ends, pair_follows, text_ends, value_follows, tag_word, CanBeReadAt, Kind, arith}
 use Rattle.yaml_read.proofs.HeadTexts.{list_tail, map_tail, value_bytes, value_tail, value_word}
-use Rattle.yaml_read.proofs.Turns.{column_is, comma_deeper, comma_line, key_line}
-use Rattle.yaml_read.{specs.Remaining.IsRead, specs.TextsAndWords.BeginsWith}
-use Rattle.yaml_read.proofs.{Breaking.level_first, Encoded.line_encoded, Encoded.word_encoded, Remaining.items_behind, Remaining.pairs_behind}
+use Rattle.yaml_read.{proofs.Turns.column_is, proofs.Turns.comma_deeper, proofs.Turns.comma_line, proofs.Turns.key_line, specs.Remaining.IsRead}
+use Rattle.yaml_read.{specs.TextsAndWords.BeginsWith, proofs.Breaking.level_first, proofs.Encoded.line_encoded, proofs.Encoded.word_encoded}
+use Rattle.yaml_read.{proofs.Remaining.items_behind, proofs.Remaining.pairs_behind}
 use Rattle.yaml_read.specs.declared.heads.Kind.TheVariants as kind
 
 -- ---- words one after another
