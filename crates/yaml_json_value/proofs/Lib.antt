@@ -4,3 +4,5 @@ pub mod Running
 pub mod Steps
 pub mod Taking
 pub mod Checked
+pub mod Untyping
+pub mod SeenRests
