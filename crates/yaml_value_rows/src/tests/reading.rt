@@ -2,6 +2,7 @@
 mod callers;
 mod documents;
 mod json;
+mod json_texts;
 mod keys;
 mod places;
 mod random;
