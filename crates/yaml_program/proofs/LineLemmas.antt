@@ -1,5 +1,6 @@
 -- First lines, and texts that begin with the same lines.
-use Rattle.std.proofs.Common.{ℕ, suc, zero, ◌+◌, add-one, ◌<◌, ◌==◌, eqb-true, Bool, true, false, List, [], ◌∷◌, ◌++◌, ◌≡◌, ◌⊎◌, inl, inr, refl, ap, sym, ◌∙◌, subst, append_assoc, length, take, codes, arith, if◌then◌else◌, length-append}
+use Rattle.std.proofs.Common.{ℕ, suc, zero, ◌+◌, add-one, ◌<◌, ◌==◌, eqb-true, Bool, true, false, List, [], ◌∷◌, ◌++◌, ◌≡◌, ◌⊎◌, inl, inr, refl, ap}
+use Rattle.std.proofs.Common.{sym, ◌∙◌, subst, append_assoc, length, take, codes, arith, if◌then◌else◌, length-append}
 use Rattle.std.proofs.lemmas.List.Sums.{sum_by-append}
 use Rattle.memchr.specs.Find.{Nowhere, Passes, is_byte}
 use Rattle.yaml_base.proofs.DocumentsUnfold.{count_cons}

@@ -1,6 +1,4 @@
 use Rattle.std.proofs.Common.{List, ℕ, ap, sym, subst, ◌∙◌, ◌≡◌, IfSome, Option}
-use Rattle.std.specs.Fmt.InlineText.{inline_text}
-use Rattle.yaml_base.specs.Quoting.{quoted_text}
 use Rattle.yaml_program.{specs.Messages.IsDifferenceLine, specs.Messages.difference_words, specs.Messages.message_line, proofs.Parts.tells}
 use Rattle.yaml_program.proofs.checking.tell_difference.Goals as goal
 

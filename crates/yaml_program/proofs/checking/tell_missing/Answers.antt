@@ -1,4 +1,4 @@
-use Rattle.std.{proofs.Common.[], proofs.Common.codes, specs.Fmt.InlineText.inline_text}
+use Rattle.std.{proofs.Common.[], proofs.Common.codes}
 use Rattle.yaml_program.{specs.Messages.IsNameLine, proofs.Parts.named_line, proofs.Parts.tells}
 use Rattle.yaml_program.proofs.checking.tell_missing.Goals as goal
 

@@ -1,6 +1,6 @@
-use Rattle.std.{proofs.Common.arith, proofs.Common.refl, specs.List.Any}
-use Rattle.yaml_program.specs.Conversions.{EachIsDone, EndsOtherwise, IsDoneBeside, IsUndoneBeside}
-use Rattle.yaml_program.proofs.Doing.{next_done, next_some, of_all}
+use Rattle.std.{proofs.Common.arith, proofs.Common.refl}
+use Rattle.yaml_program.specs.Conversions.{EndsOtherwise, IsDoneBeside, IsUndoneBeside}
+use Rattle.yaml_program.proofs.Doing.{next_done, next_some}
 use Rattle.yaml_program.proofs.each.convert_each.Goals as goal
 
 pub loop-name-preserved : goal.loop-name-preserved

@@ -1,5 +1,3 @@
-use Rattle.std.proofs.Common.{ap, ◌∙◌}
-use Rattle.yaml_writer.specs.Writing.{awaits_node}
 use Rattle.yaml_program.proofs.streams.begin_next.Goals as goal
 
 pub returns-in-Ok-clause-begun : goal.returns-in-Ok-clause-begun

@@ -1,5 +1,5 @@
 use Rattle.std.proofs.lemmas.Result.{on_ok_weaker}
-use Rattle.yaml_program.proofs.{FilesInTurn.named_sent, FilesInTurn.stream_sent, Refusals.other_refused, Refusals.refusal_weaker, Refusals.stream_refused}
+use Rattle.yaml_program.proofs.{FilesInTurn.named_sent, FilesInTurn.stream_sent, Refusals.other_refused, Refusals.refusal_weaker}
 use Rattle.yaml_program.proofs.streams.send_documents.Goals as goal
 
 pub returns-in-Ok-clause-sent : goal.returns-in-Ok-clause-sent
