@@ -6,7 +6,7 @@ _json2yaml() {
         --heading|--indent|--width|--depth|--encoding|--line-break|--limit) COMPREPLY=(); return ;;
     esac
     case $word in
-        -*) mapfile -t COMPREPLY < <(compgen -W '--output --each --heading --indent --width --depth --encoding --line-break --limit --check --flow --canonical --no-portable --no-document-start --no-indented-sequences --no-literal-blanks --no-unicode --double-quotes --allow-duplicates --help --version' -- "$word") ;;
+        -*) mapfile -t COMPREPLY < <(compgen -W '--output --each --heading --indent --width --depth --encoding --line-break --limit --check --flow --canonical --no-portable --no-document-start --no-indented-sequences --no-literal-blanks --no-unicode --double-quotes --allow-duplicates --deterministic --help --version' -- "$word") ;;
         *) mapfile -t COMPREPLY < <(compgen -f -X '!*.json' -- "$word"; compgen -d -- "$word") ;;
     esac
 }

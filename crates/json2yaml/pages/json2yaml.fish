@@ -19,5 +19,6 @@ complete -c json2yaml -l no-literal-blanks -d 'Quotes a text of several lines if
 complete -c json2yaml -l no-unicode -d 'Writes ASCII alone'
 complete -c json2yaml -l double-quotes -d 'Writes texts that must be quoted in double quotes, not in single ones'
 complete -c json2yaml -l allow-duplicates -d 'Lets a name come several times in one object, which is refused otherwise'
+complete -c json2yaml -l deterministic -d 'Writes the canonical bytes of the value of one text, as UTF-8'
 complete -c json2yaml -s h -l help -d 'Print help (see a summary with \'-h\')'
 complete -c json2yaml -s V -l version -d 'Print version'

@@ -20,6 +20,7 @@ _arguments \
     '--no-unicode[Writes ASCII alone]' \
     '--double-quotes[Writes texts that must be quoted in double quotes, not in single ones]' \
     '--allow-duplicates[Lets a name come several times in one object, which is refused otherwise]' \
+    '--deterministic[Writes the canonical bytes of the value of one text, as UTF-8]' \
     '(-h --help)'{-h,--help}'[Print help (see a summary with '\''-h'\'')]' \
     '(-V --version)'{-V,--version}'[Print version]' \
     '*:FILE:_files -g "*.json"'

@@ -1,3 +1,4 @@
+mod CanonicalTexts
 mod Files
 mod Parts
 mod Refusals

@@ -1,5 +1,5 @@
 -- Texts with their values, and the events of these.
-use Rattle.std.{proofs.lemmas.List.Elements.All-head, proofs.lemmas.List.Elements.All-tail, specs.List.All, specs.Str.IsUtf8}
+use Rattle.std.{proofs.lemmas.List.Elements.All-head, proofs.lemmas.List.Elements.All-tail, specs.List.All}
 use Rattle.std.proofs.Common.{ℕ, Option, Some, List, [], ◌∷◌, ◌++◌, map, Bool, ◌≡◌, refl, ap, sym, ◌∙◌, append-nil, append_assoc, unwrap_or}
 use Rattle.yaml_base.proofs.Common.{Event}
 use Rattle.json.specs.{Json.Json, Json.value, Lex.tokens, Token.Token}
@@ -37,9 +37,10 @@ pub names_once : (unique : Bool) (before : List (List ℕ)) (next : List ℕ) (l
 names_once unique [] next later names = names.0
 names_once unique (text ∷ before) next later names = names_once unique before next later names.1
 
-pub file_utf8 : (front : List (List ℕ)) (file : List ℕ) (later : List (List ℕ)) → All IsUtf8 (front ++ file ∷ later) → IsUtf8 file
-file_utf8 [] file later all = All-head IsUtf8 file later all
-file_utf8 (one ∷ front) file later all = file_utf8 front file later (All-tail IsUtf8 one (front ++ file ∷ later) all)
+-- What holds of each of some holds of one of them.
+pub all_at : {X : Type 0} (P : X → Type 0) (front : List X) (one : X) (later : List X) → All P (front ++ one ∷ later) → P one
+all_at P [] one later all = All-head P one later all
+all_at P (first ∷ front) one later all = all_at P front one later (All-tail P first (front ++ one ∷ later) all)
 
 -- ---- their events
 

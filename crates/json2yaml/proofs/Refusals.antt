@@ -19,7 +19,7 @@ use Rattle.yaml_program.specs.Streams.{BeganDocument, RefusesDocument, RefusesEn
 use Rattle.yaml_program.proofs.Refusals.{events_given, never_fails, never_unended}
 use Rattle.json2yaml.specs.{Conversions.IsYamlOfJsonFiles, Conversions.RefusedJsonFile, Conversions.SentJsonFile, Statuses.json_status}
 use Rattle.json2yaml.proofs.{Files.SentJsonFiles, Files.all_sent, Files.both_json, Texts.text_utf8}
-use Rattle.json2yaml.proofs.Parts.{file_utf8, first_same, names_once, next_begins, parts_begin, regroup, same_parts, with_between}
+use Rattle.json2yaml.proofs.Parts.{all_at, first_same, names_once, next_begins, parts_begin, regroup, same_parts, with_between}
 use Rattle.yaml_json.specs.declared.error.JsonError.TheVariants as errors
 use Rattle.yaml_json.specs.declared.error.StreamError.TheVariants as faults
 
@@ -178,7 +178,7 @@ module _ (settings : JsonSettings) (files : List (List ℕ)) (bytes : List ℕ) 
 
     utf8 : IsUtf8 refused.stops.next
     utf8 =
-        text_utf8 file (file_utf8 front file later (subst (All IsUtf8) (sym are) whole.utf8)) (map (λ part. part.0) refused.stops.parts)
+        text_utf8 file (all_at IsUtf8 front file later (subst (All IsUtf8) (sym are) whole.utf8)) (map (λ part. part.0) refused.stops.parts)
         refused.stops.next refused.stops.later refused.stops.cut
 
     set : now.emitter.given ≡ seen_settings settings.values.emitter
@@ -245,7 +245,8 @@ module _ (settings : JsonSettings) (files : List (List ℕ)) (bytes : List ℕ) 
         let begins : ((opening ++ events_of some) ++ between) ++ (events_of (one ∷ rest) ++ closing) ≡ all =
         ap (λ (events : List Event). opening ++ events) (sym (append_assoc (events_of some ++ between) (events_of (one ∷ rest)) closing)
         ∙ ap (λ (events : List Event). events ++ closing)
-        (ap (λ (events : List Event). events ++ events_of (one ∷ rest)) (with_between settings.values.emitter.canonical settings.values.flow sent.first sent.rest)
+        (ap (λ (events : List Event). events ++ events_of (one ∷ rest))
+        (with_between settings.values.emitter.canonical settings.values.flow sent.first sent.rest)
         ∙ parts_begin settings.values.emitter.canonical settings.values.flow some one rest ∙ ap events_of same)) in
         never_fails _ _ _ whole.stream ((opening ++ events_of some) ++ between) (events_of (one ∷ rest) ++ closing) now.emitter refuses.error
         (emits.set.given ∙ sent.wrote.emits.given ∙ new.settings) (emits.set.events ∙ ap (λ (first : List Event). first ++ between) events) promised begins
@@ -307,5 +308,6 @@ module _ (settings : JsonSettings) (files : List (List ℕ)) (before after : Opt
   by_why (inr (sent, end)) = end_refused settings files bytes whole refuses.first refuses.is_new refuses.last before after (all_sent _ _ _ _ _ _ sent) end
 
 pub refused_none : (settings : JsonSettings) (files : List (List ℕ)) (before after : Option (List ℕ))
-    → RefusesStream (SentJsonFile settings) (RefusedJsonFile settings) settings.values.emitter files before after → HaveNoYaml (IsYamlOfJsonFiles settings) files
+    → RefusesStream (SentJsonFile settings) (RefusedJsonFile settings) settings.values.emitter files before after
+    → HaveNoYaml (IsYamlOfJsonFiles settings) files
 refused_none settings files before after refuses (bytes, whole) = by_why settings files before after refuses bytes whole refuses.why

@@ -1,8 +1,9 @@
 //! JSON, as the format of the program.
 ghost use Rattle.std.specs.Prelude.{codes};
-ghost use Rattle.json2yaml.specs.Conversions.{AreJsonSettings, IsYamlOfJsonFiles};
+ghost use Rattle.json2yaml.specs.Conversions.{IsJsonFormat, IsOutputOfJsonFiles};
 ghost use Rattle.yaml_program.specs.Bounds.{is_allowed};
 
+use crate::deterministic::{keys_by, send_canonical};
 use crate::words;
 use clap::ArgMatches;
 use std::io::Write;
@@ -13,12 +14,14 @@ use yaml_program::{Failure, Format, Sources, Wording, send_stream, value_setting
 #[derive(Clone, Copy)]
 pub struct JsonFormat {
     pub settings: JsonSettings,
+    /// The canonical bytes of one text are written, and no setting counts but that for names.
+    pub deterministic: bool,
 }
 
 impl Format for JsonFormat {
-    ghost is_yaml = { λ format. IsYamlOfJsonFiles format.settings };
+    ghost is_yaml = { λ format. IsOutputOfJsonFiles format.deterministic format.settings };
 
-    ghost is_asked_by = { λ matches format. AreJsonSettings matches format.settings };
+    ghost is_asked_by = { IsJsonFormat };
 
     ghost allows_depth = { λ format. is_allowed format.settings.values };
 
@@ -33,7 +36,10 @@ impl Format for JsonFormat {
             values: value_settings_of(matches),
             unique_names: !matches.get_flag("allow-duplicates"),
         };
-        JsonFormat { settings }
+        JsonFormat {
+            settings,
+            deterministic: matches.get_flag("deterministic"),
+        }
     }
 
     fn ending(&self) -> &'static str {
@@ -50,6 +56,9 @@ impl Format for JsonFormat {
         names: &[&'a str],
         sink: &mut W,
     ) -> Result<(), (Option<&'a str>, Failure)> {
+        if self.deterministic {
+            return send_canonical(keys_by(&self.settings), sources, names, sink);
+        }
         send_stream(self, self.settings.values.emitter, sources, names, sink)
     }
 }

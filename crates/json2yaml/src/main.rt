@@ -1,6 +1,7 @@
 //! The program: JSON texts, from files or from standard input, as YAML.
 #![tactic(auto)]
 
+mod deterministic;
 mod failures;
 mod formats;
 mod sending;

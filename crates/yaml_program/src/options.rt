@@ -22,8 +22,8 @@ const LIMIT_HELP: &str = "The most bytes that a stream may have [default: no lim
 
 const HEADING_HELP: &str = "Writes a text as comments before all else";
 
-/// The options without a value, each with a line of help and a longer text. The arguments are the program's name, the ending of its files,
-/// the format's word for collections, and the calls that give or take canonical bytes.
+/// The options without a value, each with a line of help, a longer text, and the options that it refuses. The arguments are the program's
+/// name, the ending of its files, the format's word for collections, and the calls that give or take canonical bytes.
 #[macro_export]
 macro_rules! flags {
     ($program:literal, $ending:literal, $collections:literal, $canonical_calls:literal) => { &[
@@ -32,13 +32,16 @@ macro_rules! flags {
         "Writes nothing; status 1 if --output or --each would change a file",
         concat!(
         "Writes nothing, and compares what would be written by --output or by --each with what is there. If a file differs, a \
-        message shows the first line that does; if it is missing, a message names it. The status is then 1.{n}Example: ", $program, " --check --output=out.yaml in", $ending),
+        message shows the first line that does; if it is missing, a message names it. The status is then 1.\
+        {n}Example: ", $program, " --check --output=out.yaml in", $ending),
+        &[],
     ),
     (
         "flow",
         concat!("Writes ", $collections, " between brackets, as in JSON"),
         concat!(
         "Writes ", $collections, " between brackets, as in JSON, and not a line for each item.{n}Example: ", $program, " --flow in", $ending),
+        &[],
     ),
     (
         "canonical",
@@ -47,6 +50,7 @@ macro_rules! flags {
         "Writes in canonical mode: brackets, double quotes, and a tag for each scalar but texts. Texts and ", $collections, " have no tag, so \
         these aren't the canonical bytes of a typed value, in which each node has its own: those are what ", $canonical_calls,
         ".{n}Example: ", $program, " --canonical in", $ending),
+        &[],
     ),
     (
         "no-portable",
@@ -55,15 +59,17 @@ macro_rules! flags {
         "Turns portable mode off: no --- before the first document unless one is needed, and U+2028 and U+2029 as themselves. A root text that \
         begins with a blank or a line break may then be a block whose header has a digit, which readers count in two ways.\
         {n}Example: ", $program, " --no-portable in", $ending),
+        &[],
     ),
     (
         "no-document-start",
         "No --- before the first document, unless --canonical is given",
         concat!(
-        "Writes no --- before the first document unless --canonical is given, and turns portable mode off, but for one rule: U+2028 and U+2029 are escaped. A root text \
-        that begins with a blank or a line break may be a block whose header has a digit, which readers count in two ways; portable mode \
+        "Writes no --- before the first document unless --canonical is given, and turns portable mode off, but for one rule: U+2028 and U+2029 are \
+        escaped. A root text that begins with a blank or a line break may be a block whose header has a digit, which readers count in two ways; portable mode \
         writes it in quotes.\
         {n}Example: ", $program, " --no-document-start in", $ending),
+        &[],
     ),
     (
         "no-indented-sequences",
@@ -71,6 +77,7 @@ macro_rules! flags {
         concat!(
         "Leaves the items of a list in the column of the name that the list belongs to, as libyaml does, and doesn't indent them.\
         {n}Example: ", $program, " --no-indented-sequences in", $ending),
+        &[],
     ),
     (
         "no-literal-blanks",
@@ -78,6 +85,7 @@ macro_rules! flags {
         concat!(
         "Quotes a text of several lines if it has a tab, or a space at the end of a line, as libyaml does, and writes it no block.\
         {n}Example: ", $program, " --no-literal-blanks in", $ending),
+        &[],
     ),
     (
         "no-unicode",
@@ -85,12 +93,14 @@ macro_rules! flags {
         concat!(
         "Writes ASCII alone: a text with characters beyond ASCII is in double quotes, with an escape for each of them.\
         {n}Example: ", $program, " --no-unicode in", $ending),
+        &[],
     ),
     (
         "double-quotes",
         "Double quotes in place of single ones",
         concat!(
         "Writes texts that must be quoted in double quotes, not in single ones.{n}Example: ", $program, " --double-quotes in", $ending),
+        &[],
     ),
 ]
     };
@@ -215,14 +225,20 @@ fn argument_of<'a>(
     }
 }
 
-/// Adds options without a value.
+/// Adds options without a value, each with the options that it refuses.
 fn push_flags<'a>(
     alloc: Global,
-    flags: &[(&'static str, &'static str, &'static str)],
+    flags: &[(
+        &'static str,
+        &'static str,
+        &'static str,
+        &'static [&'static str],
+    )],
     arguments: &mut Vec<Arg<'a>>,
 ) -> Result<(), AllocError> {
-    for (name, help, long_help) in flags {
-        arguments.push(flag(alloc, name, help, long_help))?;
+    for (name, help, long_help, refused) in flags {
+        let option = flag(alloc, name, help, long_help);
+        arguments.push(option.conflicts_with_all(refused)?)?;
     }
     Ok(())
 }

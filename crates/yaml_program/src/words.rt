@@ -21,10 +21,20 @@ pub struct Wording {
     pub each_long: &'static str,
     pub depth: &'static str,
     pub depth_long: &'static str,
-    /// The options without a value.
-    pub flags: &'static [(&'static str, &'static str, &'static str)],
-    /// The options without a value that only this program has.
-    pub own_flags: &'static [(&'static str, &'static str, &'static str)],
+    /// The options without a value, each with the options that it refuses.
+    pub flags: &'static [(
+        &'static str,
+        &'static str,
+        &'static str,
+        &'static [&'static str],
+    )],
+    /// Those that only this program has.
+    pub own_flags: &'static [(
+        &'static str,
+        &'static str,
+        &'static str,
+        &'static [&'static str],
+    )],
 }
 
 /// Makes the wording of a program. The arguments are its name, its format, the ending of its files, the format's word for collections, the
