@@ -1,24 +1,9 @@
 /* Lines of comments, and documents of nodes on a kept emitter: the status of each call, and the output, which is written here by the rules of
  * docs/GUIDE.md. Prints a line for each call that isn't as written here. */
-#include <stdio.h>
-#include <string.h>
-
-#include "yaml_c.h"
+#include "arena.h"
+#include "calls.h"
 
 #define COUNT(array) (sizeof(array) / sizeof *(array))
-
-static int failures;
-static int calls;
-
-static struct yaml_c_result result;
-
-/* Takes the status of a call, which must be this one, with this length and error and nothing else in the result. */
-static void gives(const char *name, int32_t got, int32_t status, size_t length, uint32_t error) {
-    calls++;
-    if (got == status && result.length == length && result.error == error && result.event == 0 && result.line == 0 && result.column == 0) return;
-    failures++;
-    printf("%s: status %d, length %lu, error %lu\n", name, (int)got, (unsigned long)result.length, (unsigned long)result.error);
-}
 
 /* ---- lines of comments */
 
@@ -57,19 +42,8 @@ static void headings(void) {
 static struct yaml_c_emitter kept;
 static struct yaml_c_emitter *emitter = &kept;
 static struct yaml_c_settings settings;
-static uint8_t texts[256];
-static size_t texts_len;
 static struct yaml_c_node nodes[8];
 static size_t count;
-
-static struct yaml_c_span place(const char *text) {
-    struct yaml_c_span span;
-    span.start = texts_len;
-    span.length = strlen(text);
-    memcpy(texts + texts_len, text, span.length);
-    texts_len += span.length;
-    return span;
-}
 
 static void begin(void) {
     memset(nodes, 0, sizeof nodes);
@@ -291,6 +265,5 @@ int main(void) {
     documents();
     bad();
     refused();
-    printf("%d calls, %d not as written\n", calls, failures);
-    return failures != 0;
+    return ended();
 }

@@ -1,29 +1,15 @@
 /* Emitters that are kept from call to call: the results of each call, its output, and the emitter after an error. Prints a line for each
  * call that isn't as written here. */
-#include <stdio.h>
-#include <string.h>
-
-#include "yaml_c.h"
-
-static int failures;
-static int calls;
+#include "calls.h"
 
 static struct yaml_c_emitter kept[2];
 static struct yaml_c_emitter *emitter = &kept[0];
 static struct yaml_c_settings settings;
 static struct yaml_c_directive directives[2];
-static struct yaml_c_result result;
-
-static void check(const char *name, int32_t got, int32_t status, size_t length, uint32_t error) {
-    calls++;
-    if (got == status && result.length == length && result.error == error && result.event == 0 && result.line == 0 && result.column == 0) return;
-    failures++;
-    printf("%s: status %d, length %lu, error %lu\n", name, (int)got, (unsigned long)result.length, (unsigned long)result.error);
-}
 
 static void make(const char *name, int32_t status) {
     memset(&result, 0, sizeof result);
-    check(name, yaml_c_emitter_new(&settings, emitter), status, 0, 0);
+    gives(name, yaml_c_emitter_new(&settings, emitter), status, 0, 0);
 }
 
 /* Gives an event whose value is this text. */
@@ -34,7 +20,7 @@ static void give(uint32_t kind, const char *text, int32_t status, uint32_t error
     event.kind = kind;
     event.implicit = event.quoted_implicit = 1;
     event.value.length = strlen(text);
-    check(text, yaml_c_emitter_emit(emitter, &event, directives, 0, (const uint8_t *)text, event.value.length, &result), status, 0, error);
+    gives(text, yaml_c_emitter_emit(emitter, &event, directives, 0, (const uint8_t *)text, event.value.length, &result), status, 0, error);
 }
 
 static void begin(void) {
@@ -49,7 +35,7 @@ static void take(const char *name, size_t capacity, const char *bytes) {
     size_t i, length = strlen(bytes), written = length <= capacity ? length : 0;
     memset(out, 0xa5, sizeof out);
     memset(&result, 0xff, sizeof result);
-    check(name, yaml_c_emitter_take_output(emitter, out, capacity, &result), length <= capacity ? YAML_C_DONE : YAML_C_TOO_SMALL, length, 0);
+    gives(name, yaml_c_emitter_take_output(emitter, out, capacity, &result), length <= capacity ? YAML_C_DONE : YAML_C_TOO_SMALL, length, 0);
     for (i = written; i < sizeof out && out[i] == 0xa5; i++) {}
     if (i == sizeof out && memcmp(out, bytes, written) == 0) return;
     failures++;
@@ -58,7 +44,7 @@ static void take(const char *name, size_t capacity, const char *bytes) {
 
 static void flush(int32_t status, uint32_t error) {
     memset(&result, 0xff, sizeof result);
-    check("a flush", yaml_c_emitter_flush(emitter, &result), status, 0, error);
+    gives("a flush", yaml_c_emitter_flush(emitter, &result), status, 0, error);
 }
 
 static void written(void) {
@@ -103,10 +89,10 @@ static void named(void) {
     city.value.length = 4;
     make("a new emitter", YAML_C_DONE);
     give(YAML_C_STREAM_START, "", YAML_C_DONE, 0);
-    check("a start", yaml_c_emitter_emit(emitter, &start, directives, 1, (const uint8_t *)texts, sizeof texts - 1, &result), YAML_C_DONE, 0, 0);
-    check("a city", yaml_c_emitter_emit(emitter, &city, directives, 0, (const uint8_t *)texts, sizeof texts - 1, &result), YAML_C_DONE, 0, 0);
+    gives("a start", yaml_c_emitter_emit(emitter, &start, directives, 1, (const uint8_t *)texts, sizeof texts - 1, &result), YAML_C_DONE, 0, 0);
+    gives("a city", yaml_c_emitter_emit(emitter, &city, directives, 0, (const uint8_t *)texts, sizeof texts - 1, &result), YAML_C_DONE, 0, 0);
     city.value.length = 5;
-    check("a text past the arena", yaml_c_emitter_emit(emitter, &city, directives, 0, (const uint8_t *)texts, sizeof texts - 1, &result),
+    gives("a text past the arena", yaml_c_emitter_emit(emitter, &city, directives, 0, (const uint8_t *)texts, sizeof texts - 1, &result),
           YAML_C_BAD_EVENT, 0, 0);
     give(YAML_C_DOCUMENT_END, "", YAML_C_DONE, 0);
     take("a document", 128, "%YAML 1.1\n%TAG !e! tag:e,2000:\n--- &a1 !e!city Oslo\n");
@@ -169,7 +155,7 @@ static void typed(void) {
         event.has_tag = tags[i] != NULL;
         event.tag.length = event.value.start = strlen(texts) - strlen(values[i]);
         event.value.length = strlen(values[i]);
-        check(values[i], yaml_c_emitter_emit(emitter, &event, directives, 0, (const uint8_t *)texts, strlen(texts), &result), YAML_C_DONE, 0, 0);
+        gives(values[i], yaml_c_emitter_emit(emitter, &event, directives, 0, (const uint8_t *)texts, strlen(texts), &result), YAML_C_DONE, 0, 0);
     }
     give(YAML_C_SEQUENCE_END, "", YAML_C_DONE, 0);
     give(YAML_C_DOCUMENT_END, "", YAML_C_DONE, 0);
@@ -201,15 +187,15 @@ static void nulls(void) {
     memset(&result, 0, sizeof result);
     start.kind = YAML_C_STREAM_START;
     item.kind = YAML_C_ALIAS;
-    check("no settings", yaml_c_emitter_new(NULL, emitter), YAML_C_DONE, 0, 0);
-    check("no arrays", yaml_c_emitter_emit(emitter, &start, NULL, 0, NULL, 0, &result), YAML_C_DONE, 0, 0);
-    check("no room, and none needed", yaml_c_emitter_take_output(emitter, NULL, 0, &result), YAML_C_DONE, 0, 0);
+    gives("no settings", yaml_c_emitter_new(NULL, emitter), YAML_C_DONE, 0, 0);
+    gives("no arrays", yaml_c_emitter_emit(emitter, &start, NULL, 0, NULL, 0, &result), YAML_C_DONE, 0, 0);
+    gives("no room, and none needed", yaml_c_emitter_take_output(emitter, NULL, 0, &result), YAML_C_DONE, 0, 0);
     give(YAML_C_DOCUMENT_START, "", YAML_C_DONE, 0);
     give(YAML_C_SCALAR, "one", YAML_C_DONE, 0);
     give(YAML_C_DOCUMENT_END, "", YAML_C_DONE, 0);
-    check("no room", yaml_c_emitter_take_output(emitter, NULL, 0, &result), YAML_C_TOO_SMALL, 4, 0);
+    gives("no room", yaml_c_emitter_take_output(emitter, NULL, 0, &result), YAML_C_TOO_SMALL, 4, 0);
     item.anchor.length = 1;
-    check("a text of none", yaml_c_emitter_emit(emitter, &item, NULL, 0, NULL, 0, &result), YAML_C_BAD_EVENT, 0, 0);
+    gives("a text of none", yaml_c_emitter_emit(emitter, &item, NULL, 0, NULL, 0, &result), YAML_C_BAD_EVENT, 0, 0);
     take("what didn't fit", 4, "one\n");
     yaml_c_emitter_delete(emitter);
 }
@@ -269,6 +255,5 @@ int main(void) {
     set();
     two();
     nulls();
-    printf("%d calls, %d not as written\n", calls, failures);
-    return failures != 0;
+    return ended();
 }

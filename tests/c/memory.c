@@ -352,6 +352,22 @@ static void refuse_each_of_texts(void) {
 
 /* ---- values */
 
+/* Frees an emitter after calls of which the last had this status. Either the emitter failed for want of memory, and `more` tells it again, or
+ * its output is this. Returns whether it failed. */
+static int has_failed(const char *name, struct yaml_c_emitter *kept, int32_t status, int32_t (*more)(struct yaml_c_emitter *), const char *yaml) {
+    int failed = status == YAML_C_NO_MEMORY && result.error == YAML_C_EMITTER_NO_MEMORY;
+    size_t length = strlen(yaml);
+    if (failed) {
+        if (more(kept) != YAML_C_NO_MEMORY || result.error != YAML_C_EMITTER_NO_MEMORY) fail(name, "more is taken");
+    } else if (status != YAML_C_DONE) {
+        fail(name, "another status");
+    } else if (yaml_c_emitter_take_output(kept, out, sizeof out, &result) != YAML_C_DONE || result.length != length || memcmp(out, yaml, length) != 0) {
+        fail(name, "other YAML");
+    }
+    yaml_c_emitter_delete(kept);
+    return failed;
+}
+
 /* Makes the call of this number, of those that write a mapping. */
 static int32_t give_value(struct yaml_c_emitter *kept, int number) {
     memset(&result, 0xff, sizeof result);
@@ -365,6 +381,8 @@ static int32_t give_value(struct yaml_c_emitter *kept, int number) {
     default: return yaml_c_emitter_finish(kept, &result);
     }
 }
+
+static int32_t give_name(struct yaml_c_emitter *kept) { return give_value(kept, 1); }
 
 /* Refuses each growth of these calls in turn. Without an error a call is made again, and the YAML is whole; with one the emitter has failed. */
 static void refuse_each_of_values(void) {
@@ -383,16 +401,7 @@ static void refuse_each_of_values(void) {
                 again++;
                 status = give_value(&kept, number);
             }
-            if (status == YAML_C_NO_MEMORY && result.error == YAML_C_EMITTER_NO_MEMORY) {
-                failed++;
-                if (give_value(&kept, 1) != YAML_C_NO_MEMORY || result.error != YAML_C_EMITTER_NO_MEMORY) fail("values", "another is taken");
-            } else if (status != YAML_C_DONE) {
-                fail("values", "another status");
-            } else if (yaml_c_emitter_take_output(&kept, out, sizeof out, &result) != YAML_C_DONE || result.length != sizeof yaml - 1
-                       || memcmp(out, yaml, sizeof yaml - 1) != 0) {
-                fail("values", "other YAML");
-            }
-            yaml_c_emitter_delete(&kept);
+            failed += has_failed("values", &kept, status, give_name, yaml);
         }
         if (blocks != 0) fail("values", "a block is left");
         if (growths < refused_at) break;
@@ -436,16 +445,7 @@ static void refuse_each_of_nodes(void) {
                 status = give_nodes(&kept);
             }
             if (status == YAML_C_DONE) status = yaml_c_emitter_finish(&kept, &result);
-            if (status == YAML_C_NO_MEMORY && result.error == YAML_C_EMITTER_NO_MEMORY) {
-                failed++;
-                if (give_nodes(&kept) != YAML_C_NO_MEMORY || result.error != YAML_C_EMITTER_NO_MEMORY) fail("nodes", "others are taken");
-            } else if (status != YAML_C_DONE) {
-                fail("nodes", "another status");
-            } else if (yaml_c_emitter_take_output(&kept, out, sizeof out, &result) != YAML_C_DONE || result.length != sizeof yaml - 1
-                       || memcmp(out, yaml, sizeof yaml - 1) != 0) {
-                fail("nodes", "other YAML");
-            }
-            yaml_c_emitter_delete(&kept);
+            failed += has_failed("nodes", &kept, status, give_nodes, yaml);
         }
         if (blocks != 0) fail("nodes", "a block is left");
         if (growths < refused_at) break;

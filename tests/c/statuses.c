@@ -4,29 +4,18 @@
 #include <stdlib.h>
 #include <string.h>
 
-#include "yaml_c.h"
+#include "arena.h"
 
 #define COUNT(array) (sizeof(array) / sizeof *(array))
 
 static int failures;
 static int calls;
 
-static uint8_t texts[64];
-static size_t texts_len;
 static struct yaml_c_directive directives[4];
 static struct yaml_c_event events[12];
 static struct yaml_c_settings settings;
 static uint8_t out[256];
 static struct yaml_c_result result;
-
-static struct yaml_c_span place(const char *text) {
-    struct yaml_c_span span;
-    span.start = texts_len;
-    span.length = strlen(text);
-    memcpy(texts + texts_len, text, span.length);
-    texts_len += span.length;
-    return span;
-}
 
 /* A stream of one document with one scalar: its version, a directive, an anchor, a tag and a value. */
 static void begin(void) {

@@ -1,40 +1,26 @@
 /* Documents that are written value by value on a kept emitter: the status of each call, and the output, which is written here by the rules of
  * docs/GUIDE.md, "Values". Prints a line for each call that isn't as written here. */
 #include <math.h>
-#include <stdio.h>
-#include <string.h>
 
-#include "yaml_c.h"
-
-static int failures;
-static int calls;
+#include "calls.h"
 
 static struct yaml_c_emitter kept;
 static struct yaml_c_emitter *emitter = &kept;
 static struct yaml_c_settings settings;
-static struct yaml_c_result result;
-
-/* Takes the status of a call, which must be this one, with this error and nothing else in the result. */
-static void gives(const char *name, int32_t got, int32_t status, uint32_t error) {
-    calls++;
-    if (got == status && result.error == error && result.length == 0 && result.event == 0 && result.line == 0 && result.column == 0) return;
-    failures++;
-    printf("%s: status %d, error %lu\n", name, (int)got, (unsigned long)result.error);
-}
 
 /* Before each call the result holds other bytes than those that the call writes. */
 static void done(const char *name, int32_t got) {
-    gives(name, got, YAML_C_DONE, 0);
+    gives(name, got, YAML_C_DONE, 0, 0);
     memset(&result, 0xff, sizeof result);
 }
 
 static void misplaced(const char *name, int32_t got) {
-    gives(name, got, YAML_C_MISPLACED, 0);
+    gives(name, got, YAML_C_MISPLACED, 0, 0);
     memset(&result, 0xff, sizeof result);
 }
 
 static void unreadable(const char *name, int32_t got) {
-    gives(name, got, YAML_C_BAD_EVENT, 0);
+    gives(name, got, YAML_C_BAD_EVENT, 0, 0);
     memset(&result, 0xff, sizeof result);
 }
 
@@ -228,10 +214,10 @@ static void failing(void) {
     settings.limit = 6;
     make();
     text("one");
-    gives("the limit", yaml_c_emitter_finish(emitter, &result), YAML_C_REFUSED, YAML_C_PAST_LIMIT);
-    gives("a text after the limit", yaml_c_emitter_string(emitter, "a", &result), YAML_C_REFUSED, YAML_C_PAST_LIMIT);
-    gives("an end after the limit", yaml_c_emitter_end(emitter, &result), YAML_C_REFUSED, YAML_C_PAST_LIMIT);
-    gives("a mapping after the limit", yaml_c_emitter_begin_mapping(emitter, 0, &result), YAML_C_REFUSED, YAML_C_PAST_LIMIT);
+    gives("the limit", yaml_c_emitter_finish(emitter, &result), YAML_C_REFUSED, 0, YAML_C_PAST_LIMIT);
+    gives("a text after the limit", yaml_c_emitter_string(emitter, "a", &result), YAML_C_REFUSED, 0, YAML_C_PAST_LIMIT);
+    gives("an end after the limit", yaml_c_emitter_end(emitter, &result), YAML_C_REFUSED, 0, YAML_C_PAST_LIMIT);
+    gives("a mapping after the limit", yaml_c_emitter_begin_mapping(emitter, 0, &result), YAML_C_REFUSED, 0, YAML_C_PAST_LIMIT);
     written("--- on");
     settings.limit = 0;
 }
@@ -264,6 +250,5 @@ int main(void) {
     mixed();
     failing();
     plain();
-    printf("%d calls, %d not as written\n", calls, failures);
-    return failures != 0;
+    return ended();
 }
